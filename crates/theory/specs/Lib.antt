@@ -1,0 +1,15 @@
+pub mod Kind
+pub mod Deciding
+pub mod Settings
+pub mod Functions
+pub mod Diagrams
+pub mod Comparing
+pub mod Rests
+pub mod Tally
+pub mod WellFormed
+pub mod Build
+pub mod Walk
+pub mod Copying
+pub mod Operations
+pub mod Rules
+pub mod Costs
