@@ -15,7 +15,8 @@ use Rattle.theory.specs.Diagrams.{Branch, Node, Target, at, base, blank,
 use Rattle.theory.specs.WellFormed.{Mean, Under, WF}
 use Rattle.theory.specs.Build.{Built, build, each, make}
 use Rattle.theory.specs.Copying.{Copies, Half, Lists, Twin, counted, marked}
-use Rattle.theory.proofs.Lists.{pos-drop, zeros-valid}
+use Rattle.theory.proofs.Lists.{pos-drop}
+use Rattle.theory.proofs.Ranges.{zeros-valid}
 use Rattle.theory.proofs.Offsets.{Level, level-node}
 use Rattle.theory.proofs.Growing.{build-cons, each-last, parts-snoc}
 use Rattle.theory.proofs.WellFormed.{at-more, length-snoc, under-weaken, wf-empty}

@@ -1,4 +1,7 @@
 pub mod Lists
+pub mod Ranges
+pub mod Order
+pub mod Rank
 pub mod Offsets
 pub mod Growing
 pub mod WellFormed

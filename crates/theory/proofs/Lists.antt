@@ -8,7 +8,7 @@ use native.Mathlib.Numerals.{add-one}
 use native.Mathlib.Omega.{arith}
 use lib.ListN.{length, getD, drop, length-drop}
 use lib.Seq.{getD-drop, drop-drop}
-use Rattle.theory.specs.Settings.{Pos, Valid, zeros}
+use Rattle.theory.specs.Settings.{Pos}
 
 pub getD-map-in {ℓ} : {A B : Type ℓ} (f : A → B) (d : A) (e : B) (l : List A) (i : ℕ) → i < length l → getD (map f l) i e ≡ f (getD l i d)
 getD-map-in f d e [] i h = absurd (not-suc-le-zero h)
@@ -27,10 +27,6 @@ drop-head S k n ns e =
       ap (λ (i : ℕ). getD S i 0) (sym (add-zero k)) ∙ sym (getD-drop k S 0 0) ∙ ap (λ (r : List ℕ). getD r 0 0) e,
       ap (λ (i : ℕ). drop i S) (sym (add-one k)) ∙ sym (drop-drop 1 k S) ∙ ap (drop 1) e,
     )
-
-pub zeros-valid : (ns : List ℕ) → Pos ns → Valid ns (zeros ns)
-zeros-valid [] p = tt
-zeros-valid (n ∷ ns) p = (p .0, zeros-valid ns (p .1))
 
 pub pigeons : (n m : ℕ) (f : ℕ → ℕ) → ((i : ℕ) → i < m → f i < n) → ((i j : ℕ) → i < m → j < m → f i ≡ f j → i ≡ j) → m ≤ n
 pigeons n zero f into one = omega arith

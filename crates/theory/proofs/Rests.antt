@@ -17,7 +17,8 @@ use Rattle.theory.specs.Rests.{Equal, Free, Rest, Seen, no-rest, norm}
 use Rattle.theory.specs.Tally.{add, flat, free?, gather, own, rests, seen?, tally}
 use Rattle.theory.specs.WellFormed.{Mean, WF}
 use Rattle.theory.specs.Build.{Built, Ext, below, build, decide, each, make}
-use Rattle.theory.proofs.Lists.{drop-head, getD-map-in, zeros-valid}
+use Rattle.theory.proofs.Lists.{drop-head, getD-map-in}
+use Rattle.theory.proofs.Ranges.{zeros-valid}
 use Rattle.theory.proofs.Offsets.{lift-redo, lift-undo, node-of-up}
 use Rattle.theory.proofs.Growing.{build-cons, build-nil}
 use Rattle.theory.proofs.WellFormed.{at-more, length-snoc, wf-empty}

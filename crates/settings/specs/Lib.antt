@@ -1,0 +1,5 @@
+pub mod Tells
+pub mod Refusals
+pub mod Step
+pub mod Visit
+pub mod Odometer
