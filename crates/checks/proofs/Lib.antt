@@ -1,0 +1,3 @@
+pub mod Summing
+pub mod Framing
+pub mod Chaining

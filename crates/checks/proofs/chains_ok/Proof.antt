@@ -1,0 +1,109 @@
+-- `checks::chains_ok` meets its contract: the nodes passed are chained and alone, and the list holds the ends of their chains. Assumes nothing.
+use Rattle.checks.proofs.Chaining.{Chaining, chaining-none, linked-more, link-is, chaining-more, chaining-all, chained-heads}
+use Rattle.settings.proofs.Answers.{granted, denied, retell}
+use Rattle.words.specs.Words.{count}
+use lib.ListN.{getD-replicate}
+use native.Mathlib.Omega.{arith}
+use Prim.Native.Nat.{ℕ, _-_, _≤_}
+use mathlib.Core.Path.{_≡_, subst, _∙_}
+use borrow.Author.Needs.{needs}
+use Rattle.checks.proofs.chains_ok.Statement.{statement}
+use Rattle.checks.proofs.chains_ok.Tie as tie
+
+abbrev Inv-loop : tie.InvT-loop
+Inv-loop t n last₀ i₀ last i = (n ≡ count t) × (i ≤ n) × Chaining t i last
+
+abbrev μ-loop : tie.MeasureT-loop
+μ-loop t n last₀ i₀ last i = n - i
+
+head-word-requires : tie.Need-head-word-requires Inv-loop μ-loop
+head-word-requires c κs = omega (arith, (c .before) .pre .room)
+
+wide-requires : tie.Need-wide-requires Inv-loop μ-loop
+wide-requires c κs = search needs
+
+loop-holds : tie.Need-loop-holds Inv-loop μ-loop
+loop-holds c = (omega arith, omega arith, chaining-none _ _ (search needs) (λ h g. getD-replicate 4096 h 0 0 g))
+
+hash-at-requires : tie.Need-hash-at-requires Inv-loop μ-loop
+hash-at-requires c κs = search needs
+
+record-word-requires : tie.Need-record-word-requires Inv-loop μ-loop
+record-word-requires c κs = search needs
+
+mul-if1 : tie.Need-mul-if1 Inv-loop μ-loop
+mul-if1 c = search needs
+
+array-read-if1 : tie.Need-array-read-if1 Inv-loop μ-loop
+array-read-if1 c = omega (arith, (c .before .before .before .loop) .inv .2 .sized, (c .before .hash-at) .ensures)
+
+returns : tie.Need-returns Inv-loop μ-loop
+returns c = let l = (c .before .before .before .before .loop) in let g = (c .before .before .hash-at) .ensures in λ z. (c .if1) .taken ((c .before .record-word) .ensures ∙ link-is _ _ _ _ (l .inv .2) (g .0) (g .1) (z .linked .links (l .i) (omega arith)))
+
+alone-requires : tie.Need-alone-requires Inv-loop μ-loop
+alone-requires c κs = let g = (c .before .before .hash-at) .ensures in ((c .before .before .before .before .before .before .before .before) .pre, omega arith, linked-more _ _ _ _ _ ((c .before .before .before .before .loop) .inv .2) (g .0) (g .1) ((c .before .record-word) .ensures) ((c .if1) .left))
+
+returns-2 : tie.Need-returns-2 Inv-loop μ-loop
+returns-2 c = λ z. denied ((c .before .alone) .result) ((c .if2) .taken) ((c .before .alone) .ensures) (z .single ((c .before .before .before .before .before .before .loop) .i) (omega arith))
+
+add-narrow : tie.Need-add-narrow Inv-loop μ-loop
+add-narrow c = search needs
+
+narrow-requires : tie.Need-narrow-requires Inv-loop μ-loop
+narrow-requires c κs = search needs
+
+mul-last : tie.Need-mul-last Inv-loop μ-loop
+mul-last c = search needs
+
+array-write-last : tie.Need-array-write-last Inv-loop μ-loop
+array-write-last c = omega (arith, (c .before .before .before .before .before .before .before .loop) .inv .2 .sized, (c .before .before .before .before .before .hash-at) .ensures)
+
+add-i : tie.Need-add-i Inv-loop μ-loop
+add-i c = search needs
+
+loop-less : tie.Need-loop-less Inv-loop μ-loop
+loop-less c = search needs
+
+loop-again : tie.Need-loop-again Inv-loop μ-loop
+loop-again c = let l = (c .before .before .before .before .before .before .before .loop) in let g = (c .before .before .before .before .before .hash-at) .ensures in (
+  l .inv .0,
+  omega arith,
+  chaining-more _ _ _ _ _ (l .inv .2) (linked-more _ _ _ _ _ (l .inv .2) (g .0) (g .1) ((c .before .before .before .before .record-word) .ensures) ((c .before .before .before .if1) .left))
+      (granted ((c .before .before .alone) .result) ((c .before .if2) .left) ((c .before .before .alone) .ensures)) (g .0) (g .1) ((c .narrow) .ensures),
+)
+
+slice-aggregate-heads-ok : tie.Need-slice-aggregate-heads-ok Inv-loop μ-loop
+slice-aggregate-heads-ok c = search needs
+
+heads-ok-requires : tie.Need-heads-ok-requires Inv-loop μ-loop
+heads-ok-requires c κs = (omega (arith, (c .before .before .before .before .before .before) .pre .room), (c .before .before .loop) .inv .2 .sized)
+
+returns-3 : tie.Need-returns-3 Inv-loop μ-loop
+returns-3 c = let l = (c .before .before .before .loop) in let w = (c .before .before .before .before .before .before .before) .args .t .now in let n : l .i ≡ count w = omega arith in let q = subst (λ (x : ℕ). Chaining w x (l .last)) n (l .inv .2) in retell ((c .heads-ok) .result) (chaining-all w (l .last) q) (chained-heads w (l .last) q) ((c .heads-ok) .ensures)
+
+pub chains-ok-spec : {M : Type 1} → statement M
+chains-ok-spec =
+    tie.close
+    (tie.spec
+    Inv-loop
+    μ-loop
+    head-word-requires
+    wide-requires
+    loop-holds
+    hash-at-requires
+    record-word-requires
+    mul-if1
+    array-read-if1
+    returns
+    alone-requires
+    returns-2
+    add-narrow
+    narrow-requires
+    mul-last
+    array-write-last
+    add-i
+    loop-less
+    loop-again
+    slice-aggregate-heads-ok
+    heads-ok-requires
+    returns-3)

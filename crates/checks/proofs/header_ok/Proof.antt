@@ -1,0 +1,121 @@
+-- `checks::header_ok` meets its contract: each test is one field of the record. Assumes nothing.
+use Rattle.checks.proofs.Framing.{front}
+use Rattle.settings.proofs.Answers.{granted, denied, retell}
+use native.Mathlib.Omega.{arith}
+use borrow.Author.Needs.{needs}
+use Rattle.checks.proofs.header_ok.Statement.{statement}
+use Rattle.checks.proofs.header_ok.Tie as tie
+
+front-ok-requires : tie.Need-front-ok-requires
+front-ok-requires c κs = search needs
+
+returns : tie.Need-returns
+returns c = λ z. denied ((c .before .front-ok) .result) ((c .if1) .taken) ((c .before .front-ok) .ensures) (front z)
+
+sizes-ok-requires : tie.Need-sizes-ok-requires
+sizes-ok-requires c κs = let f = granted ((c .before .front-ok) .result) ((c .if1) .left) ((c .before .front-ok) .ensures) in (omega (arith, f .room), f .few)
+
+returns-2 : tie.Need-returns-2
+returns-2 c = λ z. denied ((c .before .sizes-ok) .result) ((c .if2) .taken) ((c .before .sizes-ok) .ensures) (z .fit)
+
+head-word-requires : tie.Need-head-word-requires
+head-word-requires c κs = let f = granted ((c .before .before .before .front-ok) .result) ((c .before .before .if1) .left) ((c .before .before .before .front-ok) .ensures) in omega (arith, f .room)
+
+wide-requires : tie.Need-wide-requires
+wide-requires c κs = search needs
+
+add-zeros : tie.Need-add-zeros
+add-zeros c = search needs
+
+zeros-requires : tie.Need-zeros-requires
+zeros-requires c κs = let f = granted ((c .before .before .before .before .before .front-ok) .result) ((c .before .before .before .before .if1) .left) ((c .before .before .before .before .before .front-ok) .ensures) in (omega (arith, f .room), omega arith)
+
+returns-3 : tie.Need-returns-3
+returns-3 c = λ z. denied ((c .before .zeros) .result) ((c .if3) .taken) ((c .before .zeros) .ensures) (record { zeros = λ j h g. z .past .zeros j (omega arith) g })
+
+zeros-requires-2 : tie.Need-zeros-requires-2
+zeros-requires-2 c κs = let f = granted ((c .before .before .before .before .before .before .before .front-ok) .result) ((c .before .before .before .before .before .before .if1) .left) ((c .before .before .before .before .before .before .before .front-ok) .ensures) in (omega (arith, f .room), omega arith)
+
+returns-4 : tie.Need-returns-4
+returns-4 c = λ z. denied ((c .before .zeros2) .result) ((c .if4) .taken) ((c .before .zeros2) .ensures) (z .shares)
+
+zeros-requires-3 : tie.Need-zeros-requires-3
+zeros-requires-3 c κs = let f = granted ((c .before .before .before .before .before .before .before .before .before .front-ok) .result) ((c .before .before .before .before .before .before .before .before .if1) .left) ((c .before .before .before .before .before .before .before .before .before .front-ok) .ensures) in (omega (arith, f .room), omega arith)
+
+returns-5 : tie.Need-returns-5
+returns-5 c = λ z. denied ((c .before .zeros3) .result) ((c .if5) .taken) ((c .before .zeros3) .ensures) (z .middle)
+
+head-word-requires-2 : tie.Need-head-word-requires-2
+head-word-requires-2 c κs = let f = granted ((c .before .before .before .before .before .before .before .before .before .before .before .front-ok) .result) ((c .before .before .before .before .before .before .before .before .before .before .if1) .left) ((c .before .before .before .before .before .before .before .before .before .before .before .front-ok) .ensures) in omega (arith, f .room)
+
+wide-requires-2 : tie.Need-wide-requires-2
+wide-requires-2 c κs = search needs
+
+head-word-requires-3 : tie.Need-head-word-requires-3
+head-word-requires-3 c κs = let f = granted ((c .before .before .before .before .before .before .before .before .before .before .before .before .before .front-ok) .result) ((c .before .before .before .before .before .before .before .before .before .before .before .before .if1) .left) ((c .before .before .before .before .before .before .before .before .before .before .before .before .before .front-ok) .ensures) in omega (arith, f .room)
+
+wide-requires-3 : tie.Need-wide-requires-3
+wide-requires-3 c κs = search needs
+
+mul-zeros : tie.Need-mul-zeros
+mul-zeros c = search needs
+
+add-zeros-2 : tie.Need-add-zeros-2
+add-zeros-2 c = search needs
+
+mul-zeros-2 : tie.Need-mul-zeros-2
+mul-zeros-2 c = search needs
+
+add-zeros-3 : tie.Need-add-zeros-3
+add-zeros-3 c = search needs
+
+zeros-requires-4 : tie.Need-zeros-requires-4
+zeros-requires-4 c κs = let f = granted ((c .before .before .before .before .before .before .before .before .before .before .before .before .before .before .before .front-ok) .result) ((c .before .before .before .before .before .before .before .before .before .before .before .before .before .before .if1) .left) ((c .before .before .before .before .before .before .before .before .before .before .before .before .before .before .before .front-ok) .ensures) in (omega (arith, f .room), omega (arith, f .most))
+
+returns-6 : tie.Need-returns-6
+returns-6 c = let f = granted ((c .before .before .before .before .before .before .before .before .before .before .before .before .before .before .before .before .front-ok) .result) ((c .before .before .before .before .before .before .before .before .before .before .before .before .before .before .before .if1) .left) ((c .before .before .before .before .before .before .before .before .before .before .before .before .before .before .before .before .front-ok) .ensures) in retell ((c .zeros4) .result)
+    (λ q.
+    record {
+      kind = f .kind;
+      some = f .some;
+      most = f .most;
+      room = f .room;
+      one = f .one;
+      few = f .few;
+      within = f .within;
+      fit = granted ((c .before .before .before .before .before .before .before .before .before .before .before .before .before .before .sizes-ok) .result) ((c .before .before .before .before .before .before .before .before .before .before .before .before .before .if2) .left) ((c .before .before .before .before .before .before .before .before .before .before .before .before .before .before .sizes-ok) .ensures);
+      past = record { zeros = λ j h g. granted ((c .before .before .before .before .before .before .before .before .before .before .zeros) .result) ((c .before .before .before .before .before .before .before .before .before .if3) .left) ((c .before .before .before .before .before .before .before .before .before .before .zeros) .ensures) .zeros j (omega arith) g };
+      shares = granted ((c .before .before .before .before .before .before .before .before .zeros2) .result) ((c .before .before .before .before .before .before .before .if4) .left) ((c .before .before .before .before .before .before .before .before .zeros2) .ensures);
+      middle = granted ((c .before .before .before .before .before .before .zeros3) .result) ((c .before .before .before .before .before .if5) .left) ((c .before .before .before .before .before .before .zeros3) .ensures);
+      clean = record { zeros = λ j h g. q .zeros j (omega arith) (omega arith) };
+    })
+    (λ z. record { zeros = λ j h g. z .clean .zeros j (omega arith) (omega arith) })
+    ((c .zeros4) .ensures)
+
+pub header-ok-spec : {M : Type 1} → statement M
+header-ok-spec =
+    tie.close
+    (tie.spec
+    front-ok-requires
+    returns
+    sizes-ok-requires
+    returns-2
+    head-word-requires
+    wide-requires
+    add-zeros
+    zeros-requires
+    returns-3
+    zeros-requires-2
+    returns-4
+    zeros-requires-3
+    returns-5
+    head-word-requires-2
+    wide-requires-2
+    head-word-requires-3
+    wide-requires-3
+    mul-zeros
+    add-zeros-2
+    mul-zeros-2
+    add-zeros-3
+    zeros-requires-4
+    returns-6)

@@ -1,0 +1,77 @@
+-- `checks::same` meets its contract: the body words passed are equal. Assumes nothing.
+use Rattle.words.specs.Words.{body}
+use borrow.Author.Count.{below-more}
+use native.Mathlib.Omega.{arith}
+use Prim.Native.Nat.{ℕ, _-_, _≤_, _<_}
+use mathlib.Core.Path.{_≡_, sym, _∙_}
+use borrow.Author.Needs.{needs}
+use Rattle.checks.proofs.same.Statement.{statement}
+use Rattle.checks.proofs.same.Tie as tie
+
+abbrev Inv-loop : tie.InvT-loop
+Inv-loop t i j v₀ v = (v ≤ 12) × ((x : ℕ) → x < v → body t i x ≡ body t j x)
+
+abbrev μ-loop : tie.MeasureT-loop
+μ-loop t i j v₀ v = 12 - v
+
+record-word-requires : tie.Need-record-word-requires Inv-loop μ-loop
+record-word-requires c κs = search needs
+
+record-word-requires-2 : tie.Need-record-word-requires-2 Inv-loop μ-loop
+record-word-requires-2 c κs = search needs
+
+returns : tie.Need-returns Inv-loop μ-loop
+returns c = λ z. (c .if1) .taken ((c .before .before .record-word) .ensures ∙ z .feature ∙ sym ((c .before .record-word2) .ensures))
+
+loop-holds : tie.Need-loop-holds Inv-loop μ-loop
+loop-holds c = (omega arith, λ x h. absurd (omega arith))
+
+add-record-word : tie.Need-add-record-word Inv-loop μ-loop
+add-record-word c = search needs
+
+record-word-requires-3 : tie.Need-record-word-requires-3 Inv-loop μ-loop
+record-word-requires-3 c κs = search needs
+
+add-record-word-2 : tie.Need-add-record-word-2 Inv-loop μ-loop
+add-record-word-2 c = search needs
+
+record-word-requires-4 : tie.Need-record-word-requires-4 Inv-loop μ-loop
+record-word-requires-4 c κs = search needs
+
+returns-2 : tie.Need-returns-2 Inv-loop μ-loop
+returns-2 c = λ z. (c .if2) .taken ((c .before .before .record-word3) .ensures ∙ z .each ((c .before .before .before .before .loop) .v) (omega arith) ∙ sym ((c .before .record-word4) .ensures))
+
+add-v : tie.Need-add-v Inv-loop μ-loop
+add-v c = search needs
+
+loop-less : tie.Need-loop-less Inv-loop μ-loop
+loop-less c = search needs
+
+loop-again : tie.Need-loop-again Inv-loop μ-loop
+loop-again c = let l = (c .before .before .before .before .loop) in let a = (c .before .before .before .before .before .before .before .before .before) .args in (
+  omega arith,
+  below-more (λ x. body (a .t .now) (a .i) x ≡ body (a .t .now) (a .j) x) (l .v) (l .inv .1) (sym ((c .before .before .record-word3) .ensures) ∙ (c .if2) .left ∙ (c .before .record-word4) .ensures),
+)
+
+returns-3 : tie.Need-returns-3 Inv-loop μ-loop
+returns-3 c = record { feature = sym ((c .before .before .before .before .record-word) .ensures) ∙ (c .before .before .if1) .left ∙ (c .before .before .before .record-word2) .ensures; each = λ x h. (c .before .loop) .inv .1 x (omega arith) }
+
+pub same-spec : {M : Type 1} → statement M
+same-spec =
+    tie.close
+    (tie.spec
+    Inv-loop
+    μ-loop
+    record-word-requires
+    record-word-requires-2
+    returns
+    loop-holds
+    add-record-word
+    record-word-requires-3
+    add-record-word-2
+    record-word-requires-4
+    returns-2
+    add-v
+    loop-less
+    loop-again
+    returns-3)

@@ -1,0 +1,70 @@
+-- `checks::sizes_ok` meets its contract: each size passed is from 2 to 8. Assumes nothing.
+use Rattle.words.specs.Words.{features, size}
+use borrow.Author.Count.{below-more}
+use native.Mathlib.Omega.{arith}
+use Prim.Native.Nat.{ℕ, _-_, _≤_, _<_}
+use mathlib.Core.Path.{_≡_}
+use borrow.Author.Needs.{needs}
+use Rattle.checks.proofs.sizes_ok.Statement.{statement}
+use Rattle.checks.proofs.sizes_ok.Tie as tie
+
+abbrev Inv-loop : tie.InvT-loop
+Inv-loop t n k₀ k = (n ≡ features t) × (k ≤ n) × ((x : ℕ) → x < k → (2 ≤ size t x) × (size t x ≤ 8))
+
+abbrev μ-loop : tie.MeasureT-loop
+μ-loop t n k₀ k = n - k
+
+head-word-requires : tie.Need-head-word-requires Inv-loop μ-loop
+head-word-requires c κs = search needs
+
+wide-requires : tie.Need-wide-requires Inv-loop μ-loop
+wide-requires c κs = search needs
+
+loop-holds : tie.Need-loop-holds Inv-loop μ-loop
+loop-holds c = (omega arith, omega arith, λ x h. absurd (omega arith))
+
+add-head-word : tie.Need-add-head-word Inv-loop μ-loop
+add-head-word c = search needs
+
+head-word-requires-2 : tie.Need-head-word-requires-2 Inv-loop μ-loop
+head-word-requires-2 c κs = search needs
+
+returns : tie.Need-returns Inv-loop μ-loop
+returns c = λ z. let g = z .large ((c .before .before .before .loop) .k) (omega arith) in omega (arith, (c .before .head-word2) .ensures)
+
+returns-2 : tie.Need-returns-2 Inv-loop μ-loop
+returns-2 c = λ z. let g = z .large ((c .before .before .before .before .loop) .k) (omega arith) in omega (arith, (c .before .before .head-word2) .ensures)
+
+add-k : tie.Need-add-k Inv-loop μ-loop
+add-k c = search needs
+
+loop-less : tie.Need-loop-less Inv-loop μ-loop
+loop-less c = search needs
+
+loop-again : tie.Need-loop-again Inv-loop μ-loop
+loop-again c = let l = (c .before .before .before .before .loop) in let w = (c .before .before .before .before .before .before .before .before) .args .t .now in (
+  l .inv .0,
+  omega arith,
+  below-more (λ x. (2 ≤ size w x) × (size w x ≤ 8)) (l .k) (l .inv .2) (omega (arith, (c .before .before .head-word2) .ensures), omega (arith, (c .before .before .head-word2) .ensures)),
+)
+
+returns-3 : tie.Need-returns-3 Inv-loop μ-loop
+returns-3 c = let l = (c .before .loop) in record { large = λ x h. l .inv .2 x (omega arith) }
+
+pub sizes-ok-spec : {M : Type 1} → statement M
+sizes-ok-spec =
+    tie.close
+    (tie.spec
+    Inv-loop
+    μ-loop
+    head-word-requires
+    wide-requires
+    loop-holds
+    add-head-word
+    head-word-requires-2
+    returns
+    returns-2
+    add-k
+    loop-less
+    loop-again
+    returns-3)

@@ -1,0 +1,172 @@
+// The part of the soundness test that every kind of table shares: the header, the words that are 0, the chains.
+ghost use mathlib.Core.Path.{_≡_};
+ghost use Prim.Native.Nat.{_+_, _≤_, _<_};
+ghost use lib.ListN.{length};
+ghost use Rattle.words.specs.Words.{features, count, Zeros};
+ghost use Rattle.settings.specs.Tells.{Tells};
+ghost use Rattle.checks.specs.Header.{Sizes, Front, Header};
+ghost use Rattle.checks.specs.Chained.{Framed, Same, Alone, Linked, Headed, Chained};
+use words::hash_at;
+use words::head_word;
+use words::narrow;
+use words::record_word;
+use words::wide;
+
+// Whether the words from a to b are 0: they are exactly if their sum is. No early exit, so that the loop can be vectorised.
+pub fn zeros(t: &[u32], a: usize, b: usize) -> bool
+    requires { ⌜ (b ≤ length (now t)) × (b ≤ 4294967296) ⌝ }
+    ensures { λ r. ⌜ Tells r (Zeros (now (t .entry)) a b) ⌝ }
+{
+    let mut sum: u64 = 0;
+    let mut j = a;
+    while j < b {
+        sum += t[j] as u64;
+        j += 1;
+    }
+    sum == 0
+}
+
+// Whether each size is from 2 to 8.
+pub fn sizes_ok(t: &[u32]) -> bool
+    requires { ⌜ (19 ≤ length (now t)) × (features (now t) ≤ 16) ⌝ }
+    ensures { λ r. ⌜ Tells r (Sizes (now (t .entry))) ⌝ }
+{
+    let n = wide(head_word(t, 2));
+    let mut k: usize = 0;
+    while k < n {
+        let s = head_word(t, 3 + k);
+        if s < 2 {
+            return false;
+        }
+        if 8 < s {
+            return false;
+        }
+        k += 1;
+    }
+    true
+}
+
+// Whether the header's numbers are those of a table of this kind.
+pub fn front_ok(t: &[u32], kind: u32) -> bool
+    ensures { λ r. ⌜ Tells r (Front kind (now (t .entry))) ⌝ }
+{
+    if t.len() < 8192 {
+        return false;
+    }
+    if head_word(t, 0) != kind {
+        return false;
+    }
+    let cap = wide(head_word(t, 1));
+    if cap < 1 {
+        return false;
+    }
+    if 4096 < cap {
+        return false;
+    }
+    if t.len() < 8192 + 32 * cap {
+        return false;
+    }
+    let n = wide(head_word(t, 2));
+    if n < 1 {
+        return false;
+    }
+    if 16 < n {
+        return false;
+    }
+    wide(head_word(t, 19)) <= cap
+}
+
+// Whether the header, and the words that no root, chain or node uses, are those of a table of this kind. It reads any slice.
+pub fn header_ok(t: &[u32], kind: u32) -> bool
+    ensures { λ r. ⌜ Tells r (Header kind (now (t .entry))) ⌝ }
+{
+    if !front_ok(t, kind) {
+        return false;
+    }
+    if !sizes_ok(t) {
+        return false;
+    }
+    if !zeros(t, 3 + wide(head_word(t, 2)), 19) {
+        return false;
+    }
+    if !zeros(t, 20, 32) {
+        return false;
+    }
+    if !zeros(t, 64, 4096) {
+        return false;
+    }
+    let m = wide(head_word(t, 19));
+    let cap = wide(head_word(t, 1));
+    zeros(t, 8192 + 16 * m, 8192 + 32 * cap)
+}
+
+// Whether nodes i and j have the same feature and body.
+pub fn same(t: &[u32], i: usize, j: usize) -> bool
+    requires { ⌜ (Framed (now t)) × (i < count (now t)) × (j < count (now t)) ⌝ }
+    ensures { λ r. ⌜ Tells r (Same (now (t .entry)) i j) ⌝ }
+{
+    if record_word(t, i, 0) != record_word(t, j, 0) {
+        return false;
+    }
+    let mut v: usize = 0;
+    while v < 12 {
+        if record_word(t, i, 1 + v) != record_word(t, j, 1 + v) {
+            return false;
+        }
+        v += 1;
+    }
+    true
+}
+
+// Whether node i has no twin before it: only nodes of its chain can be one.
+pub fn alone(t: &[u32], i: usize) -> bool
+    requires { ⌜ (Framed (now t)) × (i < count (now t)) × (Linked (now t) (i + 1)) ⌝ }
+    ensures { λ r. ⌜ Tells r (Alone (now (t .entry)) i) ⌝ }
+{
+    let mut c = wide(record_word(t, i, 13));
+    while 0 < c {
+        let j = c - 1;
+        if same(t, i, j) {
+            return false;
+        }
+        c = wide(record_word(t, j, 13));
+    }
+    true
+}
+
+// Whether the chain heads are those of the list.
+pub fn heads_ok(t: &[u32], last: &[u32]) -> bool
+    requires { ⌜ (8192 ≤ length (now t)) × (length (now last) ≡ 4096) ⌝ }
+    ensures { λ r. ⌜ Tells r (Headed (now (t .entry)) (now (last .entry))) ⌝ }
+{
+    let mut h: usize = 0;
+    while h < 4096 {
+        if head_word(t, 4096 + h) != last[h] {
+            return false;
+        }
+        h += 1;
+    }
+    true
+}
+
+// Whether the chains are those of the nodes, and no node has a twin.
+pub fn chains_ok(t: &[u32]) -> bool
+    requires { ⌜ Framed (now t) ⌝ }
+    ensures { λ r. ⌜ Tells r (Chained (now (t .entry))) ⌝ }
+{
+    let n = wide(head_word(t, 19));
+    let mut last = [0u32; 4096];
+    let mut i: usize = 0;
+    while i < n {
+        let h = hash_at(t, i);
+        if record_word(t, i, 13) != last[h] {
+            return false;
+        }
+        if !alone(t, i) {
+            return false;
+        }
+        last[h] = narrow(i + 1);
+        i += 1;
+    }
+    heads_ok(t, &last)
+}

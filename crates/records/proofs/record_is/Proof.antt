@@ -1,0 +1,75 @@
+-- `records::record_is` meets its contract: in the loop the first v words of the body are the list's. Assumes nothing.
+use Rattle.words.specs.Words.{body}
+use borrow.Author.Count.{below-more}
+use lib.ListN.{getD}
+use native.Mathlib.Omega.{arith}
+use Prim.Native.Nat.{ℕ, _-_, _≤_, _<_}
+use mathlib.Core.Path.{_≡_, sym, _∙_}
+use borrow.Author.Needs.{needs}
+use Rattle.records.proofs.record_is.Statement.{statement}
+use Rattle.records.proofs.record_is.Tie as tie
+
+abbrev Inv-loop : tie.InvT-loop
+Inv-loop t i k list v₀ v = (v ≤ 12) × ((u : ℕ) → u < v → body t i u ≡ getD list u 0)
+
+abbrev μ-loop : tie.MeasureT-loop
+μ-loop t i k list v₀ v = 12 - v
+
+record-word-requires : tie.Need-record-word-requires Inv-loop μ-loop
+record-word-requires c κs = search needs
+
+wide-requires : tie.Need-wide-requires Inv-loop μ-loop
+wide-requires c κs = search needs
+
+returns : tie.Need-returns Inv-loop μ-loop
+returns c = λ is. (c .if1) .taken ((c .before .wide) .ensures .0 ∙ (c .before .before .record-word) .ensures ∙ is .feature)
+
+loop-holds : tie.Need-loop-holds Inv-loop μ-loop
+loop-holds c = search needs
+
+add-record-word : tie.Need-add-record-word Inv-loop μ-loop
+add-record-word c = search needs
+
+record-word-requires-2 : tie.Need-record-word-requires-2 Inv-loop μ-loop
+record-word-requires-2 c κs = search needs
+
+mul-if2 : tie.Need-mul-if2 Inv-loop μ-loop
+mul-if2 c = search needs
+
+array-read-if2 : tie.Need-array-read-if2 Inv-loop μ-loop
+array-read-if2 c = search needs
+
+returns-2 : tie.Need-returns-2 Inv-loop μ-loop
+returns-2 c = λ is. (c .if2) .taken ((c .before .record-word2) .ensures ∙ is .each ((c .before .before .before .loop) .v) (omega arith))
+
+add-v : tie.Need-add-v Inv-loop μ-loop
+add-v c = search needs
+
+loop-less : tie.Need-loop-less Inv-loop μ-loop
+loop-less c = search needs
+
+loop-again : tie.Need-loop-again Inv-loop μ-loop
+loop-again c = (search needs, below-more _ _ ((c .before .before .before .loop) .inv .1) (sym ((c .before .record-word2) .ensures) ∙ (c .if2) .left))
+
+returns-3 : tie.Need-returns-3 Inv-loop μ-loop
+returns-3 c = record { feature = sym ((c .before .before .before .wide) .ensures .0 ∙ (c .before .before .before .before .record-word) .ensures) ∙ (c .before .before .if1) .left; each = λ v h. (c .before .loop) .inv .1 v (omega arith) }
+
+pub record-is-spec : {M : Type 1} → statement M
+record-is-spec =
+    tie.close
+    (tie.spec
+    Inv-loop
+    μ-loop
+    record-word-requires
+    wide-requires
+    returns
+    loop-holds
+    add-record-word
+    record-word-requires-2
+    mul-if2
+    array-read-if2
+    returns-2
+    add-v
+    loop-less
+    loop-again
+    returns-3)

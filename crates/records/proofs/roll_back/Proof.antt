@@ -1,0 +1,59 @@
+-- `records::roll_back` meets its contract: in the loop the records from m on are taken away. Assumes nothing.
+use Rattle.records.proofs.Undoing.{roll-none, roll-more}
+use Rattle.records.specs.Changes.{Rolled}
+use Rattle.words.specs.Words.{count}
+use native.Mathlib.Omega.{arith}
+use Prim.Native.Nat.{_≤_}
+use mathlib.Core.Path.{_≡_, _∙_}
+use borrow.Author.Needs.{needs}
+use Rattle.records.proofs.roll_back.Statement.{statement}
+use Rattle.records.proofs.roll_back.Tie as tie
+
+abbrev Inv-loop : tie.InvT-loop
+Inv-loop t₀ n m₀ t m = (n ≤ m) × (Rolled t₀ t m)
+
+abbrev μ-loop : tie.MeasureT-loop
+μ-loop t₀ n m₀ t m = m
+
+head-word-requires : tie.Need-head-word-requires Inv-loop μ-loop
+head-word-requires c κs = search needs
+
+wide-requires : tie.Need-wide-requires Inv-loop μ-loop
+wide-requires c κs = search needs
+
+loop-holds : tie.Need-loop-holds Inv-loop μ-loop
+loop-holds c = let e : (c .wide) .result ≡ count ((c .before .before .before .before) .args .t .now) = (c .wide) .ensures .0 ∙ (c .before .head-word) .ensures in (omega arith, roll-none _ _ ((c .before .before .before .before) .pre .0) e)
+
+pop-requires : tie.Need-pop-requires Inv-loop μ-loop
+pop-requires c κs = search needs
+
+sub-m : tie.Need-sub-m Inv-loop μ-loop
+sub-m c = search needs
+
+loop-less : tie.Need-loop-less Inv-loop μ-loop
+loop-less c = search needs
+
+loop-again : tie.Need-loop-again Inv-loop μ-loop
+loop-again c = let l = (c .before .before .before .before .before .loop) in (omega arith, roll-more _ (l .t) _ (l .m) (l .inv .1) (omega arith) ((c .before .before .pop) .ensures))
+
+same-length : tie.Need-same-length Inv-loop μ-loop
+same-length c = search needs
+
+returns : tie.Need-returns Inv-loop μ-loop
+returns c = let l = (c .before .loop) in let e : l .m ≡ (c .before .before .before .before .before .before) .args .n = omega arith in rw e at (l .inv .1)
+
+pub roll-back-spec : {M : Type 1} → statement M
+roll-back-spec =
+    tie.close
+    (tie.spec
+    Inv-loop
+    μ-loop
+    head-word-requires
+    wide-requires
+    loop-holds
+    pop-requires
+    sub-m
+    loop-less
+    loop-again
+    same-length
+    returns)

@@ -1,0 +1,87 @@
+-- Branch words decoded, and the node list, the roots and the rules by index. Assumes nothing.
+use mathlib.Core.Path.{_≡_, sym, ap, subst, _∙_}
+use mathlib.Core.Logic.{⊎-elim}
+use mathlib.Core.List.{List}
+use Prim.Native.Nat.{ℕ, _+_, _-_, _≤_, _<_}
+use native.Mathlib.Omega.{arith}
+use borrow.Author.Tests.{lt-ltb, le-ltb}
+use lib.ListN.{length, getD, List·getD-eq-default}
+use Rattle.theory.specs.Diagrams.{at, blank, empty}
+use Rattle.theory.specs.Functions.{zero-fun}
+use Rattle.theory.specs.WellFormed.{Under}
+use Rattle.theory.specs.Rules.{Branch, Node, phrase, node}
+use Rattle.words.specs.Tab.{tab}
+use Rattle.words.specs.Words.{count, size, feature, body}
+use Rattle.words.proofs.Tab.{split, tab-ext, length-tab, getD-tab}
+use Rattle.rule_words.specs.Words.{decode, encode, branches, nodeAt, nodes, root, roots, ruleOf, rulesOf}
+
+pub decode-phrase : (x : ℕ) → x < 65536 → decode x ≡ phrase x
+unfolding decode
+decode-phrase x h = rw (lt-ltb x 65536 h)
+
+pub decode-node : (x : ℕ) → 65536 ≤ x → decode x ≡ node (x - 65536)
+unfolding decode
+decode-node x h = rw (le-ltb x 65536 h)
+
+pub decode-index : (x i : ℕ) → x ≡ 65536 + i → decode x ≡ node i
+decode-index x i e = decode-node x (omega arith) ∙ ap node (let q : x - 65536 ≡ i = omega arith in q)
+
+pub encode-decode : (x : ℕ) → encode (decode x) ≡ x
+encode-decode x = ⊎-elim
+    (λ l. ap encode (decode-phrase x l))
+    (λ l. ap encode (decode-node x l) ∙ (let e : 65536 + (x - 65536) ≡ x = omega arith in e))
+    (split x 65536)
+
+pub decode-inj : (x y : ℕ) → decode x ≡ decode y → x ≡ y
+decode-inj x y e = sym (encode-decode x) ∙ ap encode e ∙ encode-decode y
+
+-- a word whose branch lies below node m is below 65,536 + m
+pub under-word : (N : List Node) (m k x : ℕ) → Under N m k (decode x .to) → x < 65536 + m
+under-word N m k x u = ⊎-elim
+    (λ h. omega (arith, h))
+    (λ h. let q : Under N m k (node (x - 65536) .to) = subst (λ (b : Branch). Under N m k (b .to)) (decode-node x h) u in omega (arith, q .0, h))
+    (split x 65536)
+
+-- the node list
+pub length-nodes : (w : List ℕ) → length (nodes w) ≡ count w
+unfolding nodes
+length-nodes w = length-tab (nodeAt w) (count w)
+
+pub at-nodes : (w : List ℕ) (i : ℕ) → i < count w → at (nodes w) i ≡ nodeAt w i
+unfolding nodes
+at-nodes w i h = getD-tab (nodeAt w) (count w) i empty h
+
+-- branch v of node i
+pub branch-at : (w : List ℕ) (i v : ℕ) → i < count w → v < size w (feature w i) → getD (at (nodes w) i .branches) v blank ≡ decode (body w i v)
+branch-at w i v h hv =
+    ap (λ (x : Node). getD (x .branches) v blank) (at-nodes w i h) ∙ getD-tab (λ u. decode (body w i u)) (size w (feature w i)) v blank hv
+
+-- past the size a list of branches has ended
+pub branch-past : (F : ℕ → Branch) (n v : ℕ) → n ≤ v → getD (tab F n) v blank ≡ blank
+branch-past F n v h = List·getD-eq-default (tab F n) blank (omega (arith, length-tab F n))
+
+-- records with the same words hold the same node
+pub node-same : (w w′ : List ℕ) (i i′ : ℕ) → feature w′ i′ ≡ feature w i → size w′ (feature w i) ≡ size w (feature w i)
+    → ((v : ℕ) → v < size w (feature w i) → body w′ i′ v ≡ body w i v) → nodeAt w′ i′ ≡ nodeAt w i
+node-same w w′ i i′ f s b =
+    let e : branches (size w′ (feature w′ i′)) (body w′ i′) ≡ branches (size w (feature w i)) (body w i) =
+    ap (λ (k : ℕ). branches (size w′ k) (body w′ i′)) f ∙ ap (λ (m : ℕ). branches m (body w′ i′)) s
+    ∙ tab-ext (λ v. decode (body w′ i′ v)) (λ v. decode (body w i v)) (size w (feature w i)) (λ v h. ap decode (b v h)) in
+    λ j. record { feature = f j; branches = e j }
+
+-- roots and rules
+pub length-roots : (w : List ℕ) → length (roots w) ≡ 32
+unfolding roots
+length-roots w = length-tab (λ p. decode (root w p)) 32
+
+pub at-roots : (w : List ℕ) (p : ℕ) → p < 32 → getD (roots w) p blank ≡ decode (root w p)
+unfolding roots
+at-roots w p h = getD-tab (λ q. decode (root w q)) 32 p blank h
+
+pub length-rules : (w : List ℕ) → length (rulesOf w) ≡ 32
+unfolding rulesOf
+length-rules w = length-tab (ruleOf w) 32
+
+pub at-rules : (w : List ℕ) (p : ℕ) → p < 32 → getD (rulesOf w) p zero-fun ≡ ruleOf w p
+unfolding rulesOf
+at-rules w p h = getD-tab (ruleOf w) 32 p zero-fun h

@@ -1,0 +1,4 @@
+pub mod Clearing
+pub mod Writing
+pub mod Bringing
+pub mod Relinking

@@ -1,0 +1,88 @@
+-- What the stores of one copy leave. Assumes nothing.
+use mathlib.Core.Path.{_≡_, subst, _∙_}
+use mathlib.Core.Logic.{⊎-elim}
+use mathlib.Core.List.{List}
+use Prim.Native.Nat.{ℕ, suc, _+_, _-_, _*_, _/_, _%_, _≤_, _<_}
+use native.Mathlib.Omega.{arith}
+use lib.ListN.{length, getD, set, length-set}
+use lib.Seq.{getD-set-same, getD-set-other}
+use Rattle.words.specs.Words.{word, head, capacity}
+use Rattle.words.proofs.Tab.{same, split}
+use Rattle.sweep.specs.Marks.{done, mark}
+use Rattle.sweep.specs.Sweeping.{Spare, Put}
+
+-- one more of a run of stores
+pub run-more : (t l : List ℕ) (b v : ℕ) → b + v < length t
+    → ((u : ℕ) → u < v → getD t (b + u) 0 ≡ getD l u 0)
+    → (u : ℕ) → u < v + 1 → getD (set t (b + v) (getD l v 0)) (b + u) 0 ≡ getD l u 0
+run-more t l b v fits h u lt = ⊎-elim
+    (λ e. rw e (getD-set-same t (b + v) (getD l v 0) 0 fits))
+    (λ n. getD-set-other t (b + v) (b + u) (getD l v 0) 0 (omega (arith, n)) ∙ h u (omega (arith, n)))
+    (same u v)
+
+-- the feature is written at base, the list behind it, then the mark and the count
+module _ (w t l : List ℕ) (base i k x y : ℕ) (eb : base ≡ 8192 + 16 * (capacity w + done w)) (ek : k ≡ word w i 0) (ex : x ≡ suc (done w)) (ey : y ≡ suc (done w)) (s : Spare w i)
+    (len : length t ≡ length (set w base k))
+    (front : (j : ℕ) → j < base + 1 → getD t j 0 ≡ getD (set w base k) j 0)
+    (run : (u : ℕ) → u < 12 → getD t (base + 1 + u) 0 ≡ getD l u 0)
+    (rest : (j : ℕ) → base + 13 ≤ j → getD t j 0 ≡ getD (set w base k) j 0) where
+  abbrev marked : List ℕ
+  marked = set t (4096 + i) x
+
+  abbrev out : List ℕ
+  out = set marked 31 y
+
+  long : length t ≡ length w
+  long = len ∙ length-set w base k
+
+  within : base + 16 ≤ length w
+  within = omega (arith, s .room, s .free)
+
+  outside : (j : ℕ) → (j ≡ 4096 + i → ⊥) → (j ≡ 31 → ⊥) → getD out j 0 ≡ getD t j 0
+  outside j p q = getD-set-other marked 31 j y 0 q ∙ getD-set-other t (4096 + i) j x 0 p
+
+  before : (j : ℕ) → j < base → (j ≡ 4096 + i → ⊥) → (j ≡ 31 → ⊥) → getD out j 0 ≡ getD w j 0
+  before j h p q = outside j p q ∙ front j (omega arith) ∙ getD-set-other w base j k 0 (omega arith)
+
+  pub put : Put w out i l
+  unfolding word head
+  put =
+      let lw = within in
+      let lt = long in
+      let c : i < 4096 = omega (arith, s .there, s .most) in
+      record {
+        long = length-set marked 31 y ∙ length-set t (4096 + i) x ∙ long;
+        low = λ j h p q. before j (omega arith) q p;
+        more = getD-set-same marked 31 y 0 (omega (arith, length-set t (4096 + i) x)) ∙ ey;
+        noted = getD-set-other marked 31 (4096 + i) y 0 (omega arith) ∙ getD-set-same t (4096 + i) x 0 (omega arith) ∙ ex;
+        near = λ n j hn hj. before (8192 + 16 * n + j) (omega arith) (omega arith) (omega arith);
+        old = λ n j hn hj. before (8192 + 16 * (getD w 1 0 + n) + j) (omega arith) (omega arith) (omega arith);
+        feature =
+            let e : 8192 + 16 * (getD w 1 0 + getD w 31 0) + 0 ≡ base = omega arith in
+            rw e (outside base (omega arith) (omega arith) ∙ front base (omega arith) ∙ getD-set-same w base k 0 (omega arith) ∙ ek);
+        new = λ v h.
+            let e : 8192 + 16 * (getD w 1 0 + getD w 31 0) + (1 + v) ≡ base + 1 + v = omega arith in
+            rw e (outside (base + 1 + v) (omega arith) (omega arith) ∙ run v h);
+        after = λ j h. outside j (omega arith) (omega arith) ∙ rest j (omega arith) ∙ getD-set-other w base j k 0 (omega arith);
+      }
+
+-- ---- what one copy keeps
+-- the other marks
+pub put-marks : {w w′ : List ℕ} {i : ℕ} {l : List ℕ} → Put w w′ i l → (n : ℕ) → n < 4096 → (n ≡ i → ⊥) → mark w′ n ≡ mark w n
+put-marks p n h q = p .low (4096 + n) (omega arith) (omega arith) (omega (arith, q))
+
+-- every record before the new one
+pub put-records : {w w′ : List ℕ} {i : ℕ} {l : List ℕ} → Put w w′ i l → (n r : ℕ) → n < capacity w + done w → r < 16 → word w′ n r ≡ word w n r
+put-records {w} {w′} p n r h g = ⊎-elim
+    (λ a. p .near n r a g)
+    (λ a.
+    let e : capacity w + (n - capacity w) ≡ n = omega arith in
+    subst (λ (x : ℕ). word w′ x r ≡ word w x r) e (p .old (n - capacity w) r (omega arith) g))
+    (split n (capacity w))
+
+-- every word of them
+pub put-before : {w w′ : List ℕ} {i : ℕ} {l : List ℕ} → Put w w′ i l → (j : ℕ) → 8192 ≤ j → j < 8192 + 16 * (capacity w + done w) → getD w′ j 0 ≡ getD w j 0
+unfolding word
+put-before {w} {w′} p j h g =
+    let e : 8192 + 16 * ((j - 8192) / 16) + (j - 8192) % 16 ≡ j = omega arith in
+    subst (λ (x : ℕ). getD w′ x 0 ≡ getD w x 0) e (put-records p ((j - 8192) / 16) ((j - 8192) % 16) (omega arith) (omega arith))

@@ -1,0 +1,113 @@
+-- `sweep::relink` meets its contract: the links of the first i nodes and the chain heads are those of the first i nodes (Relinking). Assumes nothing.
+use Rattle.words.specs.Words.{head, count}
+use Rattle.sweep.proofs.Relinking.{Relinking, relinking-none, relinking-more, relinked}
+use lib.ListN.{length-set}
+use native.Mathlib.Omega.{arith}
+use Prim.Native.Nat.{_-_, _≤_}
+use mathlib.Core.Path.{_≡_, refl}
+use borrow.Author.Needs.{needs}
+use Rattle.sweep.proofs.relink.Statement.{statement}
+use Rattle.sweep.proofs.relink.Tie as tie
+
+abbrev Inv-loop : tie.InvT-loop
+Inv-loop t₀ n i₀ t i = (n ≡ count t₀) × (i ≤ n) × Relinking t₀ t i
+
+abbrev μ-loop : tie.MeasureT-loop
+μ-loop t₀ n i₀ t i = n - i
+
+head-word-requires : tie.Need-head-word-requires Inv-loop μ-loop
+head-word-requires c κs = omega (arith, (c .before .before) .pre .room)
+
+wide-requires : tie.Need-wide-requires Inv-loop μ-loop
+wide-requires c κs = search needs
+
+loop-holds : tie.Need-loop-holds Inv-loop μ-loop
+loop-holds c = (omega arith, omega arith, relinking-none ((c .before .before .before .before) .pre))
+
+hash-at-requires : tie.Need-hash-at-requires Inv-loop μ-loop
+hash-at-requires c κs = let p = (c .before .before .before .before .before .before .before) .pre in let l = (c .before .before .loop) in (omega (arith, p .room, p .within, l .inv .2 .long), omega (arith, p .most, p .within))
+
+add-t : tie.Need-add-t Inv-loop μ-loop
+add-t c = search needs
+
+mul-t : tie.Need-mul-t Inv-loop μ-loop
+mul-t c = search needs
+
+slice-read-t : tie.Need-slice-read-t Inv-loop μ-loop
+slice-read-t c = let p = (c .before .before .before .before .before .before .before .before .before) .pre in omega (arith, p .room, (c .before .before .before .before .loop) .inv .2 .long, (c .before .hash-at) .ensures)
+
+mul-t-2 : tie.Need-mul-t-2 Inv-loop μ-loop
+mul-t-2 c = search needs
+
+add-t-2 : tie.Need-add-t-2 Inv-loop μ-loop
+add-t-2 c = search needs
+
+add-t-3 : tie.Need-add-t-3 Inv-loop μ-loop
+add-t-3 c = search needs
+
+mul-t-3 : tie.Need-mul-t-3 Inv-loop μ-loop
+mul-t-3 c = search needs
+
+slice-write-t : tie.Need-slice-write-t Inv-loop μ-loop
+slice-write-t c = let p = (c .before .before .before .before .before .before .before .before .before) .pre in omega (arith, p .room, p .within, (c .before .before .before .before .loop) .inv .2 .long)
+
+add-narrow : tie.Need-add-narrow Inv-loop μ-loop
+add-narrow c = search needs
+
+narrow-requires : tie.Need-narrow-requires Inv-loop μ-loop
+narrow-requires c κs = let p = (c .before .before .before .before .before .before .before .before .before) .pre in omega (arith, p .most, p .within)
+
+add-t-4 : tie.Need-add-t-4 Inv-loop μ-loop
+add-t-4 c = search needs
+
+mul-t-4 : tie.Need-mul-t-4 Inv-loop μ-loop
+mul-t-4 c = search needs
+
+slice-write-t-2 : tie.Need-slice-write-t-2 Inv-loop μ-loop
+slice-write-t-2 c = let p = (c .before .before .before .before .before .before .before .before .before .before) .pre in simp length-set (omega (arith, p .room, (c .before .before .before .before .before .loop) .inv .2 .long, (c .before .before .hash-at) .ensures))
+
+add-i : tie.Need-add-i Inv-loop μ-loop
+add-i c = search needs
+
+loop-less : tie.Need-loop-less Inv-loop μ-loop
+loop-less c = search needs
+
+loop-again : tie.Need-loop-again Inv-loop μ-loop
+unfolding head
+loop-again c = let l = (c .before .before .before .before .before .loop) in let g = (c .before .before .hash-at) .ensures in
+    (l .inv .0, omega arith, relinking-more _ _ _ ((c .before .before .before .before .before .before .before .before .before .before) .pre) (l .inv .2) (omega arith) (g .0) (g .1) refl (c .narrow .ensures))
+
+same-length : tie.Need-same-length Inv-loop μ-loop
+same-length c = (c .before .loop) .inv .2 .long
+
+returns : tie.Need-returns Inv-loop μ-loop
+returns c = let l = (c .before .loop) in relinked (l .i) (omega arith) (l .inv .2)
+
+pub relink-spec : {M : Type 1} → statement M
+relink-spec =
+    tie.close
+    (tie.spec
+    Inv-loop
+    μ-loop
+    head-word-requires
+    wide-requires
+    loop-holds
+    hash-at-requires
+    add-t
+    mul-t
+    slice-read-t
+    mul-t-2
+    add-t-2
+    add-t-3
+    mul-t-3
+    slice-write-t
+    add-narrow
+    narrow-requires
+    add-t-4
+    mul-t-4
+    slice-write-t-2
+    add-i
+    loop-less
+    loop-again
+    same-length
+    returns)

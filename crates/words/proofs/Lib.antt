@@ -1,0 +1,4 @@
+pub mod Tab
+pub mod Words
+pub mod Chains
+pub mod Filling

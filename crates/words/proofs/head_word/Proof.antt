@@ -1,0 +1,18 @@
+use Rattle.words.specs.Words.{head}
+use mathlib.Core.Path.{refl}
+use borrow.Author.Needs.{needs}
+use Rattle.words.proofs.head_word.Statement.{statement}
+use Rattle.words.proofs.head_word.Tie as tie
+
+mul-result : tie.Need-mul-result
+mul-result c = search needs
+
+shared-slice-read-result : tie.Need-shared-slice-read-result
+shared-slice-read-result c = search needs
+
+returns : tie.Need-returns
+unfolding head
+returns c = refl
+
+pub head-word-spec : {M : Type 1} → statement M
+head-word-spec = tie.close (tie.spec mul-result shared-slice-read-result returns)
