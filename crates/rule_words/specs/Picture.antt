@@ -2,14 +2,14 @@
 use mathlib.Core.Path.{_≡_}
 use mathlib.Core.List.{List}
 use Prim.Native.Nat.{ℕ, _+_, _*_, _≤_, _<_}
-use lib.ListN.{length, getD}
+use lib.ListN.{length, getD, set}
 use Rattle.theory.specs.Settings.{FeatureList, Valid}
 use Rattle.theory.specs.Functions.{zero-fun}
 use Rattle.theory.specs.Diagrams.{at, blank}
 use Rattle.theory.specs.Build.{table}
 use Rattle.theory.specs.Rules.{Branch, Node, Rule}
-use Rattle.words.specs.Words.{word, kind, capacity, features, size, count, bound, feature, body, link, bucket, hashOf, lastOf, Zeros}
-use Rattle.rule_words.specs.Words.{encode, root}
+use Rattle.words.specs.Words.{word, kind, capacity, features, size, count, sizes, bound, feature, body, link, bucket, hashOf, lastOf, Zeros}
+use Rattle.rule_words.specs.Words.{encode, root, rulesOf}
 
 -- body word v of a node: its branch words, 0 past its size
 abbrev pub bodyOf : Node → ℕ → ℕ
@@ -56,3 +56,9 @@ pub record IsTable (w : List ℕ) : Type 0 where
   pub rules : List Rule
   pub proper : Proper cap sizes rules
   pub pictures : Pictures cap sizes rules w
+
+-- w′ is w with the rule of place p replaced by g: the picture of the rules so changed; the words past the table are kept
+pub record Becomes (p : ℕ) (g : Rule) (w w′ : List ℕ) : Type 0 where
+  pub long : length w′ ≡ length w
+  pub pictures : Pictures (capacity w) (sizes w) (set (rulesOf w) p g) w′
+  pub past : (j : ℕ) → bound (capacity w) ≤ j → getD w′ j 0 ≡ getD w j 0
