@@ -6,7 +6,7 @@ use Prim.Native.Nat.{ℕ, zero, suc, _+_, _-_, _≤_, _<_}
 use native.Mathlib.Numerals.{add-one}
 use native.Mathlib.Omega.{arith}
 use lib.ListN.{length, getD, take, drop}
-use lib.Seq.{take-all, drop-cons}
+use lib.Seq.{take-all, take-append-add, drop-cons}
 use Rattle.theory.proofs.Canonical.{build-agree, canonical, build-skips}
 use Rattle.theory.proofs.Growing.{ext-le, make-grows, build-grows, each-grows, build-cons, take-ext, each-append, parts-snoc, each-snoc}
 use Rattle.theory.proofs.Lifting.{make-lift}
@@ -45,6 +45,25 @@ module _ {K : Kind} {T : Layout K} (L : Lawful T) where
   -- a list that is full already decides what is held of every longer one
   pub grown-over : (w t : List ℕ) (M N : List (Node K)) → Grown T w t M → T .capacity w < length M → Ext M N → Grown T w t N
   grown-over w t M N g h e = record { kept = g .kept; well = g .well; holds = g .holds ∙ sym (take-ext (T .capacity w) e (omega arith)) }
+
+  -- the nodes of w come first in t, also where there was no room for all of N
+  pub grown-ext : (w t : List ℕ) (N : List (Node K)) → Holds T w → Grown T w t N → Ext (T .nodes w) N → Ext (T .nodes w) (T .nodes t)
+  grown-ext w t N ok g e =
+      let h : length (T .nodes w) + (T .capacity w - length (T .nodes w)) ≡ T .capacity w = omega (arith, L .within w (ok .laid)) in
+      record {
+        more = take (T .capacity w - length (T .nodes w)) (e .more);
+        ends = g .holds ∙ ap (take (T .capacity w)) (e .ends) ∙ ap (λ (c : ℕ). take c (T .nodes w ++ e .more)) (sym h)
+            ∙ take-append-add (T .nodes w) (e .more) (T .capacity w - length (T .nodes w));
+      }
+
+  pub built-ext : (w : List ℕ) (k : ℕ) (g : Fun K) → Ext (T .nodes w) (built T w k g .1)
+  unfolding built
+  built-ext w k g = build-grows k (drop k (T .sizes w)) g (T .nodes w)
+
+  pub filled-ext : (w t : List ℕ) (k : ℕ) (g : Fun K) (v : ℕ) (bs : List (Branch K)) → Holds T w → Filled T w t k g v bs → Ext (T .nodes w) (T .nodes t)
+  unfolding eachTo
+  filled-ext w t k g v bs ok f =
+      grown-ext w t _ ok (f .grown) (each-grows (build (suc k) (drop (suc k) (T .sizes w))) (build-grows (suc k) (drop (suc k) (T .sizes w))) (parts 0 v g) (T .nodes w))
 
   pub gives-eq : {w t : List ℕ} {r q : Built K} {a : Option (Branch K)} → r ≡ q → Gives T w t q a → Gives T w t r a
   gives-eq {w} {t} {r} {q} {a} e g = rw e g

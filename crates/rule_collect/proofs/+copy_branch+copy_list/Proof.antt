@@ -1,0 +1,230 @@
+-- `rule_collect::copy_branch` and `copy_list` meet their contracts: a branch word of a node says an earlier node, so the measures fall; the first v branches are copied (Moving). Assumes nothing.
+use Rattle.rule_collect.proofs.Copying.{marked-small, moved-phrase, moved-marked, moving-none, moving-more, spare-for, moved-new}
+use Rattle.rule_collect.proofs.Framing.{few, known, good-below, value-small, still-good, still-below}
+use Rattle.rule_collect.specs.Collecting.{Moving}
+use Rattle.words.specs.Words.{size, feature}
+use lib.ListN.{length, length-set, getD-replicate}
+use native.Mathlib.Numerals.{add-one}
+use native.Mathlib.Omega.{arith}
+use Prim.Native.Nat.{ℕ, _+_, _-_, _*_, _≤_, _<_}
+use mathlib.Core.Path.{_≡_, sym, ap, _∙_}
+use borrow.Author.Needs.{needs}
+use borrow.Fn.Kinds.{In}
+use borrow.Fn.PlainCycle.{Measures, is, falls, and}
+use Rattle.rule_collect.proofs.copy_branch.Reads as copy-branch
+use Rattle.rule_collect.proofs.copy_branch.Kinds as copy-branch-kinds
+use Rattle.rule_collect.proofs.+copy_branch+copy_list.Lts-copy_branch as copy-branch-lts
+use Rattle.rule_collect.proofs.copy_list.Reads as copy-list
+use Rattle.rule_collect.proofs.copy_list.Kinds as copy-list-kinds
+use Rattle.rule_collect.proofs.+copy_branch+copy_list.Lts-copy_list as copy-list-lts
+use Rattle.sweep.proofs.add_copy.Reads as add-copy-reads
+use Rattle.words.proofs.head_word.Reads as head-word-reads
+use Rattle.words.proofs.narrow.Reads as narrow-reads
+use Rattle.words.proofs.record_word.Reads as record-word-reads
+use Rattle.words.proofs.wide.Reads as wide-reads
+use Rattle.rule_collect.proofs.+copy_branch+copy_list.{statement}
+use Rattle.rule_collect.proofs.+copy_branch+copy_list.Tie.{close}
+
+abbrev μ-copy-branch : Measures 1 copy-branch-kinds.ps ℕ
+μ-copy-branch κs a = 2 * a .1 .0 + 1
+
+abbrev μ-copy-list : Measures 1 copy-list-kinds.ps ℕ
+μ-copy-list κs a = 2 * (65536 + a .1 .0)
+
+abbrev copy-branch-at : ℕ → In 1 copy-branch-kinds.ps
+copy-branch-at t =
+    and 1 copy-branch-kinds.ps (is 1 copy-branch-kinds.ps μ-copy-branch t) copy-branch.Pre
+
+abbrev copy-branch-below : ℕ → In 1 copy-branch-kinds.ps
+copy-branch-below t =
+    and 1 copy-branch-kinds.ps (falls 1 copy-branch-kinds.ps _<_ μ-copy-branch t) copy-branch.Pre
+
+abbrev copy-list-at : ℕ → In 1 copy-list-kinds.ps
+copy-list-at t = and 1 copy-list-kinds.ps (is 1 copy-list-kinds.ps μ-copy-list t) copy-list.Pre
+
+abbrev copy-list-below : ℕ → In 1 copy-list-kinds.ps
+copy-list-below t =
+    and 1 copy-list-kinds.ps (falls 1 copy-list-kinds.ps _<_ μ-copy-list t) copy-list.Pre
+
+abbrev copy-branch-claims : ℕ → copy-branch-lts.Claims
+copy-branch-claims t = (wide-reads.Asked, wide-reads.Learnt, head-word-reads.Asked, head-word-reads.Learnt, copy-list-below t, copy-list.Post, add-copy-reads.Asked, add-copy-reads.Learnt, narrow-reads.Asked, narrow-reads.Learnt)
+
+abbrev copy-list-claims : ℕ → copy-list-lts.Claims
+copy-list-claims t = (record-word-reads.Asked, record-word-reads.Learnt, wide-reads.Asked, wide-reads.Learnt, head-word-reads.Asked, head-word-reads.Learnt, copy-branch-below t, copy-branch.Post)
+
+copy-branch-returns : (t : ℕ) → copy-branch-lts.Need-returns (copy-branch-claims t) (copy-branch-at t) copy-branch.Post
+copy-branch-returns t c = moved-phrase ((c .before .before) .pre .1 .0) ((c .if1) .taken)
+
+copy-branch-wide-requires : (t : ℕ) → copy-branch-lts.Need-wide-requires (copy-branch-claims t) (copy-branch-at t) copy-branch.Post
+copy-branch-wide-requires t c κs = search needs
+
+copy-branch-add-head-word : (t : ℕ) → copy-branch-lts.Need-add-head-word (copy-branch-claims t) (copy-branch-at t) copy-branch.Post
+copy-branch-add-head-word t c = search needs
+
+copy-branch-head-word-requires : (t : ℕ) → copy-branch-lts.Need-head-word-requires (copy-branch-claims t) (copy-branch-at t) copy-branch.Post
+copy-branch-head-word-requires t c κs = let a = (c .before .before .before .before) in
+    let g = good-below (a .args .t .now) (a .args .b) (a .pre .1 .1) in
+    omega (arith, a .pre .1 .0 .framed .room, a .pre .1 .0 .framed .within, a .pre .1 .0 .framed .most)
+
+copy-branch-add-result : (t : ℕ) → copy-branch-lts.Need-add-result (copy-branch-claims t) (copy-branch-at t) copy-branch.Post
+copy-branch-add-result t c = let a = (c .before .before .before .before .before .before) in
+    let g = good-below (a .args .t .now) (a .args .b) (a .pre .1 .1) in
+    omega (arith, marked-small (a .pre .1 .0) ((c .before .before .before .wide) .result) ((c .before .head-word) .result) (omega arith) ((c .before .head-word) .ensures))
+
+copy-branch-same-length : (t : ℕ) → copy-branch-lts.Need-same-length (copy-branch-claims t) (copy-branch-at t) copy-branch.Post
+copy-branch-same-length t c = search needs
+
+copy-branch-returns-2 : (t : ℕ) → copy-branch-lts.Need-returns-2 (copy-branch-claims t) (copy-branch-at t) copy-branch.Post
+copy-branch-returns-2 t c = let a = (c .before .before .before .before .before .before) in
+    let g = good-below (a .args .t .now) (a .args .b) (a .pre .1 .1) in
+    moved-marked ((c .before .before .before .wide) .result) ((c .before .head-word) .result) (a .pre .1 .0) (omega arith) (omega arith) ((c .before .head-word) .ensures) ((c .if2) .taken)
+
+copy-branch-copy-list-requires : (t : ℕ) → copy-branch-lts.Need-copy-list-requires (copy-branch-claims t) (copy-branch-at t) copy-branch.Post
+copy-branch-copy-list-requires t c κs = let a = (c .before .before .before .before .before .before .before) in
+    let g = good-below (a .args .t .now) (a .args .b) (a .pre .1 .1) in
+    (omega arith, (a .pre .1 .0, omega arith))
+
+copy-branch-add-copy-requires : (t : ℕ) → copy-branch-lts.Need-add-copy-requires (copy-branch-claims t) (copy-branch-at t) copy-branch.Post
+copy-branch-add-copy-requires t c κs = let a = (c .before .before .before .before .before .before .before .before .before .before .before) in
+    let g = good-below (a .args .t .now) (a .args .b) (a .pre .1 .1) in
+    let z : (c .before .before .before .before .before .before .head-word) .result ≡ 0 = omega arith in
+    spare-for (a .pre .1 .0) (omega arith) (sym ((c .before .before .before .before .before .before .head-word) .ensures) ∙ z) ((c .before .before .before .copy-list) .ensures)
+
+copy-branch-narrow-requires : (t : ℕ) → copy-branch-lts.Need-narrow-requires (copy-branch-claims t) (copy-branch-at t) copy-branch.Post
+copy-branch-narrow-requires t c κs = let a = (c .before .before .before .before .before .before .before .before .before .before .before .before .before .before) in
+    let g = good-below (a .args .t .now) (a .args .b) (a .pre .1 .1) in
+    let z : (c .before .before .before .before .before .before .before .before .before .head-word) .result ≡ 0 = omega arith in
+    let s = spare-for (a .pre .1 .0) (omega arith) (sym ((c .before .before .before .before .before .before .before .before .before .head-word) .ensures) ∙ z) ((c .before .before .before .before .before .before .copy-list) .ensures) in
+    omega (arith, s .free, s .most, (c .before .before .add-copy) .ensures .0)
+
+copy-branch-add-result-2 : (t : ℕ) → copy-branch-lts.Need-add-result-2 (copy-branch-claims t) (copy-branch-at t) copy-branch.Post
+copy-branch-add-result-2 t c = let a = (c .before .before .before .before .before .before .before .before .before .before .before .before .before .before .before) in
+    let g = good-below (a .args .t .now) (a .args .b) (a .pre .1 .1) in
+    let z : (c .before .before .before .before .before .before .before .before .before .before .head-word) .result ≡ 0 = omega arith in
+    let s = spare-for (a .pre .1 .0) (omega arith) (sym ((c .before .before .before .before .before .before .before .before .before .before .head-word) .ensures) ∙ z) ((c .before .before .before .before .before .before .before .copy-list) .ensures) in
+    omega (arith, s .free, s .most, (c .before .before .before .add-copy) .ensures .0, (c .narrow) .ensures)
+
+copy-branch-same-length-2 : (t : ℕ) → copy-branch-lts.Need-same-length-2 (copy-branch-claims t) (copy-branch-at t) copy-branch.Post
+copy-branch-same-length-2 t c = search needs
+
+copy-branch-returns-3 : (t : ℕ) → copy-branch-lts.Need-returns-3 (copy-branch-claims t) (copy-branch-at t) copy-branch.Post
+copy-branch-returns-3 t c = let a = (c .before .before .before .before .before .before .before .before .before .before .before .before .before .before .before) in
+    let g = good-below (a .args .t .now) (a .args .b) (a .pre .1 .1) in
+    let z : (c .before .before .before .before .before .before .before .before .before .before .head-word) .result ≡ 0 = omega arith in
+    moved-new (a .pre .1 .0) (omega arith) (sym ((c .before .before .before .before .before .before .before .before .before .before .head-word) .ensures) ∙ z) ((c .before .before .before .before .before .before .before .copy-list) .ensures) ((c .before .before .before .add-copy) .ensures .1) _ _ (omega arith)
+    (ap (λ (n : ℕ). 65536 + n) ((c .narrow) .ensures ∙ (c .before .before .before .add-copy) .ensures .0))
+
+abbrev copy-list-Inv-loop : copy-list-lts.InvT-loop
+copy-list-Inv-loop t₀ i m list₀ v₀ t list v = (m ≡ size t₀ (feature t₀ i)) × (v ≤ m) × Moving t₀ t i v list × (length list ≡ 12)
+
+abbrev copy-list-μ-loop : copy-list-lts.MeasureT-loop
+copy-list-μ-loop t₀ i m list₀ v₀ t list v = m - v
+
+copy-list-record-word-requires : (t : ℕ) → copy-list-lts.Need-record-word-requires (copy-list-claims t) (copy-list-at t) copy-list.Post copy-list-Inv-loop copy-list-μ-loop
+copy-list-record-word-requires t c κs = let r = (c .before .before) .pre .1 .0 in (omega (arith, r .framed .room, r .framed .within), omega (arith, r .framed .most, r .framed .within), omega arith)
+
+copy-list-wide-requires : (t : ℕ) → copy-list-lts.Need-wide-requires (copy-list-claims t) (copy-list-at t) copy-list.Post copy-list-Inv-loop copy-list-μ-loop
+copy-list-wide-requires t c κs = search needs
+
+copy-list-add-head-word : (t : ℕ) → copy-list-lts.Need-add-head-word (copy-list-claims t) (copy-list-at t) copy-list.Post copy-list-Inv-loop copy-list-μ-loop
+copy-list-add-head-word t c = let a = (c .before .before .before .before) in let k = known (a .pre .1 .0 .framed) (a .args .i) (a .pre .1 .1) in omega (arith, few (a .pre .1 .0 .framed))
+
+copy-list-head-word-requires : (t : ℕ) → copy-list-lts.Need-head-word-requires (copy-list-claims t) (copy-list-at t) copy-list.Post copy-list-Inv-loop copy-list-μ-loop
+copy-list-head-word-requires t c κs = let a = (c .before .before .before .before) in let k = known (a .pre .1 .0 .framed) (a .args .i) (a .pre .1 .1) in omega (arith, few (a .pre .1 .0 .framed), a .pre .1 .0 .framed .room)
+
+copy-list-wide-requires-2 : (t : ℕ) → copy-list-lts.Need-wide-requires-2 (copy-list-claims t) (copy-list-at t) copy-list.Post copy-list-Inv-loop copy-list-μ-loop
+copy-list-wide-requires-2 t c κs = search needs
+
+copy-list-loop-holds : (t : ℕ) → copy-list-lts.Need-loop-holds (copy-list-claims t) (copy-list-at t) copy-list.Post copy-list-Inv-loop copy-list-μ-loop
+copy-list-loop-holds t c = let a = (c .before .before .before .before .before .before) in (
+  (c .wide2) .ensures .0 ∙ (c .before .head-word) .ensures ∙ ap (size (a .args .t .now)) ((c .before .before .wide) .ensures .0 ∙ (c .before .before .before .record-word) .ensures),
+  search needs,
+  moving-none _ _ (a .pre .1 .0) (λ u h. getD-replicate 12 u 0 0 h),
+  search needs,
+)
+
+copy-list-add-record-word : (t : ℕ) → copy-list-lts.Need-add-record-word (copy-list-claims t) (copy-list-at t) copy-list.Post copy-list-Inv-loop copy-list-μ-loop
+copy-list-add-record-word t c = search needs
+
+copy-list-record-word-requires-2 : (t : ℕ) → copy-list-lts.Need-record-word-requires-2 (copy-list-claims t) (copy-list-at t) copy-list.Post copy-list-Inv-loop copy-list-μ-loop
+copy-list-record-word-requires-2 t c κs = let a = (c .before .before .before .before .before .before .before .before .before) in let l = (c .before .before .loop) in
+    let f = a .pre .1 .0 .framed in
+    let s : l .v < 8 = value-small f (a .args .i) (l .v) (a .pre .1 .1) (omega arith) in
+    (omega (arith, f .room, f .within, l .inv .2 .still .steady .long), omega (arith, f .most, f .within), omega arith)
+
+copy-list-copy-branch-requires : (t : ℕ) → copy-list-lts.Need-copy-branch-requires (copy-list-claims t) (copy-list-at t) copy-list.Post copy-list-Inv-loop copy-list-μ-loop
+copy-list-copy-branch-requires t c κs = let a = (c .before .before .before .before .before .before .before .before .before .before .before) in let l = (c .before .before .before .before .loop) in
+    let f = a .pre .1 .0 .framed in
+    let k = l .inv .2 .still .steady in
+    let hv : l .v < size (a .args .t .now) (feature (a .args .t .now) (a .args .i)) = omega arith in (
+      omega (arith, (c .before .record-word2) .ensures, still-below f k (a .args .i) (l .v) (a .pre .1 .1) hv),
+      (l .inv .2 .still .ready, rw ((c .before .record-word2) .ensures) (still-good f k (a .args .i) (l .v) (a .pre .1 .1) hv)),
+    )
+
+copy-list-mul-list : (t : ℕ) → copy-list-lts.Need-mul-list (copy-list-claims t) (copy-list-at t) copy-list.Post copy-list-Inv-loop copy-list-μ-loop
+copy-list-mul-list t c = search needs
+
+copy-list-array-write-list : (t : ℕ) → copy-list-lts.Need-array-write-list (copy-list-claims t) (copy-list-at t) copy-list.Post copy-list-Inv-loop copy-list-μ-loop
+copy-list-array-write-list t c = let a = (c .before .before .before .before .before .before .before .before .before .before .before .before .before .before) in let l = (c .before .before .before .before .before .before .before .loop) in
+    omega (arith, value-small (a .pre .1 .0 .framed) (a .args .i) (l .v) (a .pre .1 .1) (omega arith), l .inv .3)
+
+copy-list-add-v : (t : ℕ) → copy-list-lts.Need-add-v (copy-list-claims t) (copy-list-at t) copy-list.Post copy-list-Inv-loop copy-list-μ-loop
+copy-list-add-v t c = search needs
+
+copy-list-loop-less : (t : ℕ) → copy-list-lts.Need-loop-less (copy-list-claims t) (copy-list-at t) copy-list.Post copy-list-Inv-loop copy-list-μ-loop
+copy-list-loop-less t c = search needs
+
+copy-list-loop-again : (t : ℕ) → copy-list-lts.Need-loop-again (copy-list-claims t) (copy-list-at t) copy-list.Post copy-list-Inv-loop copy-list-μ-loop
+copy-list-loop-again t c = let a = (c .before .before .before .before .before .before .before .before .before .before .before .before .before .before) in let l = (c .before .before .before .before .before .before .before .loop) in (
+  l .inv .0,
+  omega arith,
+  rw add-one (moving-more _ _ (a .pre .1 .0) (a .pre .1 .1) (omega arith) (l .inv .3) (l .inv .2) ((c .before .before .before .before .record-word2) .ensures) ((c .before .before .copy-branch) .ensures)),
+  simp length-set (l .inv .3),
+)
+
+copy-list-same-length : (t : ℕ) → copy-list-lts.Need-same-length (copy-list-claims t) (copy-list-at t) copy-list.Post copy-list-Inv-loop copy-list-μ-loop
+copy-list-same-length t c = search needs
+
+copy-list-returns : (t : ℕ) → copy-list-lts.Need-returns (copy-list-claims t) (copy-list-at t) copy-list.Post copy-list-Inv-loop copy-list-μ-loop
+copy-list-returns t c = let a = (c .before .before .before .before .before .before .before .before) in let l = (c .before .loop) in
+    let e : l .v ≡ size (a .args .t .now) (feature (a .args .t .now) (a .args .i)) = omega arith in
+    rw e at (l .inv .2)
+
+pub +copy-branch+copy-list-spec : {M : Type 1} → statement M
++copy-branch+copy-list-spec = close μ-copy-branch μ-copy-list (λ t. copy-branch-lts.spec (copy-branch-claims t)
+    (copy-branch-at t)
+    copy-branch.Post
+    (copy-branch-returns t)
+    (copy-branch-wide-requires t)
+    (copy-branch-add-head-word t)
+    (copy-branch-head-word-requires t)
+    (copy-branch-add-result t)
+    (copy-branch-same-length t)
+    (copy-branch-returns-2 t)
+    (copy-branch-copy-list-requires t)
+    (copy-branch-add-copy-requires t)
+    (copy-branch-narrow-requires t)
+    (copy-branch-add-result-2 t)
+    (copy-branch-same-length-2 t)
+    (copy-branch-returns-3 t))
+    λ t. copy-list-lts.spec (copy-list-claims t)
+    (copy-list-at t)
+    copy-list.Post
+    copy-list-Inv-loop
+    copy-list-μ-loop
+    (copy-list-record-word-requires t)
+    (copy-list-wide-requires t)
+    (copy-list-add-head-word t)
+    (copy-list-head-word-requires t)
+    (copy-list-wide-requires-2 t)
+    (copy-list-loop-holds t)
+    (copy-list-add-record-word t)
+    (copy-list-record-word-requires-2 t)
+    (copy-list-copy-branch-requires t)
+    (copy-list-mul-list t)
+    (copy-list-array-write-list t)
+    (copy-list-add-v t)
+    (copy-list-loop-less t)
+    (copy-list-loop-again t)
+    (copy-list-same-length t)
+    (copy-list-returns t)

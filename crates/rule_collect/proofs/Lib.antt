@@ -1,0 +1,5 @@
+pub mod Framing
+pub mod Copying
+pub mod Rooting
+pub mod Bringing
+pub mod Tidying

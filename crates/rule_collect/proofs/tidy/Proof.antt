@@ -1,0 +1,20 @@
+-- `rule_collect::tidy` meets its contract: what is collected has no chains, and chained anew it is the picture. Assumes nothing.
+use Rattle.rule_collect.proofs.Tidying.{bare-now, tidied}
+use borrow.Author.Needs.{needs}
+use Rattle.rule_collect.proofs.tidy.Statement.{statement}
+use Rattle.rule_collect.proofs.tidy.Tie as tie
+
+collect-requires : tie.Need-collect-requires
+collect-requires c κs = search needs
+
+relink-requires : tie.Need-relink-requires
+relink-requires c κs = bare-now ((c .before .before .before .before .before .before) .pre) ((c .before .before .before .collect) .ensures)
+
+same-length : tie.Need-same-length
+same-length c = search needs
+
+returns : tie.Need-returns
+returns c = tidied ((c .before .before .before .before .before .before .before .before .before) .pre) ((c .before .before .before .before .before .before .collect) .ensures) ((c .before .before .relink) .ensures)
+
+pub tidy-spec : {M : Type 1} → statement M
+tidy-spec = tie.close (tie.spec collect-requires relink-requires same-length returns)

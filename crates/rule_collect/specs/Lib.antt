@@ -1,0 +1,2 @@
+pub mod Tidy
+pub mod Collecting

@@ -1,0 +1,79 @@
+// The collector of a rule table: only the nodes that its roots reach stay, numbered as building its rules in turn numbers them.
+use sweep::add_copy;
+use sweep::bring_back;
+use sweep::clear_heads;
+use sweep::relink;
+use words::head_word;
+use words::narrow;
+use words::record_word;
+use words::wide;
+ghost use Prim.Native.Nat.{_<_};
+ghost use Rattle.words.specs.Words.{count, size, feature};
+ghost use Rattle.rule_collect.specs.Tidy.{Untidy, Tidied};
+ghost use Rattle.rule_collect.specs.Collecting.{Good, Loose, Ready, Moved, Moving, Rooted, Collected};
+
+// The copy of a branch, made where there is none.
+fn copy_branch(t: &mut [u32], b: u32) -> u32
+    requires { ⌜ (Ready (now t)) × (Good (now t) b) ⌝ }
+    ensures { λ r. ⌜ Moved (now (t .entry)) (now (t .exit)) b r ⌝ }
+{
+    if b < 65536 {
+        return b;
+    }
+    let i = wide(b - 65536);
+    let c = head_word(t, 4096 + i);
+    if 0 < c {
+        return 65535 + c;
+    }
+    let list = copy_list(t, i);
+    65536 + narrow(add_copy(t, i, list))
+}
+
+// The copies of node i's branches in turn, 0 past them.
+fn copy_list(t: &mut [u32], i: usize) -> [u32; 12]
+    requires { ⌜ (Ready (now t)) × (i < count (now t)) ⌝ }
+    ensures { λ r. ⌜ Moving (now (t .entry)) (now (t .exit)) i (size (now (t .entry)) (feature (now (t .entry)) i)) r ⌝ }
+{
+    let m = wide(head_word(t, 3 + wide(record_word(t, i, 0))));
+    let mut list = [0u32; 12];
+    let mut v: usize = 0;
+    while v < m {
+        let b = record_word(t, i, 1 + v);
+        list[v] = copy_branch(t, b);
+        v += 1;
+    }
+    list
+}
+
+// Copies from each root in turn, and sets the root to the copy.
+fn copy_roots(t: &mut [u32])
+    requires { ⌜ Loose (now t) ⌝ }
+    ensures { λ _. ⌜ Rooted (now (t .entry)) (now (t .exit)) ⌝ }
+{
+    let mut p: usize = 0;
+    while p < 32 {
+        let b = head_word(t, 32 + p);
+        let r = copy_branch(t, b);
+        t[32 + p] = r;
+        p += 1;
+    }
+}
+
+// Only the nodes that the roots reach stay, in the order of the rules built in turn. The chain heads are 0 afterwards.
+fn collect(t: &mut [u32])
+    requires { ⌜ Untidy (now t) ⌝ }
+    ensures { λ _. ⌜ Collected (now (t .entry)) (now (t .exit)) ⌝ }
+{
+    clear_heads(t);
+    copy_roots(t);
+    bring_back(t);
+}
+
+// A table whose roots were changed becomes the picture of its rules again.
+pub fn tidy(t: &mut [u32])
+    requires { ⌜ Untidy (now t) ⌝ }
+    ensures { λ _. ⌜ Tidied (now (t .entry)) (now (t .exit)) ⌝ }
+{
+    collect(t);
+    relink(t);
+}

@@ -1,0 +1,5 @@
+pub mod Reading
+pub mod Making
+pub mod Filling
+pub mod Stepping
+pub mod Undoing

@@ -1,0 +1,84 @@
+-- `rule_nodes::make` meets its contract: what was found is there; what is missing becomes the last node, where there is room. Assumes nothing.
+use Rattle.rule_nodes.proofs.Making.{found-at, found-missing, made-new, made-none, made-there}
+use Rattle.words.specs.Words.{count}
+use native.Mathlib.Omega.{arith}
+use Prim.Native.Nat.{ℕ, _+_}
+use mathlib.Core.Path.{_≡_, ap, _∙_}
+use borrow.Author.Needs.{needs}
+use Rattle.rule_nodes.proofs.make.Statement.{statement}
+use Rattle.rule_nodes.proofs.make.Tie as tie
+
+find-requires : tie.Need-find-requires
+find-requires c κs = search needs
+
+enum-known-b : tie.Need-enum-known-b
+enum-known-b c = search needs
+
+enum-told : tie.Need-enum-told
+enum-told c = search needs
+
+head-word-requires : tie.Need-head-word-requires
+head-word-requires c κs = search needs
+
+head-word-requires-2 : tie.Need-head-word-requires-2
+head-word-requires-2 c κs = search needs
+
+push-requires : tie.Need-push-requires
+push-requires c κs = search needs
+
+narrow-requires : tie.Need-narrow-requires
+narrow-requires c κs = search needs
+
+branch-word-requires : tie.Need-branch-word-requires
+branch-word-requires c κs = search needs
+
+same-length : tie.Need-same-length
+same-length c = search needs
+
+returns : tie.Need-returns
+returns c = let a = (c .before .before .before .before .before .before .before .before .before .before .before .before .before .before .before .before) in
+    let w = a .args .t .now in
+    let ab = found-missing w (a .args .k) (a .args .list) _ ((c .before .before .before .before .before .before .before .before .before .before .before .enum-told) .given .1) ((c .before .before .before .before .before .before .before .before .before .before .before .before .before .find) .ensures) in
+    let e : (c .branch-word) .result ≡ 65536 + count w = (c .branch-word) .ensures ∙ ap (λ (i : ℕ). 65536 + i) ((c .before .narrow) .ensures ∙ (c .before .before .before .before .push) .ensures .0) in
+    made-new w (a .args .k) (a .args .list) (a .pre .0) (a .pre .1) (a .pre .2) _ _ ab (omega arith) e ((c .before .before .before .before .push) .ensures .1)
+
+same-length-2 : tie.Need-same-length-2
+same-length-2 c = search needs
+
+returns-2 : tie.Need-returns-2
+returns-2 c = let a = (c .before .before .before .before .before .before .before .before .before .before) in
+    let w = a .args .t .now in
+    let ab = found-missing w (a .args .k) (a .args .list) _ ((c .before .before .before .before .before .enum-told) .given .1) ((c .before .before .before .before .before .before .before .find) .ensures) in
+    made-none w (a .args .k) (a .args .list) (a .pre .0) (a .pre .1) (a .pre .2) ab (omega arith)
+
+branch-word-requires-2 : tie.Need-branch-word-requires-2
+branch-word-requires-2 c κs = let a = (c .before .before .before .before .before .before) in found-at (a .args .t .now) (a .args .k) (a .args .list) _ ((c .before .b) .given .0 .0) ((c .before .b) .given .1) ((c .before .before .before .find) .ensures) .1
+
+same-length-3 : tie.Need-same-length-3
+same-length-3 c = search needs
+
+returns-3 : tie.Need-returns-3
+returns-3 c = let a = (c .before .before .before .before .before .before .before) in
+    let w = a .args .t .now in
+    rw ((c .branch-word2) .ensures)
+    (made-there w (a .args .k) (a .args .list) (a .pre .0) (a .pre .1) (a .pre .2) _ (found-at w (a .args .k) (a .args .list) _ ((c .before .before .b) .given .0 .0) ((c .before .before .b) .given .1) ((c .before .before .before .before .find) .ensures) .0))
+
+pub make-spec : {M : Type 1} → statement M
+make-spec =
+    tie.close
+    (tie.spec
+    find-requires
+    enum-known-b
+    enum-told
+    head-word-requires
+    head-word-requires-2
+    push-requires
+    narrow-requires
+    branch-word-requires
+    same-length
+    returns
+    same-length-2
+    returns-2
+    branch-word-requires-2
+    same-length-3
+    returns-3)
