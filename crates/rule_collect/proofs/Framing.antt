@@ -13,7 +13,8 @@ use Rattle.theory.specs.WellFormed.{Under, WF}
 use Rattle.words.specs.Tab.{tab}
 use Rattle.words.specs.Words.{word, capacity, features, size, count, sizes, feature, body}
 use Rattle.words.proofs.Tab.{length-tab, getD-tab, tab-ext}
-use Rattle.words.proofs.Words.{length-sizes, at-sizes, pos-from}
+use Rattle.theory.proofs.Lists.{pos-of}
+use Rattle.words.proofs.Words.{length-sizes, at-sizes}
 use Rattle.rule_words.specs.Words.{decode, nodeAt, nodes}
 use Rattle.rule_words.proofs.Reading.{length-nodes, at-nodes, branch-at, node-same, under-word}
 use Rattle.sweep.specs.Marks.{done}
@@ -54,7 +55,7 @@ module _ {w : List ℕ} (f : Framed w) where
   size-most k h = omega (arith, f .list .most k (omega (arith, length-sizes w)), at-sizes w k h)
 
   pub positive : Pos (sizes w)
-  positive = pos-from (sizes w) (λ k h. omega (arith, f .list .least k h))
+  positive = pos-of (sizes w) (λ k h. omega (arith, f .list .least k h))
 
   pub known : (i : ℕ) → i < count w → feature w i < features w
   known i h = known-in w (f .wf) i (omega (arith, length-nodes w)) (at-nodes w i h)

@@ -11,7 +11,8 @@ use Rattle.words.proofs.Chains.{last-ext}
 use Rattle.rule_words.specs.Words.{encode, nodes, root, roots, rulesOf}
 use Rattle.rule_words.specs.Picture.{nodeHash, Shows, Proper}
 use Rattle.rule_words.proofs.Reading.{encode-decode, length-nodes, at-nodes, at-roots, length-rules}
-use Rattle.rule_words.proofs.Showing.{rules-small, sizes-show, body-shows, hash-shows}
+use Rattle.rule_words.proofs.Bounding.{rules-small}
+use Rattle.rule_words.proofs.Showing.{sizes-show, body-shows, hash-shows}
 use Rattle.sweep.specs.Sweeping.{Bare, Relinked}
 use Rattle.rule_collect.specs.Tidy.{Untidy, Tidied}
 use Rattle.rule_collect.specs.Collecting.{Collected}

@@ -1,11 +1,12 @@
 -- Header, sizes and hashes of words that agree, and what a frame keeps. Assumes nothing.
 use mathlib.Core.Path.{_≡_, refl, ap, ap₂, _∙_}
-use mathlib.Core.List.{List, [], _∷_}
+use mathlib.Core.List.{List}
 use Prim.Native.Nat.{ℕ, zero, suc, _+_, _*_, _/_, _%_, _≤_, _<_}
 use native.Mathlib.Nat.{mod-lt}
 use native.Mathlib.Omega.{arith}
 use lib.ListN.{length, getD}
 use Rattle.theory.specs.Settings.{Pos}
+use Rattle.theory.proofs.Lists.{pos-of}
 use Rattle.words.specs.Tab.{tab}
 use Rattle.words.specs.Words.{word, capacity, features, size, sizes, feature, body, hashTo, hashOf, hashAt, Kept}
 use Rattle.words.proofs.Tab.{length-tab, getD-tab, tab-ext}
@@ -18,13 +19,8 @@ pub at-sizes : (w : List ℕ) (k : ℕ) → k < features w → getD (sizes w) k 
 unfolding sizes
 at-sizes w k h = getD-tab (size w) (features w) k 0 h
 
--- sizes of at least 1
-pub pos-from : (S : List ℕ) → ((k : ℕ) → k < length S → 0 < getD S k 0) → Pos S
-pos-from [] h = tt
-pos-from (n ∷ ns) h = (h 0 (omega arith), pos-from ns (λ k l. h (suc k) (omega arith)))
-
 pub pos-sizes : (w : List ℕ) → ((k : ℕ) → k < features w → 0 < size w k) → Pos (sizes w)
-pos-sizes w h = pos-from (sizes w) (λ k l. let f : k < features w = omega (arith, length-sizes w) in omega (arith, at-sizes w k f, h k f))
+pos-sizes w h = pos-of (sizes w) (λ k l. let f : k < features w = omega (arith, length-sizes w) in omega (arith, at-sizes w k f, h k f))
 
 -- ---- what a frame keeps
 pub kept-features : (w w′ : List ℕ) → Kept w w′ → features w′ ≡ features w

@@ -1,0 +1,4 @@
+pub mod Sitting
+pub mod Walking
+pub mod Pictures
+pub mod Unique

@@ -1,0 +1,78 @@
+-- `rule_sound::alike` meets its contract: each branch passed equals branch 0. Assumes nothing.
+use Rattle.words.specs.Words.{feature, size, body}
+use borrow.Author.Count.{below-more}
+use native.Mathlib.Omega.{arith}
+use Prim.Native.Nat.{ℕ, _-_, _≤_, _<_}
+use mathlib.Core.Path.{_≡_, sym, ap, _∙_}
+use borrow.Author.Needs.{needs}
+use Rattle.rule_sound.proofs.alike.Statement.{statement}
+use Rattle.rule_sound.proofs.alike.Tie as tie
+
+abbrev Inv-loop : tie.InvT-loop
+Inv-loop t i s first v₀ v = (s ≡ size t (feature t i)) × (v ≤ s) × ((x : ℕ) → x < v → body t i x ≡ body t i 0)
+
+abbrev μ-loop : tie.MeasureT-loop
+μ-loop t i s first v₀ v = s - v
+
+record-word-requires : tie.Need-record-word-requires Inv-loop μ-loop
+record-word-requires c κs = let p = (c .before) .pre in (omega (arith, p .0 .room, p .0 .within), omega (arith, p .0 .most, p .0 .within), omega arith)
+
+wide-requires : tie.Need-wide-requires Inv-loop μ-loop
+wide-requires c κs = search needs
+
+add-head-word : tie.Need-add-head-word Inv-loop μ-loop
+add-head-word c = search needs
+
+head-word-requires : tie.Need-head-word-requires Inv-loop μ-loop
+head-word-requires c κs = let p = (c .before .before .before) .pre in omega (arith, p .0 .room, p .0 .few)
+
+wide-requires-2 : tie.Need-wide-requires-2 Inv-loop μ-loop
+wide-requires-2 c κs = search needs
+
+record-word-requires-2 : tie.Need-record-word-requires-2 Inv-loop μ-loop
+record-word-requires-2 c κs = let p = (c .before .before .before .before .before) .pre in (omega (arith, p .0 .room, p .0 .within), omega (arith, p .0 .most, p .0 .within), omega arith)
+
+loop-holds : tie.Need-loop-holds Inv-loop μ-loop
+loop-holds c = ((c .before .wide2) .ensures .0 ∙ (c .before .before .head-word) .ensures ∙ ap (size ((c .before .before .before .before .before .before) .args .t .now)) ((c .before .before .before .wide) .ensures .0 ∙ (c .before .before .before .before .record-word) .ensures), omega arith, λ x h. absurd (omega arith))
+
+add-record-word : tie.Need-add-record-word Inv-loop μ-loop
+add-record-word c = search needs
+
+record-word-requires-3 : tie.Need-record-word-requires-3 Inv-loop μ-loop
+record-word-requires-3 c κs = let p = (c .before .before .before .before .before .before .before .before) .pre in let f = p .0 .fit .large _ (p .2) .1 in (omega (arith, p .0 .room, p .0 .within), omega (arith, p .0 .most, p .0 .within), omega arith)
+
+returns : tie.Need-returns Inv-loop μ-loop
+returns c = λ z. (c .if1) .taken ((c .before .record-word3) .ensures ∙ z .alike ((c .before .before .before .loop) .v) (omega arith) ∙ sym ((c .before .before .before .before .record-word2) .ensures))
+
+add-v : tie.Need-add-v Inv-loop μ-loop
+add-v c = search needs
+
+loop-less : tie.Need-loop-less Inv-loop μ-loop
+loop-less c = search needs
+
+loop-again : tie.Need-loop-again Inv-loop μ-loop
+loop-again c = let l = (c .before .before .before .loop) in let a = (c .before .before .before .before .before .before .before .before .before .before) .args in (l .inv .0, omega arith, below-more (λ x. body (a .t .now) (a .i) x ≡ body (a .t .now) (a .i) 0) (l .v) (l .inv .2) (sym ((c .before .record-word3) .ensures) ∙ (c .if1) .left ∙ (c .before .before .before .before .record-word2) .ensures))
+
+returns-2 : tie.Need-returns-2 Inv-loop μ-loop
+returns-2 c = record { alike = λ x h. (c .before .loop) .inv .2 x (omega arith) }
+
+pub alike-spec : {M : Type 1} → statement M
+alike-spec =
+    tie.close
+    (tie.spec
+    Inv-loop
+    μ-loop
+    record-word-requires
+    wide-requires
+    add-head-word
+    head-word-requires
+    wide-requires-2
+    record-word-requires-2
+    loop-holds
+    add-record-word
+    record-word-requires-3
+    returns
+    add-v
+    loop-less
+    loop-again
+    returns-2)

@@ -1,0 +1,196 @@
+// The soundness test of a rule table. It reads any slice, and writes nothing.
+ghost use mathlib.Core.Path.{_≡_};
+ghost use mathlib.Core.Option.{some};
+ghost use Prim.Native.Nat.{_+_, _*_, _≤_, _<_};
+ghost use lib.ListN.{length};
+ghost use Rattle.theory.specs.Walk.{scan, scans};
+ghost use Rattle.words.specs.Words.{features, count, sizes, feature};
+ghost use Rattle.rule_words.specs.Words.{nodes, roots};
+ghost use Rattle.settings.specs.Tells.{Tells};
+ghost use Rattle.checks.specs.Header.{Header};
+ghost use Rattle.rule_sound.specs.Sound.{Sits, Lower, Alike, NodeOk, Nodes, Rooted, Sound};
+ghost use Rattle.rule_sound.specs.Walk.{Ordered, Visits, VisitsAll};
+use checks::chains_ok;
+use checks::header_ok;
+use checks::zeros;
+use rule_words::root_word;
+use words::head_word;
+use words::record_word;
+use words::wide;
+
+// Whether the word b says a phrase, or a node below m of feature k or higher.
+fn sits(t: &[u32], m: usize, k: usize, b: u32) -> bool
+    requires { ⌜ (8192 + 16 * m ≤ length (now t)) × (m ≤ 4096) ⌝ }
+    ensures { λ r. ⌜ Tells r (Sits (now (t .entry)) m k b) ⌝ }
+{
+    if b < 65536 {
+        return true;
+    }
+    let j = wide(b - 65536);
+    if m <= j {
+        return false;
+    }
+    k <= wide(record_word(t, j, 0))
+}
+
+// Whether each branch of node i is a phrase or an earlier node of a higher feature.
+fn lower(t: &[u32], i: usize) -> bool
+    requires { ⌜ (Header 1 (now t)) × (i < count (now t)) × (feature (now t) i < features (now t)) ⌝ }
+    ensures { λ r. ⌜ Tells r (Lower (now (t .entry)) i) ⌝ }
+{
+    let k = wide(record_word(t, i, 0));
+    let s = wide(head_word(t, 3 + k));
+    let mut v: usize = 0;
+    while v < s {
+        if !sits(t, i, k + 1, record_word(t, i, 1 + v)) {
+            return false;
+        }
+        v += 1;
+    }
+    true
+}
+
+// Whether the branches of node i are all equal.
+fn alike(t: &[u32], i: usize) -> bool
+    requires { ⌜ (Header 1 (now t)) × (i < count (now t)) × (feature (now t) i < features (now t)) ⌝ }
+    ensures { λ r. ⌜ Tells r (Alike (now (t .entry)) i) ⌝ }
+{
+    let s = wide(head_word(t, 3 + wide(record_word(t, i, 0))));
+    let first = record_word(t, i, 1);
+    let mut v: usize = 0;
+    while v < s {
+        if record_word(t, i, 1 + v) != first {
+            return false;
+        }
+        v += 1;
+    }
+    true
+}
+
+// Whether node i is one, but for twins and its chain.
+fn node_ok(t: &[u32], i: usize) -> bool
+    requires { ⌜ (Header 1 (now t)) × (i < count (now t)) ⌝ }
+    ensures { λ r. ⌜ Tells r (NodeOk (now (t .entry)) i) ⌝ }
+{
+    let k = wide(record_word(t, i, 0));
+    if wide(head_word(t, 2)) <= k {
+        return false;
+    }
+    if !lower(t, i) {
+        return false;
+    }
+    if alike(t, i) {
+        return false;
+    }
+    let s = wide(head_word(t, 3 + k));
+    let base = 8192 + 16 * i;
+    if !zeros(t, base + 1 + s, base + 13) {
+        return false;
+    }
+    zeros(t, base + 14, base + 16)
+}
+
+// Whether each node in use is one.
+fn nodes_ok(t: &[u32]) -> bool
+    requires { ⌜ Header 1 (now t) ⌝ }
+    ensures { λ r. ⌜ Tells r (Nodes (now (t .entry))) ⌝ }
+{
+    let n = wide(head_word(t, 19));
+    let mut i: usize = 0;
+    while i < n {
+        if !node_ok(t, i) {
+            return false;
+        }
+        i += 1;
+    }
+    true
+}
+
+// Whether each root is a phrase or a node in use.
+fn roots_ok(t: &[u32]) -> bool
+    requires { ⌜ Header 1 (now t) ⌝ }
+    ensures { λ r. ⌜ Tells r (Rooted (now (t .entry))) ⌝ }
+{
+    let n = wide(head_word(t, 19));
+    let mut p: usize = 0;
+    while p < 32 {
+        if !sits(t, n, 0, root_word(t, p)) {
+            return false;
+        }
+        p += 1;
+    }
+    true
+}
+
+// The walk from the branch b, the nodes below c done: how many are done after it, or 8192 where one is not met in its turn.
+// It calls itself over `visit_list`, each time at a higher feature: at most as deep as there are features.
+fn visit(t: &[u32], b: u32, c: usize) -> usize
+    requires { ⌜ (Ordered (now t)) × (Sits (now t) (count (now t)) 0 b) × (c ≤ count (now t)) ⌝ }
+    ensures { λ r. ⌜ Visits (now (t .entry)) b c r ⌝ }
+{
+    if b < 65536 {
+        return c;
+    }
+    let i = wide(b - 65536);
+    if i < c {
+        return c;
+    }
+    if visit_list(t, i, c) == i {
+        return i + 1;
+    }
+    8192
+}
+
+// The same over the branches of node i in turn. A lost walk stops at once, so each node's branches are walked once.
+fn visit_list(t: &[u32], i: usize, c: usize) -> usize
+    requires { ⌜ (Ordered (now t)) × (i < count (now t)) × (c ≤ count (now t)) ⌝ }
+    ensures { λ r. ⌜ VisitsAll (now (t .entry)) i c r ⌝ }
+{
+    let s = wide(head_word(t, 3 + wide(record_word(t, i, 0))));
+    let mut d = c;
+    let mut v: usize = 0;
+    while v < s {
+        d = visit(t, record_word(t, i, 1 + v), d);
+        if 4096 < d {
+            return 8192;
+        }
+        v += 1;
+    }
+    d
+}
+
+// Whether the walk from the roots in turn meets every node, each in its turn.
+fn order_ok(t: &[u32]) -> bool
+    requires { ⌜ (Ordered (now t)) × (Rooted (now t)) ⌝ }
+    ensures { λ r. ⌜ Tells r (scans (scan (nodes (now (t .entry))) 0 (sizes (now (t .entry)))) (roots (now (t .entry))) 0 ≡ some (count (now (t .entry)))) ⌝ }
+{
+    let mut d: usize = 0;
+    let mut p: usize = 0;
+    while p < 32 {
+        d = visit(t, root_word(t, p), d);
+        if 4096 < d {
+            return false;
+        }
+        p += 1;
+    }
+    d == wide(head_word(t, 19))
+}
+
+// Whether the words are a sound rule table. It reads any slice.
+pub fn sound(t: &[u32]) -> bool
+    ensures { λ r. ⌜ Tells r (Sound (now (t .entry))) ⌝ }
+{
+    if !header_ok(t, 1) {
+        return false;
+    }
+    if !nodes_ok(t) {
+        return false;
+    }
+    if !chains_ok(t) {
+        return false;
+    }
+    if !roots_ok(t) {
+        return false;
+    }
+    order_ok(t)
+}
