@@ -3,3 +3,4 @@ pub mod Copying
 pub mod Rooting
 pub mod Bringing
 pub mod Tidying
+pub mod Finishing

@@ -8,7 +8,11 @@ use words::narrow;
 use words::record_word;
 use words::wide;
 ghost use Prim.Native.Nat.{_<_};
+ghost use Rattle.theory.specs.Diagrams.{meaning};
+ghost use Rattle.theory.specs.WellFormed.{Ok};
 ghost use Rattle.words.specs.Words.{count, size, feature};
+ghost use Rattle.rule_words.specs.Words.{decode, nodes};
+ghost use Rattle.rule_words.specs.Picture.{Becomes};
 ghost use Rattle.rule_collect.specs.Tidy.{Untidy, Tidied};
 ghost use Rattle.rule_collect.specs.Collecting.{Good, Loose, Ready, Moved, Moving, Rooted, Collected};
 
@@ -76,4 +80,13 @@ pub fn tidy(t: &mut [u32])
 {
     collect(t);
     relink(t);
+}
+
+// The end of every call that writes: the root of place p becomes b, and what no place reaches any more is gone.
+pub fn finish(t: &mut [u32], p: usize, b: u32)
+    requires { ⌜ (Untidy (now t)) × (p < 32) × (Ok (nodes (now t)) 0 (decode b)) ⌝ }
+    ensures { λ _. ⌜ Becomes p (meaning (nodes (now (t .entry))) (decode b)) (now (t .entry)) (now (t .exit)) ⌝ }
+{
+    t[32 + p] = b;
+    tidy(t);
 }
