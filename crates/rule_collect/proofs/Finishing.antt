@@ -101,6 +101,7 @@ module _ {w : List ℕ} (p b : ℕ) (u : Untidy w) (hp : p < 32) (ok : Ok (nodes
       let c : capacity w′ ≡ capacity w = low 1 (omega arith) in
       record {
         long = t .long ∙ length-set w (32 + p) b;
+        proper = rw (← rules-set, ← sizes-same, ← c) (t .proper);
         pictures = rw (← rules-set, ← sizes-same, ← c) (t .pictures);
         past = λ j h. t .past j (omega arith) ∙ other j (omega arith);
       }

@@ -9,10 +9,12 @@ use lib.ListN.{length, getD, drop, set, length-set}
 use lib.Seq.{getD-set-same, getD-set-other}
 use Rattle.theory.specs.Build.{make, Ext}
 use Rattle.theory.specs.Diagrams.{blank, value}
-use Rattle.theory.specs.Functions.{held}
+use Rattle.theory.specs.Functions.{Agree, held}
 use Rattle.theory.specs.Rules.{Branch, Rule, Built}
 use Rattle.theory.specs.WellFormed.{Ok}
+use Rattle.theory.proofs.Canonical.{build-agree}
 use Rattle.words.specs.Holding as H
+use Rattle.words.specs.Holding.{built as builtOf}
 use Rattle.words.specs.Words.{features, size, sizes, listed}
 use Rattle.words.proofs.Filling as F
 use Rattle.words.proofs.Tab.{tab-none, tab-snoc, tab-ext, getD-tab}
@@ -54,6 +56,11 @@ result-there w k x g ok e = from (F.result-there lawful w k (decode x) g ok e)
 -- ---- what is built
 pub sizes-from : (w : List ℕ) (k : ℕ) → k < features w → drop k (sizes w) ≡ size w k ∷ drop (suc k) (sizes w)
 sizes-from w k h = F.sizes-from lawful w k (omega (arith, length-sizes w)) ∙ ap (λ (n : ℕ). n ∷ drop (suc k) (sizes w)) (at-sizes w k h)
+
+-- rules that agree at every setting are built alike
+pub built-agree : (w : List ℕ) (k : ℕ) (g h : Rule) → Agree (drop k (sizes w)) g h → built w k g ≡ built w k h
+unfolding builtOf
+built-agree w k g h e = build-agree k (drop k (sizes w)) g h e (nodes w)
 
 -- a rule that does not depend on feature k is built at the next
 pub built-skip : (w : List ℕ) (k : ℕ) (g h : Rule) → Holds w → k < features w → ((v : ℕ) → v < size w k → (s : List ℕ) → g (v ∷ s) ≡ h s) → built w k g ≡ built w (k + 1) h

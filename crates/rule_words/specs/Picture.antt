@@ -60,5 +60,6 @@ pub record IsTable (w : List ℕ) : Type 0 where
 -- w′ is w with the rule of place p replaced by g: the picture of the rules so changed; the words past the table are kept
 pub record Becomes (p : ℕ) (g : Rule) (w w′ : List ℕ) : Type 0 where
   pub long : length w′ ≡ length w
+  pub proper : Proper (capacity w) (sizes w) (set (rulesOf w) p g)
   pub pictures : Pictures (capacity w) (sizes w) (set (rulesOf w) p g) w′
   pub past : (j : ℕ) → bound (capacity w) ≤ j → getD w′ j 0 ≡ getD w j 0

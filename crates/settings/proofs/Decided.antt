@@ -27,13 +27,6 @@ inside? S s = go (features? S) (ℕ-discrete (s .count) (length S)) (valid? S (v
     go (yes f) (no c) v = no (λ i. c (i .counted))
     go (no f) c v = no (λ i. f (i .features))
 
-outside? : (S : List ℕ) (s : Setting) → Dec (Inside S s → ⊥)
-outside? S s = go (inside? S s)
-  where
-    go : Dec (Inside S s) → Dec (Inside S s → ⊥)
-    go (yes i) = no (λ n. n i)
-    go (no n) = yes n
-
 same : (r q : Stepped) → r .outcome ≡ q .outcome → r .last ≡ q .last → r .setting ≡ q .setting → r ≡ q
 same r q a b c = λ i. record { outcome = a i; last = b i; setting = c i }
 
@@ -46,7 +39,7 @@ pub steps-decided : (S : List ℕ) (s : Setting) (r q : Stepped) → Steps S s r
 steps-decided S s r q a b = same r q agree (rest .0) (rest .1)
   where
     agree : r .outcome ≡ q .outcome
-    agree = ends-unique (BadArgument when (Inside S s → ⊥) else taken) (r .outcome) (q .outcome) (outside? S s, tt) (a .ends) (b .ends)
+    agree = ends-unique (BadArgument when (Inside S s → ⊥) else taken) (r .outcome) (q .outcome) (a .ends) (b .ends)
 
     go : (o : Outcome) → r .outcome ≡ o → (r .last ≡ q .last) × (r .setting ≡ q .setting)
     go Taken e = gives-one S (nextOf S (valuesOf s)) r q (a .gives e) (b .gives (sym agree ∙ e))

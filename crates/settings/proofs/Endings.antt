@@ -3,7 +3,11 @@ use mathlib.Core.Path.{_≡_, refl, sym, ap, _∙_}
 use mathlib.Core.Logic.{_⊎_, inl, inr, ⊎-elim}
 use Prim.Native.Nat.{ℕ, _≤_, _<_}
 use native.Mathlib.Omega.{arith}
+use native.Mathlib.Decide.{ℕ-discrete}
+use lib.ListN.{getD}
+use mathlib.Core.List.{List, [], _∷_}
 use Rattle.settings.specs.declared.refusals.Refusal.{Refusal}
+use Rattle.settings.specs.declared.refusals.Refusal.the-variants.{Damaged, BadPlace, Newer, BadSheet, OtherFeatures, BadArgument, BadSelector, Range, NoRoom, NoSpace, None, BadOpening}
 use Rattle.settings.specs.declared.refusals.Outcome.{Outcome}
 use Rattle.settings.specs.declared.refusals.Outcome.the-variants.{Taken, Refused}
 use Rattle.settings.specs.Refusals.{numberOf, outcomeNumber, Cases, taken, _when_else_, Ends, Decidable, Above, Ordered, Applies}
@@ -16,14 +20,47 @@ stop p = (λ q. refl, λ n. absurd (n p))
 pub pass : {x : Refusal} {P Rest : Type 0} {o : Outcome} → (P → ⊥) → Rest → (P → o ≡ Refused x) × ((P → ⊥) → Rest)
 pass n e = (λ p. absurd (n p), λ m. e)
 
--- the table decides how the call ends
-pub ends-unique : (l : Cases) (o u : Outcome) → Decidable l → Ends l o → Ends l u → o ≡ u
-ends-unique taken o u d e f = e ∙ sym f
-ends-unique (x when P else rest) o u d e f = go (d .0) (λ n. ends-unique rest o u (d .1) (e .1 n) (f .1 n))
+-- endings are told apart by their numbers
+endings : List Outcome
+endings =
+    Taken ∷ Refused Damaged ∷ Refused BadPlace ∷ Refused Newer ∷ Refused BadSheet ∷ Refused OtherFeatures ∷ Refused BadArgument ∷ Refused BadSelector ∷ Refused Range
+    ∷ Refused NoRoom ∷ Refused NoSpace ∷ Refused None ∷ Refused BadOpening ∷ []
+
+refusal-back : (x : Refusal) → getD endings (numberOf x) Taken ≡ Refused x
+unfolding endings
+refusal-back Damaged = refl
+refusal-back BadPlace = refl
+refusal-back Newer = refl
+refusal-back BadSheet = refl
+refusal-back OtherFeatures = refl
+refusal-back BadArgument = refl
+refusal-back BadSelector = refl
+refusal-back Range = refl
+refusal-back NoRoom = refl
+refusal-back NoSpace = refl
+refusal-back None = refl
+refusal-back BadOpening = refl
+
+outcome-back : (o : Outcome) → getD endings (outcomeNumber o) Taken ≡ o
+unfolding endings
+outcome-back Taken = refl
+outcome-back (Refused x) = refusal-back x
+
+pub outcome? : (o u : Outcome) → Dec (o ≡ u)
+outcome? o u = go (ℕ-discrete (outcomeNumber o) (outcomeNumber u))
   where
-    go : Dec P → ((P → ⊥) → o ≡ u) → o ≡ u
-    go (yes p) i = e .0 p ∙ sym (f .0 p)
-    go (no n) i = i n
+    go : Dec (outcomeNumber o ≡ outcomeNumber u) → Dec (o ≡ u)
+    go (yes e) = yes (sym (outcome-back o) ∙ ap (λ (n : ℕ). getD endings n Taken) e ∙ outcome-back u)
+    go (no n) = no (λ e. n (ap outcomeNumber e))
+
+-- the table decides how the call ends
+pub ends-unique : (l : Cases) (o u : Outcome) → Ends l o → Ends l u → o ≡ u
+ends-unique taken o u e f = e ∙ sym f
+ends-unique (x when P else rest) o u e f = go (outcome? o u) (λ n. ends-unique rest o u (e .1 n) (f .1 n))
+  where
+    go : Dec (o ≡ u) → ((P → ⊥) → o ≡ u) → o ≡ u
+    go (yes q) i = q
+    go (no n) i = i (λ p. n (e .0 p ∙ sym (f .0 p)))
 
 -- what is given applies
 pub given-applies : (l : Cases) (x : Refusal) → Decidable l → Ends l (Refused x) → Applies l x

@@ -1,0 +1,383 @@
+-- `engine::rest_result` and `fill_branches` meet their contracts: the remaining features fall; the first v branches are filled, and the memory is right for the table so far. Assumes nothing.
+use Rattle.engine.proofs.Recalling.{hit, result-recalled, remembers-stored, remembers-made, still, still-if}
+use Rattle.engine.proofs.Joining.{joint-held, operands-next, operands-skip, operands-ext, joint-skip, joint-forget, phrases, joint-phrases, still-left}
+use Rattle.engine.specs.Memory.{Remembers}
+use Rattle.engine.specs.Joint.{joint}
+use Rattle.rule_nodes.proofs.Filling.{gives-is, gives-none, fill-start, fill-more, fill-stop, stop-result, fill-listed, fill-make, filled, not-filled, filling-ext}
+use Rattle.rule_nodes.proofs.Reading.{good-small}
+use Rattle.rule_nodes.specs.Nodes.{Filling}
+use Rattle.words.proofs.Words.{kept-features, kept-size}
+use Rattle.words.specs.Words.{features, size}
+use lib.ListN.{getD-replicate}
+use lib.ListN.{length}
+use native.Mathlib.Omega.{arith}
+use Prim.Native.Nat.{ℕ, _-_, _*_, _≤_, _<_}
+use mathlib.Core.Path.{_≡_, refl, _∙_}
+use borrow.Author.Needs.{needs}
+use Prim.Native.Nat.{ℕ, _<_}
+use borrow.Fn.Kinds.{In}
+use borrow.Fn.PlainCycle.{Measures, is, falls, and}
+use Rattle.engine.proofs.fill_branches.Reads as fill-branches
+use Rattle.engine.proofs.fill_branches.Kinds as fill-branches-kinds
+use Rattle.engine.proofs.+fill_branches+rest_result.Lts-fill_branches as fill-branches-lts
+use Rattle.engine.proofs.rest_result.Reads as rest-result
+use Rattle.engine.proofs.rest_result.Kinds as rest-result-kinds
+use Rattle.engine.proofs.+fill_branches+rest_result.Lts-rest_result as rest-result-lts
+use Rattle.engine.proofs.memory.recall.Reads as recall-reads
+use Rattle.engine.proofs.memory.remember.Reads as remember-reads
+use Rattle.engine.proofs.operands.lowest.Reads as lowest-reads
+use Rattle.engine.proofs.operands.operands_at.Reads as operands-at-reads
+use Rattle.engine.proofs.operators.combine.Reads as combine-reads
+use Rattle.rule_nodes.proofs.make.Reads as make-reads
+use Rattle.words.proofs.head_word.Reads as head-word-reads
+use Rattle.words.proofs.wide.Reads as wide-reads
+use Rattle.engine.proofs.+fill_branches+rest_result.{statement}
+use Rattle.engine.proofs.+fill_branches+rest_result.Tie.{close}
+
+abbrev μ-fill-branches : Measures 2 fill-branches-kinds.ps ℕ
+μ-fill-branches κs a = 2 * (features (a .0 .now) - a .1 .1 .1 .1 .1 .0) - 1
+
+abbrev μ-rest-result : Measures 2 rest-result-kinds.ps ℕ
+μ-rest-result κs a = 2 * (features (a .0 .now) - a .1 .1 .1 .1 .1 .0)
+
+abbrev fill-branches-at : ℕ → In 2 fill-branches-kinds.ps
+fill-branches-at t =
+    and 2 fill-branches-kinds.ps (is 2 fill-branches-kinds.ps μ-fill-branches t) fill-branches.Pre
+
+abbrev fill-branches-below : ℕ → In 2 fill-branches-kinds.ps
+fill-branches-below t =
+    and
+    2
+    fill-branches-kinds.ps
+    (falls 2 fill-branches-kinds.ps _<_ μ-fill-branches t)
+    fill-branches.Pre
+
+abbrev rest-result-at : ℕ → In 2 rest-result-kinds.ps
+rest-result-at t =
+    and 2 rest-result-kinds.ps (is 2 rest-result-kinds.ps μ-rest-result t) rest-result.Pre
+
+abbrev rest-result-below : ℕ → In 2 rest-result-kinds.ps
+rest-result-below t =
+    and 2 rest-result-kinds.ps (falls 2 rest-result-kinds.ps _<_ μ-rest-result t) rest-result.Pre
+
+abbrev fill-branches-Inv-loop : fill-branches-lts.InvT-loop
+fill-branches-Inv-loop t₀ s₀ o f n k ops m list₀ v₀ t s list v = (m ≡ size t₀ k) × (v ≤ m) × Filling t₀ t k (joint t₀ o f n k ops) v list × Remembers t o f n s × (length s ≡ length s₀)
+
+abbrev fill-branches-μ-loop : fill-branches-lts.MeasureT-loop
+fill-branches-μ-loop t₀ s₀ o f n k ops m list₀ v₀ t s list v = m - v
+
+abbrev fill-branches-claims : ℕ → fill-branches-lts.Claims
+fill-branches-claims t = (head-word-reads.Asked, head-word-reads.Learnt, wide-reads.Asked, wide-reads.Learnt, operands-at-reads.Asked, operands-at-reads.Learnt, rest-result-below t, rest-result.Post)
+
+abbrev rest-result-claims : ℕ → rest-result-lts.Claims
+rest-result-claims t = (lowest-reads.Asked, lowest-reads.Learnt, head-word-reads.Asked, head-word-reads.Learnt, wide-reads.Asked, wide-reads.Learnt, combine-reads.Asked, combine-reads.Learnt, rest-result-below t, rest-result.Post, operands-at-reads.Asked, operands-at-reads.Learnt, recall-reads.Asked, recall-reads.Learnt, fill-branches-below t, fill-branches.Post, make-reads.Asked, make-reads.Learnt, remember-reads.Asked, remember-reads.Learnt)
+
+fill-branches-add-head-word : (t : ℕ) → fill-branches-lts.Need-add-head-word (fill-branches-claims t) (fill-branches-at t) fill-branches.Post fill-branches-Inv-loop fill-branches-μ-loop
+fill-branches-add-head-word t c = search needs
+
+fill-branches-head-word-requires : (t : ℕ) → fill-branches-lts.Need-head-word-requires (fill-branches-claims t) (fill-branches-at t) fill-branches.Post fill-branches-Inv-loop fill-branches-μ-loop
+fill-branches-head-word-requires t c κs = search needs
+
+fill-branches-wide-requires : (t : ℕ) → fill-branches-lts.Need-wide-requires (fill-branches-claims t) (fill-branches-at t) fill-branches.Post fill-branches-Inv-loop fill-branches-μ-loop
+fill-branches-wide-requires t c κs = search needs
+
+fill-branches-loop-holds : (t : ℕ) → fill-branches-lts.Need-loop-holds (fill-branches-claims t) (fill-branches-at t) fill-branches.Post fill-branches-Inv-loop fill-branches-μ-loop
+fill-branches-loop-holds t c = let a = (c .before .before .before .before .before) in
+    let e : (c .wide) .result ≡ size (a .args .t .now) (a .args .k) = (c .wide) .ensures .0 ∙ (c .before .head-word) .ensures in
+    (e, omega arith, fill-start _ (a .args .k) _ (a .pre .1 .0 .holds) (a .pre .1 .2) _ refl (λ u h. getD-replicate 12 u 0 0 h), a .pre .1 .1, refl)
+
+fill-branches-operands-at-requires : (t : ℕ) → fill-branches-lts.Need-operands-at-requires (fill-branches-claims t) (fill-branches-at t) fill-branches.Post fill-branches-Inv-loop fill-branches-μ-loop
+fill-branches-operands-at-requires t c κs = let a = (c .before .before .before .before .before .before .before .before) in
+    let l = (c .before .before .loop) in
+    let fl = l .inv .2 in
+    let kp = fl .filled .grown .kept in (
+      operands-ext (a .args .t .now) _ (a .args .k) _ (l .v) (l .list) _ _ (a .args .ops) fl (a .pre .1 .2) (a .pre .1 .0),
+      omega (arith, kept-features _ _ kp, a .pre .1 .2),
+      omega (arith, kept-size _ _ kp (a .pre .1 .0 .holds .laid .laid .few) (a .args .k) (a .pre .1 .2), l .inv .0, (c .before .loop-test)),
+    )
+
+fill-branches-add-rest-result : (t : ℕ) → fill-branches-lts.Need-add-rest-result (fill-branches-claims t) (fill-branches-at t) fill-branches.Post fill-branches-Inv-loop fill-branches-μ-loop
+fill-branches-add-rest-result t c = search needs
+
+fill-branches-rest-result-requires : (t : ℕ) → fill-branches-lts.Need-rest-result-requires (fill-branches-claims t) (fill-branches-at t) fill-branches.Post fill-branches-Inv-loop fill-branches-μ-loop
+fill-branches-rest-result-requires t c κs = let a = (c .before .before .before .before .before .before .before .before .before .before .before) in
+    let l = (c .before .before .before .before .before .loop) in
+    let fl = l .inv .2 in
+    let n = kept-features _ _ (fl .filled .grown .kept) in
+    let hk = a .pre .1 .2 in
+    (omega arith, (operands-next _ _ _ (a .args .k) (l .v) (a .args .ops) _ (operands-ext (a .args .t .now) _ (a .args .k) _ (l .v) (l .list) _ _ (a .args .ops) fl (a .pre .1 .2) (a .pre .1 .0)) (omega arith) ((c .before .before .operands-at) .ensures), l .inv .3))
+
+fill-branches-enum-known-r : (t : ℕ) → fill-branches-lts.Need-enum-known-r (fill-branches-claims t) (fill-branches-at t) fill-branches.Post fill-branches-Inv-loop fill-branches-μ-loop
+fill-branches-enum-known-r t c = search needs
+
+fill-branches-enum-told : (t : ℕ) → fill-branches-lts.Need-enum-told (fill-branches-claims t) (fill-branches-at t) fill-branches.Post fill-branches-Inv-loop fill-branches-μ-loop
+fill-branches-enum-told t c = search needs
+
+fill-branches-same-length : (t : ℕ) → fill-branches-lts.Need-same-length (fill-branches-claims t) (fill-branches-at t) fill-branches.Post fill-branches-Inv-loop fill-branches-μ-loop
+fill-branches-same-length t c = search needs
+
+fill-branches-same-length-2 : (t : ℕ) → fill-branches-lts.Need-same-length-2 (fill-branches-claims t) (fill-branches-at t) fill-branches.Post fill-branches-Inv-loop fill-branches-μ-loop
+fill-branches-same-length-2 t c = search needs
+
+fill-branches-returns : (t : ℕ) → fill-branches-lts.Need-returns (fill-branches-claims t) (fill-branches-at t) fill-branches.Post fill-branches-Inv-loop fill-branches-μ-loop
+fill-branches-returns t c = let a = (c .before .before .before .before .before .before .before .before .before .before .before .before .before .before .before .before .before .before) in
+    let l = (c .before .before .before .before .before .before .before .before .before .before .before .before .loop) in
+    let fl = l .inv .2 in (
+      fill-stop (a .args .t .now) (a .args .k) _ (a .pre .1 .0 .holds) (a .pre .1 .2) (l .t) _ (l .v) (l .list) _ _ fl (omega (arith, l .inv .0, (c .before .before .before .before .before .before .before .before .before .before .before .loop-test)))
+          (joint-held (a .args .t .now) (l .t) (a .args .o) (a .args .f) (a .args .n) (a .args .k) (l .v) (a .args .ops) _ (a .pre .1 .0) (filling-ext (a .args .t .now) (a .args .k) _ (a .pre .1 .0 .holds) (a .pre .1 .2) (l .t) (l .v) (l .list) fl) ((c .before .before .before .before .before .before .before .before .before .operands-at) .ensures))
+          ((c .before .before .before .before .before .before .rest-result) .ensures .0) ((c .enum-told) .given .1),
+      tt,
+    )
+
+fill-branches-mul-list : (t : ℕ) → fill-branches-lts.Need-mul-list (fill-branches-claims t) (fill-branches-at t) fill-branches.Post fill-branches-Inv-loop fill-branches-μ-loop
+fill-branches-mul-list t c = search needs
+
+fill-branches-array-write-list : (t : ℕ) → fill-branches-lts.Need-array-write-list (fill-branches-claims t) (fill-branches-at t) fill-branches.Post fill-branches-Inv-loop fill-branches-μ-loop
+fill-branches-array-write-list t c = let a = (c .before .before .before .before .before .before .before .before .before .before .before .before .before .before .before .before .before .before .before) in
+    omega (arith, a .pre .1 .0 .holds .laid .laid .large (a .args .k) (a .pre .1 .2), (c .before .before .before .before .before .before .before .before .before .before .before .before .before .loop) .inv .0, (c .before .before .before .before .before .before .before .before .before .before .before .before .before .loop) .inv .2 .long, (c .before .before .before .before .before .before .before .before .before .before .before .before .loop-test))
+
+fill-branches-add-v : (t : ℕ) → fill-branches-lts.Need-add-v (fill-branches-claims t) (fill-branches-at t) fill-branches.Post fill-branches-Inv-loop fill-branches-μ-loop
+fill-branches-add-v t c = search needs
+
+fill-branches-loop-less : (t : ℕ) → fill-branches-lts.Need-loop-less (fill-branches-claims t) (fill-branches-at t) fill-branches.Post fill-branches-Inv-loop fill-branches-μ-loop
+fill-branches-loop-less t c = search needs
+
+fill-branches-loop-again : (t : ℕ) → fill-branches-lts.Need-loop-again (fill-branches-claims t) (fill-branches-at t) fill-branches.Post fill-branches-Inv-loop fill-branches-μ-loop
+fill-branches-loop-again t c = let a = (c .before .before .before .before .before .before .before .before .before .before .before .before .before .before .before .before .before .before .before) in
+    let l = (c .before .before .before .before .before .before .before .before .before .before .before .before .before .loop) in
+    let fl = l .inv .2 in (
+      l .inv .0,
+      omega (arith, (c .before .before .before .before .before .before .before .before .before .before .before .before .loop-test)),
+      fill-more (a .args .t .now) (a .args .k) _ (a .pre .1 .0 .holds) (a .pre .1 .2) (l .t) _ (l .v) _ (l .list) _ _ fl (omega (arith, l .inv .0, (c .before .before .before .before .before .before .before .before .before .before .before .before .loop-test)))
+          (joint-held (a .args .t .now) (l .t) (a .args .o) (a .args .f) (a .args .n) (a .args .k) (l .v) (a .args .ops) _ (a .pre .1 .0) (filling-ext (a .args .t .now) (a .args .k) _ (a .pre .1 .0 .holds) (a .pre .1 .2) (l .t) (l .v) (l .list) fl) ((c .before .before .before .before .before .before .before .before .before .before .operands-at) .ensures))
+          ((c .before .before .before .before .before .before .before .rest-result) .ensures .0) ((c .before .r) .given .1),
+      still _ _ _ _ _ _ _ ((c .before .r) .given .1) ((c .before .before .before .before .before .before .before .rest-result) .ensures .1),
+      search needs,
+    )
+
+fill-branches-same-length-3 : (t : ℕ) → fill-branches-lts.Need-same-length-3 (fill-branches-claims t) (fill-branches-at t) fill-branches.Post fill-branches-Inv-loop fill-branches-μ-loop
+fill-branches-same-length-3 t c = search needs
+
+fill-branches-same-length-4 : (t : ℕ) → fill-branches-lts.Need-same-length-4 (fill-branches-claims t) (fill-branches-at t) fill-branches.Post fill-branches-Inv-loop fill-branches-μ-loop
+fill-branches-same-length-4 t c = search needs
+
+fill-branches-returns-2 : (t : ℕ) → fill-branches-lts.Need-returns-2 (fill-branches-claims t) (fill-branches-at t) fill-branches.Post fill-branches-Inv-loop fill-branches-μ-loop
+fill-branches-returns-2 t c = let a = (c .before .before .before .before .before .before .before) in
+    let l = (c .before .loop) in
+    let e : l .v ≡ size (a .args .t .now) (a .args .k) = omega (arith, l .inv .0, l .inv .1, (c .loop-test)) in
+    (rw e at (l .inv .2), l .inv .3)
+
+rest-result-lowest-requires : (t : ℕ) → rest-result-lts.Need-lowest-requires (rest-result-claims t) (rest-result-at t) rest-result.Post
+rest-result-lowest-requires t c κs = let a = (c .before .before .before) in (a .pre .1 .0 .holds .laid .laid, a .pre .1 .0 .nine, λ j h. good-small _ _ _ (a .pre .1 .0 .each j h))
+
+rest-result-head-word-requires : (t : ℕ) → rest-result-lts.Need-head-word-requires (rest-result-claims t) (rest-result-at t) rest-result.Post
+rest-result-head-word-requires t c κs = search needs
+
+rest-result-wide-requires : (t : ℕ) → rest-result-lts.Need-wide-requires (rest-result-claims t) (rest-result-at t) rest-result.Post
+rest-result-wide-requires t c κs = search needs
+
+rest-result-combine-requires : (t : ℕ) → rest-result-lts.Need-combine-requires (rest-result-claims t) (rest-result-at t) rest-result.Post
+rest-result-combine-requires t c κs = let a = (c .before .before .before .before .before .before .before .before) in
+    let e : (c .before .wide) .result ≡ features (a .args .t .now) = (c .before .wide) .ensures .0 ∙ (c .before .before .head-word) .ensures in
+    (a .pre .1 .0 .two, a .pre .1 .0 .nine, phrases _ _ _ (a .args .k) ((c .before .before .before .before .lowest) .result) (a .args .ops) (a .pre .1 .0) ((c .before .before .before .before .lowest) .ensures) (omega arith))
+
+rest-result-same-length : (t : ℕ) → rest-result-lts.Need-same-length (rest-result-claims t) (rest-result-at t) rest-result.Post
+rest-result-same-length t c = search needs
+
+rest-result-returns : (t : ℕ) → rest-result-lts.Need-returns (rest-result-claims t) (rest-result-at t) rest-result.Post
+rest-result-returns t c = let a = (c .before .before .before .before .before .before .before .before .before) in
+    let e : (c .before .before .wide) .result ≡ features (a .args .t .now) = (c .before .before .wide) .ensures .0 ∙ (c .before .before .before .head-word) .ensures in
+    (joint-phrases _ _ _ _ (a .args .k) ((c .before .before .before .before .before .lowest) .result) _ (a .args .ops) (a .pre .1 .0) ((c .before .before .before .before .before .lowest) .ensures) (omega arith) ((c .combine) .ensures .0) ((c .combine) .ensures .1), a .pre .1 .1)
+
+rest-result-add-rest-result : (t : ℕ) → rest-result-lts.Need-add-rest-result (rest-result-claims t) (rest-result-at t) rest-result.Post
+rest-result-add-rest-result t c = search needs
+
+rest-result-rest-result-requires : (t : ℕ) → rest-result-lts.Need-rest-result-requires (rest-result-claims t) (rest-result-at t) rest-result.Post
+rest-result-rest-result-requires t c κs = let a = (c .before .before .before .before .before .before .before .before .before .before .before) in
+    let q = (c .before .before .before .before .before .before .before .lowest) .ensures .most in
+    (omega arith, (operands-skip _ _ _ (a .args .k) ((c .before .before .before .before .before .before .before .lowest) .result) (a .args .ops) (a .pre .1 .0) ((c .before .before .before .before .before .before .before .lowest) .ensures) (omega arith), a .pre .1 .1))
+
+rest-result-same-length-2 : (t : ℕ) → rest-result-lts.Need-same-length-2 (rest-result-claims t) (rest-result-at t) rest-result.Post
+rest-result-same-length-2 t c = search needs
+
+rest-result-same-length-3 : (t : ℕ) → rest-result-lts.Need-same-length-3 (rest-result-claims t) (rest-result-at t) rest-result.Post
+rest-result-same-length-3 t c = search needs
+
+rest-result-returns-2 : (t : ℕ) → rest-result-lts.Need-returns-2 (rest-result-claims t) (rest-result-at t) rest-result.Post
+rest-result-returns-2 t c = let a = (c .before .before .before .before .before .before .before .before .before .before .before .before .before .before .before .before) in
+    (joint-skip _ _ _ _ _ (a .args .k) ((c .before .before .before .before .before .before .before .before .before .before .before .before .lowest) .result) (a .args .ops) _ (a .pre .1 .0) ((c .before .before .before .before .before .before .before .before .before .before .before .before .lowest) .ensures) (omega (arith, (c .before .before .before .before .before .before .before .if2))) ((c .before .before .before .before .rest-result) .ensures .0), (c .before .before .before .before .rest-result) .ensures .1)
+
+rest-result-operands-at-requires : (t : ℕ) → rest-result-lts.Need-operands-at-requires (rest-result-claims t) (rest-result-at t) rest-result.Post
+rest-result-operands-at-requires t c κs = let a = (c .before .before .before .before .before .before .before .before .before .before .before) in
+    let hk = still-left _ _ _ (a .args .k) ((c .before .before .before .before .before .before .before .lowest) .result) _ (a .args .ops) (a .pre .1 .0) ((c .before .before .before .before .before .before .before .lowest) .ensures) ((c .before .before .before .before .wide) .ensures .0 ∙ (c .before .before .before .before .before .head-word) .ensures) ((c .before .before .before .if1) .left) in
+    (a .pre .1 .0, hk, omega (arith, a .pre .1 .0 .holds .laid .laid .large (a .args .k) hk))
+
+rest-result-add-rest-result-2 : (t : ℕ) → rest-result-lts.Need-add-rest-result-2 (rest-result-claims t) (rest-result-at t) rest-result.Post
+rest-result-add-rest-result-2 t c = search needs
+
+rest-result-rest-result-requires-2 : (t : ℕ) → rest-result-lts.Need-rest-result-requires-2 (rest-result-claims t) (rest-result-at t) rest-result.Post
+rest-result-rest-result-requires-2 t c κs = let a = (c .before .before .before .before .before .before .before .before .before .before .before .before .before .before) in
+    let hk = still-left _ _ _ (a .args .k) ((c .before .before .before .before .before .before .before .before .before .before .lowest) .result) _ (a .args .ops) (a .pre .1 .0) ((c .before .before .before .before .before .before .before .before .before .before .lowest) .ensures) ((c .before .before .before .before .before .before .before .wide) .ensures .0 ∙ (c .before .before .before .before .before .before .before .before .head-word) .ensures) ((c .before .before .before .before .before .before .if1) .left) in
+    (omega arith, (operands-next _ _ _ (a .args .k) 0 (a .args .ops) _ (a .pre .1 .0) hk ((c .before .before .operands-at) .ensures), a .pre .1 .1))
+
+rest-result-same-length-4 : (t : ℕ) → rest-result-lts.Need-same-length-4 (rest-result-claims t) (rest-result-at t) rest-result.Post
+rest-result-same-length-4 t c = search needs
+
+rest-result-same-length-5 : (t : ℕ) → rest-result-lts.Need-same-length-5 (rest-result-claims t) (rest-result-at t) rest-result.Post
+rest-result-same-length-5 t c = search needs
+
+rest-result-returns-3 : (t : ℕ) → rest-result-lts.Need-returns-3 (rest-result-claims t) (rest-result-at t) rest-result.Post
+rest-result-returns-3 t c = let a = (c .before .before .before .before .before .before .before .before .before .before .before .before .before .before .before .before .before .before .before) in
+    let hk = still-left _ _ _ (a .args .k) ((c .before .before .before .before .before .before .before .before .before .before .before .before .before .before .before .lowest) .result) _ (a .args .ops) (a .pre .1 .0) ((c .before .before .before .before .before .before .before .before .before .before .before .before .before .before .before .lowest) .ensures) ((c .before .before .before .before .before .before .before .before .before .before .before .before .wide) .ensures .0 ∙ (c .before .before .before .before .before .before .before .before .before .before .before .before .before .head-word) .ensures) ((c .before .before .before .before .before .before .before .before .before .before .before .if1) .left) in
+    (joint-forget _ _ _ _ _ (a .args .k) (a .args .ops) _ _ (a .pre .1 .0) ((c .before .before .before .before .before .before .before .before .before .if3) .taken) hk ((c .before .before .before .before .before .before .before .operands-at) .ensures) ((c .before .before .before .before .rest-result2) .ensures .0), (c .before .before .before .before .rest-result2) .ensures .1)
+
+rest-result-recall-requires : (t : ℕ) → rest-result-lts.Need-recall-requires (rest-result-claims t) (rest-result-at t) rest-result.Post
+rest-result-recall-requires t c κs = let a = (c .before .before .before .before .before .before .before .before .before .before .before) in
+    let hk = still-left _ _ _ (a .args .k) ((c .before .before .before .before .before .before .before .lowest) .result) _ (a .args .ops) (a .pre .1 .0) ((c .before .before .before .before .before .before .before .lowest) .ensures) ((c .before .before .before .before .wide) .ensures .0 ∙ (c .before .before .before .before .before .head-word) .ensures) ((c .before .before .before .if1) .left) in
+    omega (arith, a .pre .1 .0 .holds .laid .laid .few)
+
+rest-result-enum-known-memo : (t : ℕ) → rest-result-lts.Need-enum-known-memo (rest-result-claims t) (rest-result-at t) rest-result.Post
+rest-result-enum-known-memo t c = search needs
+
+rest-result-same-length-6 : (t : ℕ) → rest-result-lts.Need-same-length-6 (rest-result-claims t) (rest-result-at t) rest-result.Post
+rest-result-same-length-6 t c = search needs
+
+rest-result-same-length-7 : (t : ℕ) → rest-result-lts.Need-same-length-7 (rest-result-claims t) (rest-result-at t) rest-result.Post
+rest-result-same-length-7 t c = search needs
+
+rest-result-returns-4 : (t : ℕ) → rest-result-lts.Need-returns-4 (rest-result-claims t) (rest-result-at t) rest-result.Post
+rest-result-returns-4 t c = let a = (c .before .before .before .before .before .before .before .before .before .before .before .before .before .before .before) in
+    (hit _ _ _ _ (a .args .k) (a .args .ops) (a .args .s .now) _ _ (a .pre .1 .0) (a .pre .1 .1) ((c .before .before .before .recall) .ensures) ((c .before .memo) .given .1), a .pre .1 .1)
+
+rest-result-enum-told : (t : ℕ) → rest-result-lts.Need-enum-told (rest-result-claims t) (rest-result-at t) rest-result.Post
+rest-result-enum-told t c = search needs
+
+rest-result-fill-branches-requires : (t : ℕ) → rest-result-lts.Need-fill-branches-requires (rest-result-claims t) (rest-result-at t) rest-result.Post
+rest-result-fill-branches-requires t c κs = let a = (c .before .before .before .before .before .before .before .before .before .before .before .before .before .before .before .before) in
+    let hk = still-left _ _ _ (a .args .k) ((c .before .before .before .before .before .before .before .before .before .before .before .before .lowest) .result) _ (a .args .ops) (a .pre .1 .0) ((c .before .before .before .before .before .before .before .before .before .before .before .before .lowest) .ensures) ((c .before .before .before .before .before .before .before .before .before .wide) .ensures .0 ∙ (c .before .before .before .before .before .before .before .before .before .before .head-word) .ensures) ((c .before .before .before .before .before .before .before .before .if1) .left) in
+    (omega arith, (a .pre .1 .0, a .pre .1 .1, hk))
+
+rest-result-make-requires : (t : ℕ) → rest-result-lts.Need-make-requires (rest-result-claims t) (rest-result-at t) rest-result.Post
+rest-result-make-requires t c κs = let a = (c .before .before .before .before .before .before .before .before .before .before .before .before .before .before .before .before .before .before .before .before .before .before .before .before) in
+    let hk = still-left _ _ _ (a .args .k) ((c .before .before .before .before .before .before .before .before .before .before .before .before .before .before .before .before .before .before .before .before .lowest) .result) _ (a .args .ops) (a .pre .1 .0) ((c .before .before .before .before .before .before .before .before .before .before .before .before .before .before .before .before .before .before .before .before .lowest) .ensures) ((c .before .before .before .before .before .before .before .before .before .before .before .before .before .before .before .before .before .wide) .ensures .0 ∙ (c .before .before .before .before .before .before .before .before .before .before .before .before .before .before .before .before .before .before .head-word) .ensures) ((c .before .before .before .before .before .before .before .before .before .before .before .before .before .before .before .before .if1) .left) in
+    let fl = filled _ _ _ _ _ _ ((c .before .before .if4) .taken) ((c .before .before .before .before .before .before .before .fill-branches) .ensures .0) in
+    (fl .filled .grown .well, omega (arith, kept-features _ _ (fl .filled .grown .kept)), fill-listed (a .args .t .now) (a .args .k) _ (a .pre .1 .0 .holds) hk _ _ fl)
+
+rest-result-enum-known-x : (t : ℕ) → rest-result-lts.Need-enum-known-x (rest-result-claims t) (rest-result-at t) rest-result.Post
+rest-result-enum-known-x t c = search needs
+
+rest-result-enum-told-2 : (t : ℕ) → rest-result-lts.Need-enum-told-2 (rest-result-claims t) (rest-result-at t) rest-result.Post
+rest-result-enum-told-2 t c = search needs
+
+rest-result-same-length-8 : (t : ℕ) → rest-result-lts.Need-same-length-8 (rest-result-claims t) (rest-result-at t) rest-result.Post
+rest-result-same-length-8 t c = search needs
+
+rest-result-same-length-9 : (t : ℕ) → rest-result-lts.Need-same-length-9 (rest-result-claims t) (rest-result-at t) rest-result.Post
+rest-result-same-length-9 t c = search needs
+
+rest-result-returns-5 : (t : ℕ) → rest-result-lts.Need-returns-5 (rest-result-claims t) (rest-result-at t) rest-result.Post
+rest-result-returns-5 t c = let a = (c .before .before .before .before .before .before .before .before .before .before .before .before .before .before .before .before .before .before .before .before .before .before .before .before .before .before .before .before .before) in
+    let hk = still-left _ _ _ (a .args .k) ((c .before .before .before .before .before .before .before .before .before .before .before .before .before .before .before .before .before .before .before .before .before .before .before .before .before .lowest) .result) _ (a .args .ops) (a .pre .1 .0) ((c .before .before .before .before .before .before .before .before .before .before .before .before .before .before .before .before .before .before .before .before .before .before .before .before .before .lowest) .ensures) ((c .before .before .before .before .before .before .before .before .before .before .before .before .before .before .before .before .before .before .before .before .before .before .wide) .ensures .0 ∙ (c .before .before .before .before .before .before .before .before .before .before .before .before .before .before .before .before .before .before .before .before .before .before .before .head-word) .ensures) ((c .before .before .before .before .before .before .before .before .before .before .before .before .before .before .before .before .before .before .before .before .before .if1) .left) in
+    let fl = filled _ _ _ _ _ _ ((c .before .before .before .before .before .before .before .if4) .taken) ((c .before .before .before .before .before .before .before .before .before .before .before .before .fill-branches) .ensures .0) in
+    (gives-none ((c .enum-told2) .given .1) (fill-make (a .args .t .now) (a .args .k) _ (a .pre .1 .0 .holds) hk _ _ _ _ fl ((c .before .before .before .before .make) .ensures)), tt)
+
+rest-result-remember-requires : (t : ℕ) → rest-result-lts.Need-remember-requires (rest-result-claims t) (rest-result-at t) rest-result.Post
+rest-result-remember-requires t c κs = let a = (c .before .before .before .before .before .before .before .before .before .before .before .before .before .before .before .before .before .before .before .before .before .before .before .before .before .before .before .before .before .before .before) in
+    let hk = still-left _ _ _ (a .args .k) ((c .before .before .before .before .before .before .before .before .before .before .before .before .before .before .before .before .before .before .before .before .before .before .before .before .before .before .before .lowest) .result) _ (a .args .ops) (a .pre .1 .0) ((c .before .before .before .before .before .before .before .before .before .before .before .before .before .before .before .before .before .before .before .before .before .before .before .before .before .before .before .lowest) .ensures) ((c .before .before .before .before .before .before .before .before .before .before .before .before .before .before .before .before .before .before .before .before .before .before .before .before .wide) .ensures .0 ∙ (c .before .before .before .before .before .before .before .before .before .before .before .before .before .before .before .before .before .before .before .before .before .before .before .before .before .head-word) .ensures) ((c .before .before .before .before .before .before .before .before .before .before .before .before .before .before .before .before .before .before .before .before .before .before .before .if1) .left) in
+    omega (arith, a .pre .1 .0 .holds .laid .laid .few)
+
+rest-result-same-length-10 : (t : ℕ) → rest-result-lts.Need-same-length-10 (rest-result-claims t) (rest-result-at t) rest-result.Post
+rest-result-same-length-10 t c = search needs
+
+rest-result-same-length-11 : (t : ℕ) → rest-result-lts.Need-same-length-11 (rest-result-claims t) (rest-result-at t) rest-result.Post
+rest-result-same-length-11 t c = search needs
+
+rest-result-returns-6 : (t : ℕ) → rest-result-lts.Need-returns-6 (rest-result-claims t) (rest-result-at t) rest-result.Post
+rest-result-returns-6 t c = let a = (c .before .before .before .before .before .before .before .before .before .before .before .before .before .before .before .before .before .before .before .before .before .before .before .before .before .before .before .before .before .before .before .before .before .before) in
+    let hk = still-left _ _ _ (a .args .k) ((c .before .before .before .before .before .before .before .before .before .before .before .before .before .before .before .before .before .before .before .before .before .before .before .before .before .before .before .before .before .before .lowest) .result) _ (a .args .ops) (a .pre .1 .0) ((c .before .before .before .before .before .before .before .before .before .before .before .before .before .before .before .before .before .before .before .before .before .before .before .before .before .before .before .before .before .before .lowest) .ensures) ((c .before .before .before .before .before .before .before .before .before .before .before .before .before .before .before .before .before .before .before .before .before .before .before .before .before .before .before .wide) .ensures .0 ∙ (c .before .before .before .before .before .before .before .before .before .before .before .before .before .before .before .before .before .before .before .before .before .before .before .before .before .before .before .before .head-word) .ensures) ((c .before .before .before .before .before .before .before .before .before .before .before .before .before .before .before .before .before .before .before .before .before .before .before .before .before .before .if1) .left) in
+    let fl = filled _ _ _ _ _ _ ((c .before .before .before .before .before .before .before .before .before .before .before .before .if4) .taken) ((c .before .before .before .before .before .before .before .before .before .before .before .before .before .before .before .before .before .fill-branches) .ensures .0) in
+    let q = (c .before .before .before .before .before .x) .given .1 in
+    let re = gives-is q (fill-make (a .args .t .now) (a .args .k) _ (a .pre .1 .0 .holds) hk _ _ _ _ fl ((c .before .before .before .before .before .before .before .before .before .make) .ensures)) in (
+      re,
+      remembers-stored _ _ _ _ (a .args .k) (a .args .ops) _ _ _ (a .pre .1 .0 .nine)
+          (remembers-made _ _ (a .args .k) ((c .before .before .before .before .before .before .before .before .before .before .before .before .before .before .before .before .before .fill-branches) .result .list) _ ((c .before .before .before .before .before .x) .given .0 .0) _ _ _ _ (fl .filled .grown .well) ((c .before .before .before .before .before .before .before .before .before .make) .ensures) q (still-if _ _ _ _ _ _ ((c .before .before .before .before .before .before .before .before .before .before .before .before .if4) .taken) ((c .before .before .before .before .before .before .before .before .before .before .before .before .before .before .before .before .before .fill-branches) .ensures .1)))
+          ((c .before .before .remember) .ensures) (result-recalled _ _ _ _ _ (a .args .k) _ (a .args .ops) (a .pre .1 .0) re),
+    )
+
+rest-result-same-length-12 : (t : ℕ) → rest-result-lts.Need-same-length-12 (rest-result-claims t) (rest-result-at t) rest-result.Post
+rest-result-same-length-12 t c = search needs
+
+rest-result-same-length-13 : (t : ℕ) → rest-result-lts.Need-same-length-13 (rest-result-claims t) (rest-result-at t) rest-result.Post
+rest-result-same-length-13 t c = search needs
+
+rest-result-returns-7 : (t : ℕ) → rest-result-lts.Need-returns-7 (rest-result-claims t) (rest-result-at t) rest-result.Post
+rest-result-returns-7 t c = let a = (c .before .before .before .before .before .before .before .before .before .before .before .before .before .before .before .before .before .before .before .before .before .before) in
+    let hk = still-left _ _ _ (a .args .k) ((c .before .before .before .before .before .before .before .before .before .before .before .before .before .before .before .before .before .before .lowest) .result) _ (a .args .ops) (a .pre .1 .0) ((c .before .before .before .before .before .before .before .before .before .before .before .before .before .before .before .before .before .before .lowest) .ensures) ((c .before .before .before .before .before .before .before .before .before .before .before .before .before .before .before .wide) .ensures .0 ∙ (c .before .before .before .before .before .before .before .before .before .before .before .before .before .before .before .before .head-word) .ensures) ((c .before .before .before .before .before .before .before .before .before .before .before .before .before .before .if1) .left) in
+    (stop-result (a .args .t .now) (a .args .k) _ (a .pre .1 .0 .holds) hk _ (not-filled _ _ _ _ _ _ ((c .if4) .left) ((c .before .before .before .before .before .fill-branches) .ensures .0)), tt)
+
+pub +fill-branches+rest-result-spec : {M : Type 1} → statement M
++fill-branches+rest-result-spec = close μ-fill-branches μ-rest-result (λ t. fill-branches-lts.spec (fill-branches-claims t)
+    (fill-branches-at t)
+    fill-branches.Post
+    fill-branches-Inv-loop
+    fill-branches-μ-loop
+    (fill-branches-add-head-word t)
+    (fill-branches-head-word-requires t)
+    (fill-branches-wide-requires t)
+    (fill-branches-loop-holds t)
+    (fill-branches-operands-at-requires t)
+    (fill-branches-add-rest-result t)
+    (fill-branches-rest-result-requires t)
+    (fill-branches-enum-known-r t)
+    (fill-branches-enum-told t)
+    (fill-branches-same-length t)
+    (fill-branches-same-length-2 t)
+    (fill-branches-returns t)
+    (fill-branches-mul-list t)
+    (fill-branches-array-write-list t)
+    (fill-branches-add-v t)
+    (fill-branches-loop-less t)
+    (fill-branches-loop-again t)
+    (fill-branches-same-length-3 t)
+    (fill-branches-same-length-4 t)
+    (fill-branches-returns-2 t))
+    λ t. rest-result-lts.spec (rest-result-claims t)
+    (rest-result-at t)
+    rest-result.Post
+    (rest-result-lowest-requires t)
+    (rest-result-head-word-requires t)
+    (rest-result-wide-requires t)
+    (rest-result-combine-requires t)
+    (rest-result-same-length t)
+    (rest-result-returns t)
+    (rest-result-add-rest-result t)
+    (rest-result-rest-result-requires t)
+    (rest-result-same-length-2 t)
+    (rest-result-same-length-3 t)
+    (rest-result-returns-2 t)
+    (rest-result-operands-at-requires t)
+    (rest-result-add-rest-result-2 t)
+    (rest-result-rest-result-requires-2 t)
+    (rest-result-same-length-4 t)
+    (rest-result-same-length-5 t)
+    (rest-result-returns-3 t)
+    (rest-result-recall-requires t)
+    (rest-result-enum-known-memo t)
+    (rest-result-same-length-6 t)
+    (rest-result-same-length-7 t)
+    (rest-result-returns-4 t)
+    (rest-result-enum-told t)
+    (rest-result-fill-branches-requires t)
+    (rest-result-make-requires t)
+    (rest-result-enum-known-x t)
+    (rest-result-enum-told-2 t)
+    (rest-result-same-length-8 t)
+    (rest-result-same-length-9 t)
+    (rest-result-returns-5 t)
+    (rest-result-remember-requires t)
+    (rest-result-same-length-10 t)
+    (rest-result-same-length-11 t)
+    (rest-result-returns-6 t)
+    (rest-result-same-length-12 t)
+    (rest-result-same-length-13 t)
+    (rest-result-returns-7 t)

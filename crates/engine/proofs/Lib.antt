@@ -1,0 +1,4 @@
+pub mod Operating
+pub mod Joining
+pub mod Recalling
+pub mod Applying

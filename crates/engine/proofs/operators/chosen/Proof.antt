@@ -1,0 +1,37 @@
+-- `engine::operators::chosen` meets its contract: the number at the selector's index among the others, 0 past them. Assumes nothing.
+use Rattle.engine.proofs.Operating.{case-at, case-past}
+use Rattle.words.specs.Words.{listed}
+use native.Mathlib.Omega.{arith}
+use Prim.Native.Nat.{_+_}
+use mathlib.Core.Path.{_≡_, ap, _∙_}
+use borrow.Author.Needs.{needs}
+use Rattle.engine.proofs.operators.chosen.Statement.{statement}
+use Rattle.engine.proofs.operators.chosen.Tie as tie
+
+array-read-wide : tie.Need-array-read-wide
+array-read-wide c = search needs
+
+wide-requires : tie.Need-wide-requires
+wide-requires c κs = search needs
+
+add-i : tie.Need-add-i
+add-i c = search needs
+
+mul-result : tie.Need-mul-result
+mul-result c = search needs
+
+array-read-result : tie.Need-array-read-result
+array-read-result c = search needs
+
+returns : tie.Need-returns
+returns c = let a = (c .before .before) in
+    let d : 1 + (c .before .wide) .result ≡ 1 + listed (a .args .t1) 0 = ap (λ i. 1 + i) ((c .before .wide) .ensures .0) in
+    ap (listed (a .args .t1)) d ∙ case-at (listed (a .args .t1)) (a .args .n) (listed (a .args .t1) 0) (omega (arith, (c .before .wide) .ensures .0, (c .if1) .taken))
+
+returns-2 : tie.Need-returns-2
+returns-2 c = let a = (c .before .before) in case-past (listed (a .args .t1)) (a .args .n) (listed (a .args .t1) 0) (omega (arith, (c .before .wide) .ensures .0, (c .if1) .left))
+
+pub chosen-spec : {M : Type 1} → statement M
+chosen-spec =
+    tie.close
+    (tie.spec array-read-wide wide-requires add-i mul-result array-read-result returns returns-2)

@@ -1,0 +1,59 @@
+-- `engine::operators::forgotten` meets its contract: the rule holds of the numbers from j on, from the last to the first. Assumes nothing.
+use Rattle.engine.proofs.Operating.{forgotten-none, forgotten-more}
+use Rattle.engine.specs.Operators.{forgottenOf}
+use Rattle.words.specs.Words.{listed}
+use Rattle.words.specs.Tab.{tab}
+use lib.ListN.{drop}
+use native.Mathlib.Omega.{arith}
+use Prim.Native.Nat.{ℕ, _-_, _≤_}
+use mathlib.Core.Path.{_≡_, ap, _∙_}
+use borrow.Author.Needs.{needs}
+use Rattle.engine.proofs.operators.forgotten.Statement.{statement}
+use Rattle.engine.proofs.operators.forgotten.Tie as tie
+
+abbrev Inv-loop : tie.InvT-loop
+Inv-loop n vals best₀ j₀ best j = (j ≤ n) × (best ≡ forgottenOf (drop j (tab (listed vals) n)))
+
+abbrev μ-loop : tie.MeasureT-loop
+μ-loop n vals best₀ j₀ best j = j
+
+loop-holds : tie.Need-loop-holds Inv-loop μ-loop
+loop-holds c = (omega arith, forgotten-none (listed ((c) .args .t1)) ((c) .args .n))
+
+sub-j : tie.Need-sub-j Inv-loop μ-loop
+sub-j c = search needs
+
+mul-larger : tie.Need-mul-larger Inv-loop μ-loop
+mul-larger c = search needs
+
+array-read-larger : tie.Need-array-read-larger Inv-loop μ-loop
+array-read-larger c = search needs
+
+larger-requires : tie.Need-larger-requires Inv-loop μ-loop
+larger-requires c κs = search needs
+
+loop-less : tie.Need-loop-less Inv-loop μ-loop
+loop-less c = search needs
+
+loop-again : tie.Need-loop-again Inv-loop μ-loop
+loop-again c = let l = (c .before .before .loop) in (omega arith, (c .larger) .ensures ∙ forgotten-more (listed ((c .before .before .before) .args .t1)) ((c .before .before .before) .args .n) (l .j - 1) (l .j) (l .best) (omega arith) (omega arith) (l .inv .1))
+
+returns : tie.Need-returns Inv-loop μ-loop
+returns c = let l = (c .before .loop) in
+    let e : l .j ≡ 0 = omega arith in
+    l .inv .1 ∙ ap (λ (m : ℕ). forgottenOf (drop m (tab (listed ((c .before .before) .args .t1)) ((c .before .before) .args .n)))) e
+
+pub forgotten-spec : {M : Type 1} → statement M
+forgotten-spec =
+    tie.close
+    (tie.spec
+    Inv-loop
+    μ-loop
+    loop-holds
+    sub-j
+    mul-larger
+    array-read-larger
+    larger-requires
+    loop-less
+    loop-again
+    returns)

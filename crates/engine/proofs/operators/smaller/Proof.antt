@@ -1,0 +1,13 @@
+-- `engine::operators::smaller` meets its contract: one test. Assumes nothing.
+use borrow.Author.Tests.{lt-ltb, le-ltb}
+use Rattle.engine.proofs.operators.smaller.Statement.{statement}
+use Rattle.engine.proofs.operators.smaller.Tie as tie
+
+returns : tie.Need-returns
+returns c = simp (lt-ltb _ _ ((c .if1) .taken))
+
+returns-2 : tie.Need-returns-2
+returns-2 c = simp (le-ltb _ _ ((c .if1) .left))
+
+pub smaller-spec : {M : Type 1} → statement M
+smaller-spec = tie.close (tie.spec returns returns-2)

@@ -1,0 +1,52 @@
+// The operands of a joint rule at a feature.
+use rule_nodes::child_of;
+use rule_nodes::top_of;
+use words::head_word;
+use words::wide;
+ghost use mathlib.Core.Path.{_≡_};
+ghost use Prim.Native.Nat.{ℕ, _+_, _≤_, _<_};
+ghost use lib.ListN.{getD};
+ghost use Rattle.words.specs.Words.{features, size, count};
+ghost use Rattle.records.specs.Laid.{Laid};
+ghost use Rattle.engine.specs.Joint.{turn, Operands, Next, Lowest};
+
+fn lower(x: usize, y: usize) -> usize
+    ensures { λ r. ⌜ (r ≤ x) × (r ≤ y) × ((z : ℕ) → z ≤ x → z ≤ y → z ≤ r) ⌝ }
+{
+    if x < y { x } else { y }
+}
+
+// The lowest feature that an operand tests; the number of features, where all are phrases.
+pub fn lowest(t: &[u32], ops: [u32; 9], n: usize) -> usize
+    requires { ⌜ (Laid (now t)) × (n ≤ 9) × ((j : ℕ) → j < n → getD ops j 0 < 65536 + count (now t)) ⌝ }
+    ensures { λ r. ⌜ Lowest (now (t .entry)) n ops r ⌝ }
+{
+    let mut m = wide(head_word(t, 2));
+    let mut j: usize = 0;
+    while j < n {
+        m = lower(m, top_of(t, ops[j]));
+        j += 1;
+    }
+    m
+}
+
+// The value of feature k that operand j goes to, where the setting has v: of the forgotten feature, its own.
+fn turn_of(f: usize, k: usize, j: usize, v: usize) -> usize
+    ensures { λ r. ⌜ r ≡ turn f k j v ⌝ }
+{
+    if f == k { j } else { v }
+}
+
+// The operands' branches for value v of feature k.
+pub fn operands_at(t: &[u32], f: usize, n: usize, k: usize, ops: [u32; 9], v: usize) -> [u32; 9]
+    requires { ⌜ (Operands (now t) f n k ops) × (k < features (now t)) × (v < size (now t) k) ⌝ }
+    ensures { λ r. ⌜ Next (now (t .entry)) f n k v ops r ⌝ }
+{
+    let mut next = [0u32; 9];
+    let mut j: usize = 0;
+    while j < n {
+        next[j] = child_of(t, k, ops[j], turn_of(f, k, j, v));
+        j += 1;
+    }
+    next
+}

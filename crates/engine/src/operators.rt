@@ -1,0 +1,77 @@
+// The operators on phrase numbers: apply's five, CASE and forget.
+use words::wide;
+ghost use mathlib.Core.Path.{_≡_};
+ghost use Prim.Native.Nat.{ℕ, _≤_, _<_};
+ghost use lib.ListN.{getD, drop};
+ghost use Rattle.words.specs.Tab.{tab};
+ghost use Rattle.words.specs.Words.{listed};
+ghost use Rattle.engine.specs.Operators.{smallerOf, largerOf, truthOf, pairOf, caseOf, forgottenOf, opOf};
+
+fn smaller(x: u32, y: u32) -> u32
+    ensures { λ r. ⌜ r ≡ smallerOf x y ⌝ }
+{
+    if x < y { x } else { y }
+}
+
+fn larger(x: u32, y: u32) -> u32
+    ensures { λ r. ⌜ r ≡ largerOf x y ⌝ }
+{
+    if x < y { y } else { x }
+}
+
+// 1 for yes, 0 for no.
+fn truth(b: bool) -> u32
+    ensures { λ r. ⌜ r ≡ truthOf b ⌝ }
+{
+    if b { 1 } else { 0 }
+}
+
+// Apply, by operator number: 1 smaller, 2 larger, 3 equal, 4 less, 5 differ.
+fn pair_op(o: u32, x: u32, y: u32) -> u32
+    ensures { λ r. ⌜ r ≡ pairOf o x y ⌝ }
+{
+    match o {
+        1 => smaller(x, y),
+        2 => larger(x, y),
+        3 => truth(x == y),
+        4 => truth(x < y),
+        _ => truth(x != y),
+    }
+}
+
+// CASE: the first number chooses among the others.
+fn chosen(vals: [u32; 9], n: usize) -> u32
+    requires { ⌜ (1 ≤ n) × (n ≤ 9) ⌝ }
+    ensures { λ r. ⌜ r ≡ caseOf (listed vals 0) (drop 1 (tab (listed vals) n)) ⌝ }
+{
+    let i = 1 + wide(vals[0]);
+    if i < n { vals[i] } else { 0 }
+}
+
+// FORGET's rule: the number that stands for those over the values of the forgotten feature. The largest.
+fn forgotten(vals: [u32; 9], n: usize) -> u32
+    requires { ⌜ n ≤ 9 ⌝ }
+    ensures { λ r. ⌜ r ≡ forgottenOf (tab (listed vals) n) ⌝ }
+{
+    let mut best: u32 = 0;
+    let mut j = n;
+    while 0 < j {
+        j -= 1;
+        best = larger(vals[j], best);
+    }
+    best
+}
+
+// The operator o on the first n numbers.
+pub fn combine(o: u32, vals: [u32; 9], n: usize) -> u32
+    requires { ⌜ (2 ≤ n) × (n ≤ 9) × ((j : ℕ) → j < n → getD vals j 0 < 65536) ⌝ }
+    ensures { λ r. ⌜ (r ≡ opOf o (tab (listed vals) n)) × (r < 65536) ⌝ }
+{
+    if o < 6 {
+        return pair_op(o, vals[0], vals[1]);
+    }
+    if o == 6 {
+        return chosen(vals, n);
+    }
+    forgotten(vals, n)
+}

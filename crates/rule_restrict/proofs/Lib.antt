@@ -1,0 +1,4 @@
+pub mod Plain
+pub mod Noting
+pub mod Restricting
+pub mod Walking

@@ -1,0 +1,5 @@
+pub mod Sounding
+pub mod Answering
+pub mod Opened
+pub mod Looking
+pub mod Theorems

@@ -1,0 +1,34 @@
+-- The promises of calls that write a rule into a place. Assumes nothing.
+use mathlib.Core.Path.{_≡_}
+use mathlib.Core.Logic.{_⊎_}
+use mathlib.Core.List.{List}
+use Prim.Native.Nat.{ℕ, _≤_}
+use Rattle.theory.specs.Rules.{Rule, says}
+use Rattle.settings.specs.Refusals.{Cases, Ends, _when_else_, taken}
+use Rattle.settings.specs.declared.refusals.Refusal.{Refusal}
+use Rattle.settings.specs.declared.refusals.Refusal.the-variants.{Damaged, BadPlace, BadArgument}
+use Rattle.settings.specs.declared.refusals.Outcome.{Outcome}
+use Rattle.settings.specs.declared.refusals.Outcome.the-variants.{Taken, Refused}
+use Rattle.rule_words.specs.Words.{ruleOf}
+use Rattle.rule_words.specs.Picture.{Becomes}
+use Rattle.rule_sound.specs.Sound.{Sound}
+
+-- a call with the refusals l that writes the rule g into place p makes w into w′ and ends as o
+pub record Writes (l : Cases) (p : ℕ) (g : Rule) (w w′ : List ℕ) (o : Outcome) : Type 0 where
+  pub ends : Ends l o
+  pub becomes : o ≡ Taken → Becomes p g w w′
+  pub refused : (x : Refusal) → o ≡ Refused x → w′ ≡ w
+
+-- the constant number x into place p
+abbrev pub constant-cases : ℕ → ℕ → List ℕ → Cases
+constant-cases p x w = Damaged when (Sound w → ⊥) else BadPlace when (32 ≤ p) else BadArgument when (65536 ≤ x) else taken
+
+abbrev pub Constant : ℕ → ℕ → List ℕ → List ℕ → Outcome → Type 0
+Constant p x w w′ o = Writes (constant-cases p x w) p (λ s. says x) w w′ o
+
+-- the rule of place q into place p
+abbrev pub copy-cases : ℕ → ℕ → List ℕ → Cases
+copy-cases p q w = Damaged when (Sound w → ⊥) else BadPlace when ((32 ≤ p) ⊎ (32 ≤ q)) else taken
+
+abbrev pub Copies : ℕ → ℕ → List ℕ → List ℕ → Outcome → Type 0
+Copies p q w w′ o = Writes (copy-cases p q w) p (ruleOf w q) w w′ o
