@@ -3,6 +3,7 @@ use mathlib.Core.Path.{_≡_, refl, sym, ap, subst, _∙_}
 use mathlib.Core.Logic.{⊎-elim}
 use mathlib.Core.List.{List}
 use Prim.Native.Nat.{ℕ, _+_, _-_, _*_, _≤_, _<_}
+use native.Mathlib.Nat.{le-refl}
 use native.Mathlib.Omega.{arith}
 use native.Mathlib.Numerals.{add-one}
 use lib.Dec.{leb}
@@ -10,6 +11,7 @@ use lib.ListN.{length, getD}
 use Rattle.theory.specs.Diagrams.{at, blank}
 use Rattle.theory.specs.WellFormed.{Fits, Ok, Under, WF}
 use Rattle.theory.specs.Rules.{Branch, Node, node}
+use Rattle.theory.proofs.WellFormed.{under-weaken}
 use Rattle.words.specs.Words.{word, size, count, sizes, feature, body}
 use Rattle.words.proofs.Tab.{same, split, length-tab, getD-tab}
 use Rattle.words.proofs.Words.{length-sizes, at-sizes}
@@ -35,6 +37,14 @@ sits-under w m k b hm s = ⊎-elim
     let u : Under (nodes w) m k (node (b - 65536) .to) = (l, omega (arith, s .above h)) in
     rw (decode-node b h) u)
     (split b 65536)
+
+-- a word that sits below node m sits below every later one, and lower features are no harder
+pub sits-more : (w : List ℕ) (m m′ k k′ b : ℕ) → m ≤ m′ → k′ ≤ k → Sits w m k b → Sits w m′ k′ b
+sits-more w m m′ k k′ b h l s = record { below = omega (arith, s .below); above = λ q. omega (arith, s .above q) }
+
+-- a branch that sits among the nodes in use is good there
+pub sits-good : (w : List ℕ) (m k b : ℕ) → m ≤ count w → Sits w m k b → Ok (nodes w) k (decode b)
+sits-good w m k b h s = under-weaken (nodes w) m (length (nodes w)) k k (decode b .to) (omega (arith, length-nodes w)) (le-refl _) (sits-under w m k b h s)
 
 pub sits-ok : {w : List ℕ} {b : ℕ} → Sits w (count w) 0 b → Ok (nodes w) 0 (decode b)
 sits-ok {w} {b} s = subst (λ (m : ℕ). Under (nodes w) m 0 (decode b .to)) (sym (length-nodes w)) (sits-under w (count w) 0 b (omega arith) s)

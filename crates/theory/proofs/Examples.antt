@@ -1,4 +1,4 @@
--- Both kinds compute: document 01's a, b, c and P, Q, P + Q over sizes 2, 3, with their numbers of rests. Assumes nothing.
+-- Both kinds compute: document 01's a, b, c and P, Q, P + Q over sizes 2, 3, with their numbers of rests, and a's count of 1s. Assumes nothing.
 use mathlib.Core.Path.{_≡_, refl}
 use mathlib.Core.List.{List, [], _∷_}
 use Prim.Native.Nat.{ℕ, _+_, _*_}
@@ -11,6 +11,7 @@ use Rattle.theory.specs.Comparing.{node-discrete}
 use Rattle.theory.specs.Build.{build, table}
 use Rattle.theory.specs.Tally.{tally}
 use Rattle.theory.specs.Rules.{unit-discrete, Rule, says, phrase, node}
+use Rattle.theory.specs.Counted.{countOf}
 use Rattle.theory.specs.Costs.{int-discrete, Cost, amount, to-end, to-node}
 
 sizes : List ℕ
@@ -74,6 +75,11 @@ rests-of-rules = (refl, refl, refl)
 rests-of-costs : (tally sizes (P+Q ∷ []) ≡ 2) × (tally sizes (P ∷ Q ∷ P+Q ∷ []) ≡ 3)
 unfolding tally ℕ-discrete unit-discrete int-discrete sizes P Q P+Q
 rests-of-costs = (refl, refl)
+
+-- four settings of a have number 1
+ones-of-a : countOf sizes a 1 ≡ 4
+unfolding countOf ℕ-discrete sizes a
+ones-of-a = refl
 
 -- and the same numbers of nodes are built
 nodes-of-both : (length (table sizes (a ∷ b ∷ c ∷ []) .1) ≡ 3) × (length (table sizes (P ∷ Q ∷ P+Q ∷ []) .1) ≡ 3)

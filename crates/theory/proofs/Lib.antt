@@ -20,4 +20,6 @@ pub mod Scanning
 pub mod Copying
 pub mod Bounded
 pub mod Rules
+pub mod Counted
+pub mod Passing
 pub mod Examples

@@ -1,13 +1,13 @@
 -- Lists, the features that are left, and no more pigeons than holes. Assumes nothing.
-use mathlib.Core.Path.{_≡_, refl, sym, ap, _∙_}
+use mathlib.Core.Path.{_≡_, refl, sym, ap, _∙_, subst}
 use mathlib.Core.List.{List, [], _∷_, map}
-use Prim.Native.Nat.{ℕ, zero, suc, _≤_, _<_}
+use Prim.Native.Nat.{ℕ, zero, suc, _+_, _≤_, _<_}
 use native.Mathlib.Nat.{le-of-suc-le-suc, not-suc-le-zero, add-zero}
 use native.Mathlib.Decide.{ℕ-discrete}
 use native.Mathlib.Numerals.{add-one}
 use native.Mathlib.Omega.{arith}
-use lib.ListN.{length, getD, drop, length-drop}
-use lib.Seq.{getD-drop, drop-drop}
+use lib.ListN.{length, getD, drop, set, length-drop}
+use lib.Seq.{getD-drop, drop-drop, getD-set-same, getD-set-other}
 use Rattle.theory.specs.Settings.{Pos}
 
 pub getD-map-in {ℓ} : {A B : Type ℓ} (f : A → B) (d : A) (e : B) (l : List A) (i : ℕ) → i < length l → getD (map f l) i e ≡ f (getD l i d)
@@ -75,3 +75,11 @@ pos-drop (suc k) (n ∷ ns) p = pos-drop k ns (p .1)
 pub pos-of : (S : List ℕ) → ((k : ℕ) → k < length S → 0 < getD S k 0) → Pos S
 pos-of [] h = tt
 pos-of (n ∷ S) h = (h 0 (omega arith), pos-of S (λ k l. h (suc k) (omega arith)))
+
+-- a list that is filled from the front, one place more
+pub put-more : {A : Type 0} (d : A) (P : ℕ → A → Type 0) (l : List A) (i : ℕ) (a : A) → i < length l → ((j : ℕ) → j < i → P j (getD l j d)) → P i a → (j : ℕ) → j < i + 1 → P j (getD (set l i a) j d)
+put-more d P l i a h old new j q = go (ℕ-discrete j i)
+  where
+    go : Dec (j ≡ i) → P j (getD (set l i a) j d)
+    go (yes e) = subst (λ (n : ℕ). P n (getD (set l i a) n d)) (sym e) (subst (P i) (sym (getD-set-same l i a d h)) new)
+    go (no e) = subst (P j) (sym (getD-set-other l i j a d e)) (old j (omega arith))

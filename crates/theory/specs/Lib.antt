@@ -12,4 +12,5 @@ pub mod Walk
 pub mod Copying
 pub mod Operations
 pub mod Rules
+pub mod Counted
 pub mod Costs
