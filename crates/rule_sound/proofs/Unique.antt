@@ -8,11 +8,12 @@ use lib.ListN.{length, getD}
 use Rattle.theory.specs.Functions.{Agree, zero-fun}
 use Rattle.theory.specs.Rules.{Branch, Node, Rule}
 use Rattle.theory.proofs.Tables.{table-agree}
-use Rattle.words.specs.Words.{word, head, capacity, bound, Zeros}
+use Rattle.words.specs.Words.{word, head, capacity, sizes, bound, Zeros}
 use Rattle.words.proofs.Tab.{same, split}
+use Rattle.rule_words.specs.Words.{rulesOf}
 use Rattle.rule_words.specs.Picture.{Shows, Pictures}
 use Rattle.rule_sound.specs.Sound.{Sound}
-use Rattle.rule_sound.proofs.Pictures.{sound-pictures, sound-proper, picture-sound}
+use Rattle.rule_sound.proofs.Pictures.{sound-pictures, sound-proper, picture-sound, picture-rules}
 
 -- ---- roots and nodes are shown by one list of words only
 module _ {cap : ℕ} {S : List ℕ} {R : List Branch} {N : List Node} {w w′ : List ℕ} (a : Shows cap S R N w) (b : Shows cap S R N w′) where
@@ -97,3 +98,8 @@ shows-ext f l e a =
 -- THEOREM: nothing depends on words past the bound
 pub sound-ext : {w w′ : List ℕ} → Sound w → ((j : ℕ) → j < bound (capacity w) → getD w′ j 0 ≡ getD w j 0) → bound (capacity w) ≤ length w′ → Sound w′
 sound-ext s e l = picture-sound (sound-proper s) (shows-ext (sound-proper s .fits) l e (sound-pictures s))
+
+-- and they hold the same rules, over the same list
+pub rules-ext : {w : List ℕ} (w′ : List ℕ) → Sound w → ((j : ℕ) → j < bound (capacity w) → getD w′ j 0 ≡ getD w j 0) → bound (capacity w) ≤ length w′
+    → (capacity w′ ≡ capacity w) × (sizes w′ ≡ sizes w) × ((q : ℕ) → q < 32 → Agree (sizes w) (getD (rulesOf w′) q zero-fun) (getD (rulesOf w) q zero-fun))
+rules-ext w′ s e l = picture-rules (sound-proper s) (shows-ext (sound-proper s .fits) l e (sound-pictures s))

@@ -30,7 +30,7 @@ use Rattle.rules.specs.declared.reading.Compared.{Compared}
 use Rattle.rules.specs.declared.reading.Tallied.{Tallied}
 
 -- how a call ended, taken apart
-ended : {A : Type 0} (o : Outcome) → (o ≡ Taken → A) → ((x : Refusal) → o ≡ Refused x → A) → A
+pub ended : {A : Type 0} (o : Outcome) → (o ≡ Taken → A) → ((x : Refusal) → o ≡ Refused x → A) → A
 ended Taken f g = f refl
 ended (Refused x) f g = g x refl
 

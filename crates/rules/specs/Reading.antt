@@ -3,7 +3,7 @@ use mathlib.Core.Path.{_≡_}
 use mathlib.Core.Bool.{false}
 use mathlib.Core.Logic.{_⊎_}
 use mathlib.Core.List.{List}
-use Prim.Native.Nat.{ℕ, _≤_}
+use Prim.Native.Nat.{ℕ, suc, _≤_}
 use Rattle.theory.specs.Settings.{Valid}
 use Rattle.theory.specs.Functions.{Agree}
 use Rattle.theory.specs.Tally.{tally}
