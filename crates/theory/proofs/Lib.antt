@@ -23,3 +23,4 @@ pub mod Rules
 pub mod Counted
 pub mod Passing
 pub mod Examples
+pub mod First

@@ -14,3 +14,4 @@ pub mod Operations
 pub mod Rules
 pub mod Counted
 pub mod Costs
+pub mod First

@@ -1,0 +1,3 @@
+pub mod Stepping
+pub mod Marking
+pub mod Seeking

@@ -1,0 +1,59 @@
+-- `rule_next::first_with` meets its contract: the root is sought from the given setting, whose places past the features are 0. Assumes nothing.
+use Rattle.rule_next.specs.Next.{Seeks}
+use Rattle.settings.specs.declared.steps.Setting.{Setting}
+use Rattle.words.specs.Words.{features, sizes}
+use Rattle.theory.specs.Settings.{Valid}
+use lib.ListN.{take}
+use Rattle.rule_next.proofs.Seeking.{seek-start, answer-none, answer-some}
+use Rattle.rule_next.proofs.Stepping.{spot-root}
+use native.Mathlib.Omega.{arith}
+use mathlib.Core.Path.{sym, subst, _∙_}
+use borrow.Author.Needs.{needs}
+use Rattle.rule_next.proofs.first_with.Statement.{statement}
+use Rattle.rule_next.proofs.first_with.Tie as tie
+
+mark-requires : tie.Need-mark-requires
+mark-requires c κs = (c .before .before) .pre .0
+
+of-requires : tie.Need-of-requires
+of-requires c κs = search needs
+
+slice-aggregate-seek : tie.Need-slice-aggregate-seek
+slice-aggregate-seek c = search needs
+
+root-word-requires : tie.Need-root-word-requires
+root-word-requires c κs = let p = (c .before .before .before .before .before .before) .pre in (omega (arith, p .0 .header .room), p .1)
+
+seek-requires : tie.Need-seek-requires
+seek-requires c κs = let a = (c .before .before .before .before .before .before .before) .args in let p = (c .before .before .before .before .before .before .before) .pre in (
+  spot-root (p .0) (a .place) ((c .root-word) .result) (p .1) ((c .root-word) .ensures),
+  (c .before .before .before .before .mark) .ensures,
+  subst (λ (g : Setting). Valid (sizes (a .t .now)) (take (features (a .t .now)) (g .values))) (sym ((c .before .before .before .of) .ensures)) (seek-start (p .0) (a .place) (a .number) (a .setting .now) (p .2)),
+)
+
+returns : tie.Need-returns
+returns c = let a = (c .before .before .before .before .before .before .before .before .before .before) .args in let p = (c .before .before .before .before .before .before .before .before .before .before) .pre in
+    answer-some (p .0) (a .place) (a .number) (a .setting .now) (p .2) ((c .before .before .before .root-word) .result) ((c .before .before .before .root-word) .ensures) ((c .before .before .seek) .result .found) ((c .before .before .seek) .result .values) ((c .before .if1) .taken)
+    (subst (λ (g : Setting). Seeks (a .t .now) (a .number) 0 ((c .before .before .before .root-word) .result) (g .values) ((c .before .before .seek) .result .found) ((c .before .before .seek) .result .values)) ((c .before .before .before .before .before .before .of) .ensures) ((c .before .before .seek) .ensures))
+
+zero-requires : tie.Need-zero-requires
+zero-requires c κs = search needs
+
+returns-2 : tie.Need-returns-2
+returns-2 c = let a = (c .before .before .before .before .before .before .before .before .before .before) .args in let p = (c .before .before .before .before .before .before .before .before .before .before) .pre in
+    let z = answer-none (p .0) (a .place) (a .number) (a .setting .now) (p .2) ((c .before .before .before .root-word) .result) ((c .before .before .before .root-word) .ensures) ((c .before .before .seek) .result .found) ((c .before .before .seek) .result .values) ((c .before .if1) .left)
+    (subst (λ (g : Setting). Seeks (a .t .now) (a .number) 0 ((c .before .before .before .root-word) .result) (g .values) ((c .before .before .seek) .result .found) ((c .before .before .seek) .result .values)) ((c .before .before .before .before .before .before .of) .ensures) ((c .before .before .seek) .ensures)) in
+    ((c .zero) .ensures ∙ z .0, z .1)
+
+pub first-with-spec : {M : Type 1} → statement M
+first-with-spec =
+    tie.close
+    (tie.spec
+    mark-requires
+    of-requires
+    slice-aggregate-seek
+    root-word-requires
+    seek-requires
+    returns
+    zero-requires
+    returns-2)

@@ -1,0 +1,78 @@
+-- `rule_next::smallest` meets its contract: no value passed leads to the number. Assumes nothing.
+use Rattle.rule_next.proofs.Marking.{Passed, passed-none, passed-more, value-tells, spot-small}
+use Rattle.rule_next.proofs.Stepping.{spot-next}
+use Rattle.settings.proofs.Answers.{sure, sure-not}
+use Rattle.words.specs.Words.{size}
+use native.Mathlib.Omega.{arith}
+use Prim.Native.Nat.{_-_, _≤_}
+use mathlib.Core.Path.{_≡_, _∙_}
+use borrow.Author.Needs.{needs}
+use Rattle.rule_next.proofs.smallest.Statement.{statement}
+use Rattle.rule_next.proofs.smallest.Tie as tie
+
+abbrev Inv-loop : tie.InvT-loop
+Inv-loop t has number k b from s v₀ v = (s ≡ size t k) × (v ≤ s) × Passed t number k b from v
+
+abbrev μ-loop : tie.MeasureT-loop
+μ-loop t has number k b from s v₀ v = s - v
+
+add-head-word : tie.Need-add-head-word Inv-loop μ-loop
+add-head-word c = let p = (c .before .before) .pre in let h = p .0 .sound .header in omega (arith, h .few)
+
+head-word-requires : tie.Need-head-word-requires Inv-loop μ-loop
+head-word-requires c κs = let p = (c .before .before) .pre in let h = p .0 .sound .header in omega (arith, h .few, h .room)
+
+wide-requires : tie.Need-wide-requires Inv-loop μ-loop
+wide-requires c κs = search needs
+
+loop-holds : tie.Need-loop-holds Inv-loop μ-loop
+loop-holds c = ((c .wide) .ensures .0 ∙ (c .before .head-word) .ensures, omega (arith, (c .before .before .before .before) .pre .2), passed-none _ _ _ _ _)
+
+child-requires : tie.Need-child-requires Inv-loop μ-loop
+child-requires c κs = ((c .before .before .before .before .before .before) .pre .0, omega arith)
+
+leads-requires : tie.Need-leads-requires Inv-loop μ-loop
+leads-requires c κs = let p = (c .before .before .before .before .before .before .before) .pre in let h = p .0 .sound .header in omega (arith, p .3 .sized, h .most, h .within, spot-small (spot-next (p .0) ((c .before .before .loop) .v) ((c .child) .result) ((c .child) .ensures) (p .1)))
+
+returns : tie.Need-returns Inv-loop μ-loop
+returns c = let p = (c .before .before .before .before .before .before .before .before .before) .pre in let l = (c .before .before .before .before .loop) in
+    record {
+      from = l .inv .2 .from;
+      most = omega arith;
+      none = l .inv .2 .none;
+      leads = λ q. sure ((c .if1) .taken) (value-tells (p .0) (p .1) ((c .before .before .before .before .before .before .before .before .before) .args .number) (l .v) ((c .before .before .child) .result) ((c .before .leads) .result) ((c .before .before .child) .ensures) ((c .before .leads) .ensures) (p .3));
+    }
+
+add-v : tie.Need-add-v Inv-loop μ-loop
+add-v c = search needs
+
+loop-less : tie.Need-loop-less Inv-loop μ-loop
+loop-less c = search needs
+
+loop-again : tie.Need-loop-again Inv-loop μ-loop
+loop-again c = let p = (c .before .before .before .before .before .before .before .before .before) .pre in let l = (c .before .before .before .before .loop) in (
+  l .inv .0,
+  omega arith,
+  passed-more (l .inv .2) (sure-not ((c .if1) .left) (value-tells (p .0) (p .1) ((c .before .before .before .before .before .before .before .before .before) .args .number) (l .v) ((c .before .before .child) .result) ((c .before .leads) .result) ((c .before .before .child) .ensures) ((c .before .leads) .ensures) (p .3))),
+)
+
+returns-2 : tie.Need-returns-2 Inv-loop μ-loop
+returns-2 c = let l = (c .before .loop) in record { from = l .inv .2 .from; most = omega arith; none = l .inv .2 .none; leads = λ q. absurd (omega arith) }
+
+pub smallest-spec : {M : Type 1} → statement M
+smallest-spec =
+    tie.close
+    (tie.spec
+    Inv-loop
+    μ-loop
+    add-head-word
+    head-word-requires
+    wide-requires
+    loop-holds
+    child-requires
+    leads-requires
+    returns
+    add-v
+    loop-less
+    loop-again
+    returns-2)
