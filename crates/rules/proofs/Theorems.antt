@@ -1,27 +1,34 @@
 -- What the promises of the rule table add up to: every state is sound, one place changes, the promises decide everything. Assumes nothing.
 use mathlib.Core.Path.{_≡_, refl, sym, ap, subst, _∙_}
 use mathlib.Core.Logic.{⊎-elim}
-use mathlib.Core.List.{List}
-use Prim.Native.Nat.{ℕ, _<_}
+use mathlib.Core.List.{List, [], _∷_, _++_}
+use Prim.Native.Nat.{ℕ, _≤_, _<_}
 use native.Mathlib.Omega.{arith}
-use lib.ListN.{getD, set}
+use lib.ListN.{length, getD, set}
 use lib.Seq.{ext-getD, getD-set-same, getD-set-other}
 use Rattle.theory.specs.Functions.{Agree, zero-fun}
-use Rattle.theory.specs.Rules.{Rule}
+use Rattle.theory.specs.Build.{build, table}
+use Rattle.theory.specs.Tally.{tally}
+use Rattle.theory.specs.WellFormed.{Mean}
+use Rattle.theory.specs.Rules.{Rule, Branch, Node, phrase, says}
+use Rattle.theory.proofs.Canonical.{canonical}
+use Rattle.theory.proofs.Tables.{room}
+use Rattle.theory.proofs.Rules.{value-phrase}
 use Rattle.settings.specs.Refusals.{Cases}
 use Rattle.settings.specs.declared.refusals.Refusal.{Refusal}
 use Rattle.settings.specs.declared.refusals.Outcome.{Outcome}
 use Rattle.settings.specs.declared.refusals.Outcome.the-variants.{Taken, Refused}
 use Rattle.settings.proofs.Answers.{tells-decided}
 use Rattle.settings.proofs.Endings.{ends-unique}
-use Rattle.words.specs.Words.{capacity, sizes, bound}
+use Rattle.words.specs.Words.{capacity, count, sizes, bound}
 use Rattle.words.proofs.Tab.{split}
-use Rattle.rule_words.specs.Words.{ruleOf, rulesOf}
+use Rattle.rule_words.specs.Words.{decode, nodes, root, ruleOf, rulesOf}
 use Rattle.rule_words.specs.Picture.{Pictures, Becomes}
-use Rattle.rule_words.proofs.Reading.{length-rules, at-rules}
+use Rattle.rule_words.proofs.Reading.{length-nodes, length-rules, at-rules}
 use Rattle.rule_sound.specs.Sound.{Sound}
-use Rattle.rule_sound.proofs.Pictures.{picture-sound, picture-rules, sound-pictures}
+use Rattle.rule_sound.proofs.Pictures.{sound-table, picture-sound, picture-rules, sound-pictures}
 use Rattle.rule_sound.proofs.Unique.{one-picture}
+use Rattle.rules.proofs.Sounding.{sound-pos, sound-wf, sound-root}
 use Rattle.rules.specs.Opening.{Opens}
 use Rattle.rules.specs.Writing.{Writes}
 use Rattle.rules.specs.Reading.{Looks, Compares, Tallies, look-cases, same-cases, tally-cases}
@@ -113,3 +120,19 @@ tallies-decided w r q a b = λ i. record { outcome = same i; count = count i }
 
     count : r .count ≡ q .count
     count = ended (r .outcome) (λ e. a .gives e ∙ sym (b .gives (sym same ∙ e))) (λ x e. a .refused x e ∙ sym (b .refused x (sym same ∙ e)))
+
+-- ---- NO ROOM cannot apply where the table has a branch for the rule: constant and copy are never refused for room
+pub there-fits : {w : List ℕ} (b : Branch) (g : Rule) → Sound w → Mean (nodes w) 0 (sizes w) b g → tally (sizes w) (rulesOf w ++ (g ∷ [])) ≤ capacity w
+there-fits {w} b g s m =
+    let e : length (build 0 (sizes w) g (table (sizes w) (rulesOf w) .1) .1) ≡ tally (sizes w) (rulesOf w ++ (g ∷ [])) = room (sizes w) (sound-pos s) (rulesOf w) g in
+    let n : table (sizes w) (rulesOf w) .1 ≡ nodes w = ap (λ (q : List Branch × List Node). q .1) (sound-table s) in
+    let c : build 0 (sizes w) g (nodes w) ≡ (b, nodes w) = canonical (sizes w) 0 (sizes w) refl (sound-pos s) (nodes w) (sound-wf s) b g m in
+    let l : length (build 0 (sizes w) g (table (sizes w) (rulesOf w) .1) .1) ≡ count w =
+    ap (λ (N : List Node). length (build 0 (sizes w) g N .1)) n ∙ ap (λ (q : Branch × List Node). length (q .1)) c ∙ length-nodes w in
+    omega (arith, s .header .within)
+
+pub constant-fits : {w : List ℕ} (x : ℕ) → Sound w → tally (sizes w) (rulesOf w ++ ((λ s. says x) ∷ [])) ≤ capacity w
+constant-fits {w} x s = there-fits (phrase x) (λ t. says x) s (record { ok = tt; says = λ t v. value-phrase (nodes w) 0 x t })
+
+pub copy-fits : {w : List ℕ} (q : ℕ) → q < 32 → Sound w → tally (sizes w) (rulesOf w ++ (ruleOf w q ∷ [])) ≤ capacity w
+copy-fits {w} q h s = there-fits (decode (root w q)) (ruleOf w q) s (record { ok = sound-root s q h; says = λ t v. refl })
