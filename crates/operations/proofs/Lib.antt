@@ -1,0 +1,5 @@
+pub mod Settling
+pub mod Operands
+pub mod Bits
+pub mod Theorems
+pub mod Firsts

@@ -1,0 +1,114 @@
+-- What apply, CASE, forget and restrict hand to the engine and to the walk, and that the rule they build is the promised one. Assumes nothing.
+use mathlib.Core.Path.{_≡_, ap, ap₂, subst, _∙_}
+use mathlib.Core.Logic.{⊎-elim}
+use mathlib.Core.List.{List}
+use Prim.Native.Nat.{ℕ, _+_, _-_, _≤_, _<_}
+use native.Mathlib.Omega.{arith}
+use lib.ListN.{length, getD, set}
+use Rattle.theory.specs.Functions.{Agree}
+use Rattle.theory.specs.Diagrams.{meaning}
+use Rattle.theory.specs.Operations.{restricted}
+use Rattle.theory.specs.Rules.{Rule, says, number}
+use Rattle.words.specs.Tab.{tab}
+use Rattle.words.specs.Words.{features, size, sizes, listed}
+use Rattle.words.proofs.Tab.{same, tab-ext}
+use Rattle.rule_words.specs.Words.{decode, nodes, root, ruleOf}
+use Rattle.rule_nodes.specs.Nodes.{Good}
+use Rattle.rule_sound.specs.Sound.{Sound}
+use Rattle.rule_restrict.specs.Restrict.{Holding, restr}
+use Rattle.rule_restrict.proofs.Restricting.{restr-whole}
+use Rattle.engine.specs.Operators.{pairOf, caseOf, forgottenOf}
+use Rattle.engine.specs.Joint.{joint, Operands}
+use Rattle.engine.proofs.Applying.{joint-apply, joint-case, joint-forgotten}
+use Rattle.rules.proofs.Sounding.{sound-root}
+use Rattle.operations.specs.Joining.{applied, chosen, without, Places, Lined}
+use Rattle.operations.proofs.Settling.{sound-holds}
+
+-- the number that the branch word b gives a setting
+abbrev said : List ℕ → List ℕ → ℕ → ℕ
+said w s b = number (nodes w) 0 (decode b) s
+
+module _ {w : List ℕ} (s : Sound w) where
+  -- a root word is a branch of the table
+  pub good-root : (q x : ℕ) → q < 32 → x ≡ root w q → Good w 0 x
+  good-root q x h e = rw e (sound-root s q h)
+
+  -- feature 16 is none
+  no-feature : features w ≤ 16
+  no-feature = s .header .few
+
+  -- ---- APPLY
+  module _ (a b : ℕ) (l : List ℕ) (ea : listed l 0 ≡ root w a) (eb : listed l 1 ≡ root w b) where
+    pub apply-operands : a < 32 → b < 32 → Operands w 16 2 0 l
+    apply-operands ha hb = record {
+      holds = sound-holds s;
+      two = omega arith;
+      nine = omega arith;
+      upTo = omega arith;
+      each = λ j h. ⊎-elim
+          (λ z. rw z (good-root a (listed l 0) ha ea))
+          (λ z. let e : j ≡ 1 = omega (arith, z) in rw e (good-root b (listed l 1) hb eb))
+          (same j 0);
+      forget = λ h. absurd (omega (arith, no-feature));
+    }
+
+    pub apply-agrees : (o : ℕ) → o < 6 → Agree (sizes w) (joint w o 16 2 0 l) (applied o a b w)
+    apply-agrees o h x v = joint-apply w o 16 l h no-feature x v ∙ ap₂ (λ (y z : ℕ). says (pairOf o (said w x y) (said w x z))) ea eb
+
+  -- ---- CASE
+  module _ (q : ℕ) (l r : List ℕ) (e : Lined w q l r) where
+    pub case-operands : q < 32 → Places l → 1 ≤ length l → length l ≤ 8 → Operands w 16 (length l + 1) 0 r
+    case-operands hq p some few = record {
+      holds = sound-holds s;
+      two = omega arith;
+      nine = omega arith;
+      upTo = omega arith;
+      each = λ j h. ⊎-elim
+          (λ z. rw z (good-root q (listed r 0) hq (e .first)))
+          (λ z.
+          let i : 1 + (j - 1) ≡ j = omega (arith, z) in
+          subst (λ (y : ℕ). Good w 0 (listed r y)) i (good-root (getD l (j - 1) 0) (listed r (1 + (j - 1))) (p .each (j - 1) (omega (arith, z))) (e .others (j - 1) (omega (arith, z)))))
+          (same j 0);
+      forget = λ h. absurd (omega (arith, no-feature));
+    }
+
+    pub case-agrees : Agree (sizes w) (joint w 6 16 (length l + 1) 0 r) (chosen q l w)
+    case-agrees x v =
+        joint-case w 16 (length l) r no-feature x v
+        ∙ ap₂ (λ (y : ℕ) (z : List ℕ). says (caseOf (said w x y) z)) (e .first)
+        (tab-ext (λ j. said w x (listed r (1 + j))) (λ j. said w x (root w (getD l j 0))) (length l) (λ j h. ap (said w x) (e .others j h)))
+
+  -- ---- FORGET
+  module _ (q f m : ℕ) (l : List ℕ) (hf : f < features w) (em : m ≡ size w f) (e : (j : ℕ) → j < 9 → listed l j ≡ root w q) where
+    pub forget-operands : q < 32 → Operands w f m 0 l
+    forget-operands hq =
+        let z = s .header .fit .large f hf in
+        record {
+          holds = sound-holds s;
+          two = omega (arith, z .0);
+          nine = omega (arith, z .1);
+          upTo = omega arith;
+          each = λ j h. good-root q (listed l j) hq (e j (omega (arith, z .1)));
+          forget = λ h. omega arith;
+        }
+
+    pub forget-agrees : Agree (sizes w) (joint w 7 f m 0 l) (without q f w)
+    forget-agrees x v =
+        let z = s .header .fit .large f hf in
+        joint-forgotten w f m (root w q) l (λ j h. e j (omega (arith, z .1))) x v
+        ∙ ap (λ (n : ℕ). says (forgottenOf (tab (λ j. ruleOf w q (set x f j) .end) n))) em
+
+  -- ---- RESTRICT
+  module _ (q f x b : ℕ) (e : b ≡ root w q) where
+    pub restrict-holding : q < 32 → f < features w → x < size w f → Holding w b f x
+    restrict-holding hq hf hx = record {
+      holds = sound-holds s;
+      good = good-root q b hq e;
+      known = hf;
+      value = hx;
+      room = s .header .room;
+      rest = record { zeros = λ j h l. s .header .clean .zeros j (omega (arith, s .header .within)) l };
+    }
+
+    pub restrict-agrees : Agree (sizes w) (restr w 0 b f x) (restricted f x (ruleOf w q))
+    restrict-agrees t v = ap (λ (g : Rule). g t) (restr-whole w b f x) ∙ ap (λ (y : ℕ). restricted f x (meaning (nodes w) (decode y)) t) e

@@ -1,0 +1,6 @@
+pub mod Settling
+pub mod Joining
+pub mod Restricting
+pub mod Literal
+pub mod Counting
+pub mod Meeting
