@@ -3,3 +3,4 @@ pub mod Operands
 pub mod Bits
 pub mod Theorems
 pub mod Firsts
+pub mod Examples
