@@ -1,8 +1,9 @@
 -- No answer, and no word below the bound, depends on words past the bound. Assumes nothing.
-use mathlib.Core.Path.{_≡_, sym, ap, subst, _∙_}
+use mathlib.Core.Path.{_≡_, refl, sym, ap, subst, _∙_}
+use mathlib.Core.Bool.{Bool, true, false}
 use mathlib.Core.Logic.{_⊎_, inl, inr}
 use mathlib.Core.List.{List}
-use Prim.Native.Nat.{ℕ, _≤_, _<_}
+use Prim.Native.Nat.{ℕ, _+_, _≤_, _<_}
 use native.Mathlib.Decide.{ℕ-discrete}
 use native.Mathlib.Omega.{arith}
 use lib.ListN.{length, getD, set, length-set}
@@ -15,8 +16,8 @@ use Rattle.settings.specs.declared.refusals.Refusal.{Refusal}
 use Rattle.settings.specs.declared.refusals.Outcome.{Outcome}
 use Rattle.settings.specs.declared.refusals.Outcome.the-variants.{Taken, Refused}
 use Rattle.settings.proofs.Endings.{outcome?, ends-unique}
-use Rattle.words.specs.Words.{head, capacity, sizes, bound}
-use Rattle.rule_words.specs.Words.{ruleOf, rulesOf}
+use Rattle.words.specs.Words.{head, capacity, count, sizes, bound}
+use Rattle.rule_words.specs.Words.{root, ruleOf, rulesOf}
 use Rattle.rule_sound.specs.Sound.{Sound}
 use Rattle.rule_sound.proofs.Unique.{sound-ext, rules-ext, one-picture}
 use Rattle.theory.specs.Settings.{Valid}
@@ -27,9 +28,13 @@ use Rattle.words.proofs.Tab.{same}
 use Rattle.settings.specs.Refusals.{taken}
 use Rattle.settings.specs.declared.refusals.Refusal.the-variants.{BadPlace, BadArgument}
 use Rattle.rules.specs.Writing.{Writes}
-use Rattle.rules.specs.Reading.{Looks, look-cases}
+use Rattle.rules.specs.Reading.{Looks, Compares, Tallies, look-cases}
+use Rattle.rules.specs.declared.reading.Compared.{Compared}
+use Rattle.rules.specs.declared.reading.Tallied.{Tallied}
 use Rattle.rules.specs.declared.reading.Looked.{Looked}
-use Rattle.rules.proofs.Answering.{not-refused}
+use Rattle.settings.proofs.Answers.{retell, tells-decided}
+use Rattle.rules.proofs.Sounding.{sound-tally}
+use Rattle.rules.proofs.Answering.{not-refused, roots-agree, agree-roots}
 use Rattle.rules.proofs.Theorems.{ended, looks-decided}
 
 -- two slices that hold the same words up to the bound of the first, and are long enough
@@ -51,6 +56,21 @@ module _ {w u : List ℕ} (a : Alike w u) where
   -- SOUND together, or DAMAGED together
   pub sound-alike : Sound w → Sound u
   sound-alike s = sound-ext s (a .words) (a .long′)
+
+-- root words and the count stand below the bound
+pub roots-alike : {w u : List ℕ} → Alike w u → (p : ℕ) → p < 32 → root u p ≡ root w p
+unfolding head
+roots-alike a p h = a .words (32 + p) (omega arith)
+
+pub counts-alike : {w u : List ℕ} → Alike w u → count u ≡ count w
+unfolding head
+counts-alike a = a .words 19 (omega arith)
+
+bool? : (x y : Bool) → Dec (x ≡ y)
+bool? true true = yes refl
+bool? true false = no (λ e. let z : _≡_ {A = ℕ} 0 1 = cc in omega arith)
+bool? false true = no (λ e. let z : _≡_ {A = ℕ} 0 1 = cc in omega arith)
+bool? false false = yes refl
 
 -- what is shown of sound tables and of damaged ones is shown, if it can be told
 pub either : {A : Type 0} {w : List ℕ} → Dec A → (Sound w → A) → ((Sound w → ⊥) → A) → A
@@ -151,3 +171,45 @@ writes-past {w} {u} {w′} {u′} a l m o q p g h f e x y = (same-end, λ j b. e
 
     sound : Sound w → (j : ℕ) → j < bound (capacity w) → getD w′ j 0 ≡ getD u′ j 0
     sound s = ended o (λ z. becomes-past a s p g h (e s) (x .becomes z) (y .becomes (sym same-end ∙ z))) left
+
+-- SAME and TALLY
+pub compares-past : {w u : List ℕ} → Alike w u → (p q : ℕ) (r z : Compared) → Compares p q w r → Compares p q u z → r ≡ z
+compares-past {w} {u} a p q r z x y = λ i. record { outcome = same-end i; same = answer i }
+  where
+    same-end : r .outcome ≡ z .outcome
+    same-end = ends-past a (BadPlace when ((32 ≤ p) ⊎ (32 ≤ q)) else taken) (BadPlace when ((32 ≤ p) ⊎ (32 ≤ q)) else taken) (r .outcome) (z .outcome) (λ s e. e) (x .ends) (y .ends)
+
+    left : (n : Refusal) → r .outcome ≡ Refused n → r .same ≡ z .same
+    left n e = x .refused n e ∙ sym (y .refused n (sym same-end ∙ e))
+
+    -- the root words are below the bound
+    given : Sound w → r .outcome ≡ Taken → r .same ≡ z .same
+    given s e =
+        let v : Sound u = sound-alike a s in
+        let h : ((32 ≤ p) ⊎ (32 ≤ q)) → ⊥ = λ k. not-refused (sym e ∙ x .ends .1 (λ n. n s) .0 k) in
+        let hp : p < 32 = let n : 32 ≤ p → ⊥ = λ k. h (inl k) in omega (arith, n) in
+        let hq : q < 32 = let n : 32 ≤ q → ⊥ = λ k. h (inr k) in omega (arith, n) in
+        tells-decided (root w p ≡ root w q) (r .same) (z .same)
+        (retell (r .same) (agree-roots s p q hp hq) (roots-agree s p q hp hq) (x .gives e))
+        (retell (z .same)
+        (λ g. sym (roots-alike a p hp) ∙ agree-roots v p q hp hq g ∙ roots-alike a q hq)
+        (λ g. roots-agree v p q hp hq (roots-alike a p hp ∙ g ∙ sym (roots-alike a q hq)))
+        (y .gives (sym same-end ∙ e)))
+
+    answer : r .same ≡ z .same
+    answer = either (bool? (r .same) (z .same)) (λ s. ended (r .outcome) (given s) left) (λ n. left Damaged (x .ends .0 n))
+
+pub tallies-past : {w u : List ℕ} → Alike w u → (r z : Tallied) → Tallies w r → Tallies u z → r ≡ z
+tallies-past {w} {u} a r z x y = λ i. record { outcome = same-end i; count = answer i }
+  where
+    same-end : r .outcome ≡ z .outcome
+    same-end = ends-past a taken taken (r .outcome) (z .outcome) (λ s e. e) (x .ends) (y .ends)
+
+    left : (n : Refusal) → r .outcome ≡ Refused n → r .count ≡ z .count
+    left n e = x .refused n e ∙ sym (y .refused n (sym same-end ∙ e))
+
+    given : Sound w → r .outcome ≡ Taken → r .count ≡ z .count
+    given s e = x .gives e ∙ sym (sound-tally s) ∙ sym (counts-alike a) ∙ sound-tally (sound-alike a s) ∙ sym (y .gives (sym same-end ∙ e))
+
+    answer : r .count ≡ z .count
+    answer = either (ℕ-discrete (r .count) (z .count)) (λ s. ended (r .outcome) (given s) left) (λ n. left Damaged (x .ends .0 n))
