@@ -1,16 +1,8 @@
 // Times look up and constant of a rule table, empty and full, against a loop that sums the same words.
-#include <stddef.h>
-#include <stdint.h>
+#include "lampgrotto.h"
 #include <stdio.h>
 #include <stdlib.h>
 #include <time.h>
-
-uint32_t lampgrotto_open(uint32_t *t, size_t t_len, const uint8_t *features, size_t features_len, size_t capacity);
-uint32_t lampgrotto_constant(uint32_t *t, size_t t_len, size_t place, uint32_t number);
-uint32_t lampgrotto_apply(uint32_t *t, size_t t_len, uint32_t *s, size_t s_len, size_t place, uint32_t op, size_t a, size_t b);
-uint32_t lampgrotto_literal(uint32_t *t, size_t t_len, size_t place, size_t feature, uint32_t bits, uint32_t *out, size_t out_len);
-uint32_t lampgrotto_rule_look_up(const uint32_t *t, size_t t_len, size_t place, const uint8_t *setting, size_t setting_len, uint32_t *out, size_t out_len);
-uint32_t lampgrotto_tally(const uint32_t *t, size_t t_len, uint32_t *out, size_t out_len);
 
 static uint32_t words[139264];
 static uint32_t scratch[65536];

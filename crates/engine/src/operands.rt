@@ -10,6 +10,7 @@ ghost use Rattle.words.specs.Words.{features, size, count};
 ghost use Rattle.records.specs.Laid.{Laid};
 ghost use Rattle.engine.specs.Joint.{turn, Operands, Next, Lowest};
 
+// The lower of two features.
 fn lower(x: usize, y: usize) -> usize
     ensures { λ r. ⌜ (r ≤ x) × (r ≤ y) × ((z : ℕ) → z ≤ x → z ≤ y → z ≤ r) ⌝ }
 {

@@ -7,12 +7,14 @@ ghost use Rattle.words.specs.Tab.{tab};
 ghost use Rattle.words.specs.Words.{listed};
 ghost use Rattle.engine.specs.Operators.{smallerOf, largerOf, truthOf, pairOf, caseOf, forgottenOf, opOf};
 
+// The smaller of two numbers.
 fn smaller(x: u32, y: u32) -> u32
     ensures { λ r. ⌜ r ≡ smallerOf x y ⌝ }
 {
     if x < y { x } else { y }
 }
 
+// The larger of two numbers.
 fn larger(x: u32, y: u32) -> u32
     ensures { λ r. ⌜ r ≡ largerOf x y ⌝ }
 {

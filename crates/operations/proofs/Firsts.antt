@@ -14,12 +14,11 @@ use Rattle.settings.specs.declared.refusals.Refusal.{Refusal}
 use Rattle.settings.specs.declared.refusals.Refusal.the-variants.{None}
 use Rattle.settings.specs.declared.refusals.Outcome.the-variants.{Taken, Refused}
 use Rattle.settings.specs.declared.steps.Setting.{Setting}
-use Rattle.settings.proofs.Endings.{stop, pass, ends-unique}
+use Rattle.settings.proofs.Endings.{stop, pass, ends-unique, not-taken, not-refused}
 use Rattle.words.specs.Words.{sizes}
 use Rattle.rule_words.specs.Words.{ruleOf}
 use Rattle.rule_sound.specs.Sound.{Sound}
 use Rattle.rule_next.specs.Next.{Answers}
-use Rattle.rules.proofs.Answering.{not-taken, not-refused}
 use Rattle.rules.proofs.Theorems.{ended}
 use Rattle.operations.specs.Meeting.{Meets, next-cases, unmet}
 use Rattle.operations.specs.declared.meeting.Met.{Met}

@@ -17,7 +17,7 @@ use Rattle.theory.proofs.Tables.{room, table-agree}
 use Rattle.theory.proofs.Values.{value-ext}
 use Rattle.theory.proofs.WellFormed.{ok-ext}
 use Rattle.settings.specs.Refusals.{Cases, _when_else_}
-use Rattle.settings.proofs.Endings.{pass}
+use Rattle.settings.proofs.Endings.{pass, not-taken, not-refused}
 use Rattle.settings.specs.declared.refusals.Refusal.{Refusal}
 use Rattle.settings.specs.declared.refusals.Refusal.the-variants.{NoRoom}
 use Rattle.settings.specs.declared.refusals.Outcome.{Outcome}
@@ -44,7 +44,6 @@ use Rattle.rule_sound.proofs.Sitting.{pad-zero}
 use Rattle.rule_collect.specs.Tidy.{Untidy}
 use Rattle.rule_restrict.proofs.Restricting.{result-mean}
 use Rattle.rules.specs.Writing.{Writes}
-use Rattle.rules.proofs.Answering.{not-taken, not-refused}
 use Rattle.rules.proofs.Sounding.{sound-list, sound-pos, sound-wf, sound-root}
 use Rattle.operations.specs.Settling.{Puts, Asks, Settled}
 

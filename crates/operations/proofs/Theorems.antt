@@ -14,10 +14,9 @@ use Rattle.settings.specs.declared.refusals.Refusal.{Refusal}
 use Rattle.settings.specs.declared.refusals.Refusal.the-variants.{Damaged, BadPlace, BadArgument, BadSelector, NoRoom}
 use Rattle.settings.specs.declared.refusals.Outcome.{Outcome}
 use Rattle.settings.specs.declared.refusals.Outcome.the-variants.{Taken, Refused}
-use Rattle.settings.proofs.Endings.{ends-unique}
+use Rattle.settings.proofs.Endings.{ends-unique, not-taken}
 use Rattle.rule_words.specs.Words.{ruleOf}
 use Rattle.rules.specs.Writing.{Writes}
-use Rattle.rules.proofs.Answering.{not-taken}
 use Rattle.rules.proofs.Theorems.{writes-decided}
 use Rattle.operations.specs.Settling.{Exceeds}
 use Rattle.operations.specs.Joining.{applied, apply-cases, chosen, case-cases, without, forget-cases}

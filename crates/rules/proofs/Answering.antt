@@ -14,6 +14,7 @@ use Rattle.theory.proofs.Rules.{value-phrase}
 use Rattle.settings.specs.Tells.{Tells}
 use Rattle.settings.specs.Refusals.{Cases, Ends}
 use Rattle.settings.proofs.Answers.{tells-eqb}
+use Rattle.settings.proofs.Endings.{not-taken, not-refused}
 use Rattle.settings.specs.declared.refusals.Refusal.{Refusal}
 use Rattle.settings.specs.declared.refusals.Outcome.the-variants.{Taken, Refused}
 use Rattle.words.specs.Words.{sizes}
@@ -24,13 +25,6 @@ use Rattle.rule_sound.specs.Sound.{Sound}
 use Rattle.rules.specs.Writing.{Writes}
 use Rattle.rules.specs.Reading.{Looks, Compares, Tallies, look-cases, same-cases, tally-cases}
 use Rattle.rules.proofs.Sounding.{sound-pos, sound-wf, sound-root}
-
--- a call is not both
-pub not-taken : {A : Type 0} {x : Refusal} → Refused x ≡ Taken → A
-not-taken e = let z : _≡_ {A = ℕ} 0 1 = cc in absurd (omega arith)
-
-pub not-refused : {A : Type 0} {x : Refusal} → Taken ≡ Refused x → A
-not-refused e = not-taken (sym e)
 
 -- ---- calls that write
 pub write-refused : {l : Cases} {p : ℕ} {g : Rule} {w : List ℕ} {x : Refusal} → Ends l (Refused x) → Writes l p g w w (Refused x)

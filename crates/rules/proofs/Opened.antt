@@ -18,7 +18,7 @@ use Rattle.theory.proofs.Rules.{value-phrase}
 use Rattle.theory.proofs.WellFormed.{wf-empty}
 use Rattle.settings.specs.declared.refusals.Refusal.the-variants.{BadOpening}
 use Rattle.settings.specs.declared.refusals.Outcome.the-variants.{Taken, Refused}
-use Rattle.settings.proofs.Endings.{stop, pass}
+use Rattle.settings.proofs.Endings.{stop, pass, not-taken, not-refused}
 use Rattle.words.specs.Tab.{tab}
 use Rattle.words.specs.Words.{head, word, bound}
 use Rattle.words.proofs.Tab.{split, tab-none, tab-snoc, getD-tab, length-tab}
@@ -26,7 +26,6 @@ use Rattle.words.proofs.Chains.{last-none}
 use Rattle.rule_words.specs.Words.{encode}
 use Rattle.rule_words.specs.Picture.{nodeHash, Shows}
 use Rattle.rules.specs.Opening.{Openable, Opens, Cleared, Sized, Named}
-use Rattle.rules.proofs.Answering.{not-taken, not-refused}
 
 -- the words that the steps of opening leave
 pub named : {S w u w′ : List ℕ} {cap : ℕ} (c n : ℕ) → Openable S cap w → c ≡ cap → n ≡ length S → Cleared (bound cap) w u → Sized S (set (set (set u 0 1) 1 c) 2 n) w′ → Named S cap w w′

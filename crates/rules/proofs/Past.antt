@@ -15,7 +15,7 @@ use Rattle.settings.specs.declared.refusals.Refusal.the-variants.{Damaged}
 use Rattle.settings.specs.declared.refusals.Refusal.{Refusal}
 use Rattle.settings.specs.declared.refusals.Outcome.{Outcome}
 use Rattle.settings.specs.declared.refusals.Outcome.the-variants.{Taken, Refused}
-use Rattle.settings.proofs.Endings.{outcome?, ends-unique}
+use Rattle.settings.proofs.Endings.{outcome?, ends-unique, not-refused}
 use Rattle.words.specs.Words.{head, capacity, count, sizes, bound}
 use Rattle.rule_words.specs.Words.{root, ruleOf, rulesOf}
 use Rattle.rule_sound.specs.Sound.{Sound}
@@ -34,7 +34,7 @@ use Rattle.rules.specs.declared.reading.Tallied.{Tallied}
 use Rattle.rules.specs.declared.reading.Looked.{Looked}
 use Rattle.settings.proofs.Answers.{retell, tells-decided}
 use Rattle.rules.proofs.Sounding.{sound-tally}
-use Rattle.rules.proofs.Answering.{not-refused, roots-agree, agree-roots}
+use Rattle.rules.proofs.Answering.{roots-agree, agree-roots}
 use Rattle.rules.proofs.Theorems.{ended, looks-decided}
 
 -- two slices that hold the same words up to the bound of the first, and are long enough

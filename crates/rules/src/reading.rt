@@ -33,12 +33,14 @@ pub struct Tallied {
     pub count: u32,
 }
 
+// A byte as a word.
 fn small(x: u8) -> u32
     ensures { λ r. ⌜ (r ≡ x) × (r < 256) ⌝ }
 {
     x as u32
 }
 
+// A byte as an index.
 fn index(x: u8) -> usize
     ensures { λ r. ⌜ (r ≡ x) × (r < 256) ⌝ }
 {

@@ -20,6 +20,28 @@ stop p = (λ q. refl, λ n. absurd (n p))
 pub pass : {x : Refusal} {P Rest : Type 0} {o : Outcome} → (P → ⊥) → Rest → (P → o ≡ Refused x) × ((P → ⊥) → Rest)
 pass n e = (λ p. absurd (n p), λ m. e)
 
+-- a call is not both taken and refused
+pub not-taken : {A : Type 0} {x : Refusal} → Refused x ≡ Taken → A
+not-taken e = let z : _≡_ {A = ℕ} 0 1 = cc in absurd (omega arith)
+
+pub not-refused : {A : Type 0} {x : Refusal} → Taken ≡ Refused x → A
+not-refused e = not-taken (sym e)
+
+-- there are twelve refusals
+pub number-most : (x : Refusal) → numberOf x ≤ 12
+number-most Damaged = omega arith
+number-most BadPlace = omega arith
+number-most Newer = omega arith
+number-most BadSheet = omega arith
+number-most OtherFeatures = omega arith
+number-most BadArgument = omega arith
+number-most BadSelector = omega arith
+number-most Range = omega arith
+number-most NoRoom = omega arith
+number-most NoSpace = omega arith
+number-most None = omega arith
+number-most BadOpening = omega arith
+
 -- endings are told apart by their numbers
 endings : List Outcome
 endings =

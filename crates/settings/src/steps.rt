@@ -31,6 +31,7 @@ struct Turned {
     values: [u8; 16],
 }
 
+// A byte as a wider number.
 fn wide(x: u8) -> u32
     ensures { λ r. ⌜ (r ≡ x) × (r < 256) ⌝ }
 {

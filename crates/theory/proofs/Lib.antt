@@ -24,3 +24,4 @@ pub mod Counted
 pub mod Passing
 pub mod Examples
 pub mod First
+pub mod Ways

@@ -1,15 +1,16 @@
 -- The walk as code goes: from a node's own feature, no feature that waits is looked at; branches in turn. Assumes nothing.
-use mathlib.Core.Path.{_≡_, refl, ap, _∙_, subst}
+use mathlib.Core.Path.{_≡_, refl, sym, ap, _∙_, subst}
 use mathlib.Core.Option.{Option, none, some}
 use mathlib.Core.List.{List, [], _∷_, _++_}
 use Prim.Native.Nat.{ℕ, zero, suc, _+_, _-_, _≤_, _<_}
 use native.Mathlib.Nat.{add-zero, le-refl}
 use native.Mathlib.Decide.{ℕ-discrete}
+use native.Mathlib.Numerals.{add-one}
 use native.Mathlib.Omega.{arith}
-use lib.ListN.{length, getD, drop}
+use lib.ListN.{length, getD, drop, drop-of-length-le}
 use lib.Seq.{drop-cons}
 use Rattle.theory.specs.Kind.{Kind}
-use Rattle.theory.specs.Diagrams.{Branch, Node, Target, at, leaf, node}
+use Rattle.theory.specs.Diagrams.{Branch, Node, Target, at, blank, leaf, node}
 use Rattle.theory.specs.WellFormed.{Under, WF}
 use Rattle.theory.specs.Walk.{bind, close, finish, scan, scans, step}
 use Rattle.theory.proofs.Walking.{scan-cons}
@@ -101,3 +102,25 @@ module _ {K : Kind} where
   pub scans-lost : (f : Target K → ℕ → Option ℕ) (bs : List (Branch K)) (b : Branch K) (c : ℕ) → scans f bs c ≡ none → scans f (bs ++ (b ∷ [])) c ≡ none
   unfolding bind
   scans-lost f bs b c e = scans-snoc f bs b c ∙ ap (λ (o : Option ℕ). bind o (f (b .to))) e
+
+  -- the branches from the v-th on: none is left; one that is met; one that is lost
+  pub scans-end : (f : Target K → ℕ → Option ℕ) (bs : List (Branch K)) (v c : ℕ) → length bs ≤ v → scans f (drop v bs) c ≡ some c
+  scans-end f bs v c h = ap (λ (l : List (Branch K)). scans f l c) (drop-of-length-le bs {i = v} h) ∙ scans-nil f c
+
+  scans-next : (f : Target K → ℕ → Option ℕ) (bs : List (Branch K)) (v c : ℕ) → v < length bs → scans f (drop v bs) c ≡ bind (f (getD bs v blank .to) c) (λ d. scans f (drop (v + 1) bs) d)
+  unfolding scans
+  scans-next f bs v c h =
+      ap (λ (l : List (Branch K)). scans f l c) (drop-cons bs v blank h)
+      ∙ ap (λ (u : ℕ). bind (f (getD bs v blank .to) c) (λ d. scans f (drop u bs) d)) (sym (add-one v))
+
+  pub scans-met : (f : Target K → ℕ → Option ℕ) (bs : List (Branch K)) (v c d : ℕ) → v < length bs → f (getD bs v blank .to) c ≡ some d → scans f (drop v bs) c ≡ scans f (drop (v + 1) bs) d
+  unfolding bind
+  scans-met f bs v c d h e = scans-next f bs v c h ∙ ap (λ (o : Option ℕ). bind o (λ x. scans f (drop (v + 1) bs) x)) e
+
+  pub scans-none : (f : Target K → ℕ → Option ℕ) (bs : List (Branch K)) (v c : ℕ) → v < length bs → f (getD bs v blank .to) c ≡ none → scans f (drop v bs) c ≡ none
+  unfolding bind
+  scans-none f bs v c h e = scans-next f bs v c h ∙ ap (λ (o : Option ℕ). bind o (λ x. scans f (drop (v + 1) bs) x)) e
+
+  pub scans-one : (f : Target K → ℕ → Option ℕ) (b : Branch K) (c : ℕ) → scans f (b ∷ []) c ≡ f (b .to) c
+  unfolding scans
+  scans-one f b c = bind-some (f (b .to) c)

@@ -1,3 +1,4 @@
+-- `rule_words::branch_word` meets its contract: a node's word is 65,536 + its index, which fits. Assumes nothing.
 use Rattle.rule_words.specs.Words.{wordOf}
 use native.Mathlib.Omega.{arith}
 use Prim.Native.Nat.{_+_}

@@ -1,3 +1,4 @@
+-- `words::body_of` meets its contract: the words passed stand in the list. Assumes nothing.
 use Rattle.words.specs.Words.{body}
 use Rattle.words.proofs.Tab.{same}
 use lib.Seq.{getD-set-same, getD-set-other}

@@ -1,3 +1,4 @@
+-- `words::hash_at` meets its contract: the body that was read is the record's. Assumes nothing.
 use Rattle.words.proofs.Words.{hash-ext}
 use Rattle.words.specs.Words.{hashOf}
 use lib.ListN.{getD}

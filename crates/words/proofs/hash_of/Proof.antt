@@ -1,3 +1,4 @@
+-- `words::hash_of` meets its contract: the hash of the words passed, below 2^32. Assumes nothing.
 use Rattle.words.specs.Words.{listed, hashTo, hashOf}
 use Prim.Native.Nat.{_/_}
 use native.Mathlib.Nat.{mod-lt}

@@ -1,3 +1,4 @@
+-- `words::head_word` meets its contract: it reads the word. Assumes nothing.
 use Rattle.words.specs.Words.{head}
 use mathlib.Core.Path.{refl}
 use borrow.Author.Needs.{needs}

@@ -1,3 +1,4 @@
+-- `words::record_word` meets its contract: it reads the word. Assumes nothing.
 use Rattle.words.specs.Words.{word}
 use mathlib.Core.Path.{refl}
 use borrow.Author.Needs.{needs}

@@ -2,11 +2,11 @@
 use Rattle.operations.proofs.Bits.{literal-answered, shift-none, shift-some}
 use Rattle.operations.proofs.Settling.{write-pass}
 use Rattle.rules.proofs.Sounding.{sound-long}
-use Rattle.rules.proofs.Answering.{not-taken, write-refused}
+use Rattle.settings.proofs.Endings.{not-taken, stop, pass}
+use Rattle.rules.proofs.Answering.{write-refused}
 use Rattle.rule_sound.specs.Sound.{Sound}
 use Rattle.settings.specs.declared.refusals.Outcome.the-variants.{Refused}
 use Rattle.settings.specs.declared.refusals.Refusal.the-variants.{Damaged, BadPlace, BadArgument}
-use Rattle.settings.proofs.Endings.{stop, pass}
 use Rattle.settings.proofs.Answers.{denied, granted}
 use Rattle.words.specs.Words.{size}
 use mathlib.Core.Logic.{inl, inr, ⊎-elim}

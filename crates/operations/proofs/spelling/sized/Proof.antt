@@ -1,5 +1,5 @@
 -- `operations::spelling::sized` meets its contract: by cases of the ending. Assumes nothing.
-use Rattle.rules.proofs.Answering.{not-taken, not-refused}
+use Rattle.settings.proofs.Endings.{not-taken, not-refused}
 use mathlib.Core.Path.{refl, sym, _∙_}
 use borrow.Author.Needs.{needs}
 use Rattle.operations.proofs.spelling.sized.Statement.{statement}

@@ -1,0 +1,63 @@
+-- `sheets::looking::find` meets its contract: the branch word stands on the way of the setting, and falls. Assumes nothing.
+use mathlib.Core.Path.{_∙_}
+use native.Mathlib.Omega.{arith}
+use Rattle.sheets.proofs.Finding.{Way, find-start, find-end, find-node, find-feature, find-value, find-on, find-less}
+use borrow.Author.Needs.{needs}
+use Rattle.sheets.proofs.looking.find.Statement.{statement}
+use Rattle.sheets.proofs.looking.find.Tie as tie
+
+abbrev Inv-loop : tie.InvT-loop
+Inv-loop s at t b₀ b = Way s t b
+
+abbrev μ-loop : tie.MeasureT-loop
+μ-loop s at t b₀ b = b
+
+root-of-requires : tie.Need-root-of-requires Inv-loop μ-loop
+root-of-requires c κs = (c .before .before) .pre .0 .laid .lie
+
+loop-holds : tie.Need-loop-holds Inv-loop μ-loop
+loop-holds c = find-start ((c .before .before .before) .pre .0 .good) ((c .before .before .before) .args .t .now) ((c .root-of) .result) ((c .root-of) .ensures .0)
+
+feature-at-requires : tie.Need-feature-at-requires Inv-loop μ-loop
+feature-at-requires c κs = let a = (c .before .before .before .before .before) in let l = (c .before .loop) in (a .pre .0 .laid, find-node (a .pre .0 .good) (a .args .t .now) (a .pre .1) (l .b) (omega arith) (l .inv))
+
+shared-slice-read-wide : tie.Need-shared-slice-read-wide Inv-loop μ-loop
+shared-slice-read-wide c = let a = (c .before .before .before .before .before .before .before) in let l = (c .before .before .before .loop) in find-feature (a .pre .0 .good) (a .args .t .now) (a .pre .1) (l .b) (omega arith) (l .inv) ((c .before .feature-at) .result) ((c .before .feature-at) .ensures .0)
+
+wide-requires : tie.Need-wide-requires Inv-loop μ-loop
+wide-requires c κs = search needs
+
+branch-at-requires : tie.Need-branch-at-requires Inv-loop μ-loop
+branch-at-requires c κs = let a = (c .before .before .before .before .before .before .before .before) in let l = (c .before .before .before .before .loop) in
+    (a .pre .0 .laid, find-node (a .pre .0 .good) (a .args .t .now) (a .pre .1) (l .b) (omega arith) (l .inv), find-value (a .pre .0 .good) (a .args .t .now) (a .pre .1) (l .b) (omega arith) (l .inv) ((c .before .before .feature-at) .result) ((c .before .before .feature-at) .ensures .0) ((c .wide) .result) ((c .wide) .ensures .0))
+
+loop-less : tie.Need-loop-less Inv-loop μ-loop
+loop-less c = let a = (c .before .before .before .before .before .before .before .before .before) in let l = (c .before .before .before .before .before .loop) in
+    find-less (a .pre .0 .good) (a .args .t .now) (a .pre .1) (l .b) (omega arith) (l .inv) ((c .before .before .before .feature-at) .result) ((c .before .before .before .feature-at) .ensures .0) ((c .before .wide) .result) ((c .before .wide) .ensures .0) ((c .branch-at) .result) ((c .branch-at) .ensures .0)
+
+loop-again : tie.Need-loop-again Inv-loop μ-loop
+loop-again c = let a = (c .before .before .before .before .before .before .before .before .before) in let l = (c .before .before .before .before .before .loop) in
+    find-on (a .pre .0 .good) (a .args .t .now) (a .pre .1) (l .b) (omega arith) (l .inv) ((c .before .before .before .feature-at) .result) ((c .before .before .before .feature-at) .ensures .0) ((c .before .wide) .result) ((c .before .wide) .ensures .0) ((c .branch-at) .result) ((c .branch-at) .ensures .0)
+
+narrow-requires : tie.Need-narrow-requires Inv-loop μ-loop
+narrow-requires c κs = search needs
+
+returns : tie.Need-returns Inv-loop μ-loop
+returns c = let l = (c .before .before .loop) in (c .narrow) .ensures ∙ find-end ((c .before .before .before .before .before .before) .pre .0 .good) ((c .before .before .before .before .before .before) .args .t .now) (l .b) (omega arith) (l .inv)
+
+pub find-spec : {M : Type 1} → statement M
+find-spec =
+    tie.close
+    (tie.spec
+    Inv-loop
+    μ-loop
+    root-of-requires
+    loop-holds
+    feature-at-requires
+    shared-slice-read-wide
+    wide-requires
+    branch-at-requires
+    loop-less
+    loop-again
+    narrow-requires
+    returns)
