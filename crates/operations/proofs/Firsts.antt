@@ -1,12 +1,11 @@
 -- The promise of next is met at each return, and decides the whole answer. Assumes nothing.
 use mathlib.Core.Path.{_≡_, refl, sym, ap, subst, _∙_}
-use mathlib.Core.Bool.{Bool, true, false}
-use mathlib.Core.Logic.{_⊎_, inl, inr, ⊎-elim}
-use mathlib.Core.List.{List, []}
+use mathlib.Core.Bool.{true, false}
+use mathlib.Core.Logic.{_⊎_, ⊎-elim}
+use mathlib.Core.List.{List}
 use Prim.Native.Nat.{ℕ, _≤_, _<_}
 use native.Mathlib.Omega.{arith}
 use Rattle.theory.specs.Settings.{Valid}
-use Rattle.theory.specs.First.{FirstFrom, NoneFrom}
 use Rattle.theory.proofs.First.{first-unique, first-or-none}
 use Rattle.settings.specs.Step.{settingOf}
 use Rattle.settings.specs.Refusals.{Ends}
