@@ -1,6 +1,6 @@
 -- The laws of the memory: what is remembered stays right while the table grows, a hit is what `build` gives, and a result may be remembered. Assumes nothing.
 use mathlib.Core.Bool.{Bool, true}
-use mathlib.Core.Path.{_≡_, refl, sym, ap, ap₂, subst, _∙_}
+use mathlib.Core.Path.{_≡_, refl, sym, ap, subst, _∙_}
 use mathlib.Core.Logic.{inl, inr, ⊎-elim}
 use mathlib.Core.List.{List}
 use Prim.Native.Nat.{ℕ, _+_, _*_, _≤_, _<_}
@@ -8,27 +8,22 @@ use native.Mathlib.Omega.{arith}
 use lib.ListN.{length, getD, drop, set, length-set}
 use lib.Seq.{getD-drop, getD-set-same, getD-set-other}
 use Rattle.theory.specs.Build.{Ext}
-use Rattle.theory.specs.Diagrams.{value}
-use Rattle.theory.specs.Rules.{Branch, Node, says, number}
+use Rattle.theory.specs.Rules.{says, number}
 use Rattle.theory.specs.Settings.{Valid}
-use Rattle.theory.proofs.Canonical.{canonical}
 use Rattle.theory.proofs.Growing.{make-grows}
-use Rattle.theory.proofs.Lists.{pos-drop}
-use Rattle.theory.proofs.Meaning.{Right, build-right}
 use Rattle.theory.proofs.Rules.{numbers}
 use Rattle.theory.proofs.Values.{value-ext}
 use Rattle.theory.proofs.WellFormed.{ok-ext}
-use Rattle.words.specs.Holding.{built as builtOf}
 use Rattle.words.specs.Words.{size, sizes, listed}
 use Rattle.words.proofs.Filling.{grown-nodes}
 use Rattle.words.proofs.Tab.{split, same, tab-ext}
 use Rattle.words.proofs.Words.{kept-sizes}
 use Rattle.rule_words.specs.Words.{decode, branches, nodes}
-use Rattle.rule_nodes.specs.Nodes.{Holds, Makes, Result, built, Good}
+use Rattle.rule_nodes.specs.Nodes.{Holds, Makes, Result, Good}
 use Rattle.rule_nodes.specs.declared.Answer.{Answer}
 use Rattle.rule_nodes.specs.declared.Answer.the-variants.{Is}
 use Rattle.rule_nodes.proofs.Reading.{lawful}
-use Rattle.rule_nodes.proofs.Filling.{gives-is, result-there, result-ext}
+use Rattle.rule_nodes.proofs.Filling.{gives-is, result-ext, result-mean, mean-result}
 use Rattle.engine.specs.Operators.{opOf}
 use Rattle.engine.specs.Joint.{spread, joint, Operands}
 use Rattle.engine.specs.Memory.{Recalled, Remembers, Entry, Recalls, Stored, Still, StillIf, Empty}
@@ -67,28 +62,18 @@ recalled-more w t o f n k l x ok z e c = record {
 
 -- it is what `build` gives
 recalled-result : (w : List ℕ) (o f n k : ℕ) (l : List ℕ) (x : ℕ) → Holds w → Recalled w o f n k l x → Result w w k (joint w o f n k l) (Is x)
-unfolding builtOf
-recalled-result w o f n k l x ok c =
-    result-there w k x (joint w o f n k l) ok
-    (canonical (sizes w) k (drop k (sizes w)) refl (pos-drop k (sizes w) (lawful .positive w (ok .laid))) (nodes w) (ok .wf) (decode x) (joint w o f n k l)
-    (record { ok = c .good; says = c .says }))
+recalled-result w o f n k l x ok c = mean-result w k (joint w o f n k l) x ok (record { ok = c .good; says = c .says })
 
 -- what `build` gave may be remembered
 pub result-recalled : (w t : List ℕ) (o f n k x : ℕ) (l : List ℕ) → Operands w f n k l → Result w t k (joint w o f n k l) (Is x) → Recalled t o f n k l x
-unfolding builtOf
 result-recalled w t o f n k x l p r =
-    let g = joint w o f n k l in
-    let q : nodes t ≡ built w k g .1 = grown-nodes lawful w t (built w k g .1) (r .grown) (r .answers .1) in
     let z : sizes t ≡ sizes w = kept-sizes w t (r .grown .kept) (p .holds .laid .laid .few) in
-    let e : Ext (nodes w) (nodes t) = result-ext w t k g (Is x) (p .holds) r in
-    let y : Right (sizes w) k (drop k (sizes w)) g (nodes w) (built w k g) = build-right (sizes w) k (drop k (sizes w)) refl g (nodes w) (p .holds .wf) in
+    let e : Ext (nodes w) (nodes t) = result-ext w t k (joint w o f n k l) (Is x) (p .holds) r in
+    let y = result-mean w t k (joint w o f n k l) x (p .holds) r in
     record {
       each = λ j h. ok-ext (nodes w) (nodes t) k (decode (listed l j)) e (p .each j h);
-      good = rw (q, r .answers .0) (y .mean .ok);
-      says = λ s v.
-          ap₂ (λ (N : List Node) (b : Branch). value N k b s) q (r .answers .0)
-          ∙ y .mean .says s (subst (λ (S : List ℕ). Valid (drop k S) s) z v)
-          ∙ sym (joint-more w t o f n k l (p .holds) e (p .each) s);
+      good = y .ok;
+      says = λ s v. y .says s (subst (λ (S : List ℕ). Valid (drop k S) s) z v) ∙ sym (joint-more w t o f n k l (p .holds) e (p .each) s);
     }
 
 -- ---- the memory

@@ -1,4 +1,3 @@
-pub mod Settling
 pub mod Operands
 pub mod Bits
 pub mod Theorems

@@ -22,7 +22,7 @@ use Rattle.engine.specs.Joint.{joint, Operands}
 use Rattle.engine.proofs.Applying.{joint-apply, joint-case, joint-forgotten}
 use Rattle.rules.proofs.Sounding.{sound-root}
 use Rattle.operations.specs.Joining.{applied, chosen, without, Places, Lined}
-use Rattle.operations.proofs.Settling.{sound-holds}
+use Rattle.settling.proofs.Settling.{sound-holds}
 
 -- the number that the branch word b gives a setting
 abbrev said : List ℕ → List ℕ → ℕ → ℕ

@@ -18,7 +18,7 @@ use Rattle.settings.proofs.Endings.{ends-unique, not-taken}
 use Rattle.rule_words.specs.Words.{ruleOf}
 use Rattle.rules.specs.Writing.{Writes}
 use Rattle.rules.proofs.Theorems.{writes-decided}
-use Rattle.operations.specs.Settling.{Exceeds}
+use Rattle.settling.specs.Settling.{Exceeds}
 use Rattle.operations.specs.Joining.{applied, apply-cases, chosen, case-cases, without, forget-cases}
 use Rattle.operations.specs.Restricting.{restrict-cases}
 use Rattle.operations.specs.Literal.{literalOf, literal-cases, Literals}

@@ -15,7 +15,7 @@ use Rattle.rule_words.specs.Words.{root, ruleOf}
 use Rattle.rule_sound.specs.Sound.{Sound}
 use Rattle.engine.specs.Operators.{pairOf, caseOf, forgottenOf}
 use Rattle.rules.specs.Writing.{Writes}
-use Rattle.operations.specs.Settling.{Exceeds}
+use Rattle.settling.specs.Settling.{Exceeds}
 
 -- ---- APPLY: the operator x of the numbers of places a and b, into place p
 abbrev pub applied : ℕ → ℕ → ℕ → List ℕ → Rule

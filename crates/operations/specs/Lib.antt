@@ -1,4 +1,3 @@
-pub mod Settling
 pub mod Joining
 pub mod Restricting
 pub mod Literal

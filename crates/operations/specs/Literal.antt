@@ -14,7 +14,7 @@ use Rattle.settings.specs.declared.refusals.Outcome.the-variants.{Taken, Refuse
 use Rattle.words.specs.Words.{features, size, listed}
 use Rattle.rule_sound.specs.Sound.{Sound}
 use Rattle.rules.specs.Writing.{Writes}
-use Rattle.operations.specs.Settling.{Exceeds}
+use Rattle.settling.specs.Settling.{Exceeds}
 use Rattle.operations.specs.declared.spelling.Made.{Made}
 
 -- bit v of x: 1 where the value v is in the set x, else 0

@@ -10,7 +10,7 @@ use Rattle.words.specs.Words.{features, size}
 use Rattle.rule_words.specs.Words.{ruleOf}
 use Rattle.rule_sound.specs.Sound.{Sound}
 use Rattle.rules.specs.Writing.{Writes}
-use Rattle.operations.specs.Settling.{Exceeds}
+use Rattle.settling.specs.Settling.{Exceeds}
 
 -- RESTRICT: the rule of place q with feature f held at the value x, into place p
 abbrev pub restrict-cases : ℕ → ℕ → ℕ → ℕ → List ℕ → Cases

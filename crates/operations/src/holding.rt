@@ -1,10 +1,10 @@
 // Restrict: a feature held at a value.
-use crate::ending::settle;
 use rule_restrict::held;
 use rule_sound::sound;
 use rule_words::root_word;
 use settings::Outcome;
 use settings::Refusal;
+use settling::settle;
 use words::head_word;
 use words::wide;
 ghost use Prim.Native.Nat.{_<_};
@@ -12,7 +12,7 @@ ghost use Rattle.theory.specs.Operations.{restricted};
 ghost use Rattle.words.specs.Words.{features, size};
 ghost use Rattle.rule_words.specs.Words.{ruleOf};
 ghost use Rattle.rule_sound.specs.Sound.{Sound};
-ghost use Rattle.operations.specs.Settling.{Puts};
+ghost use Rattle.settling.specs.Settling.{Puts};
 ghost use Rattle.operations.specs.Restricting.{Restricts};
 
 // The restricted rule becomes the rule of the place.

@@ -1,11 +1,11 @@
 // Apply, CASE and forget: calls whose rule is the joint rule of several operands.
-use crate::ending::settle;
 use engine::join;
 use rule_count::reaches;
 use rule_sound::sound;
 use rule_words::root_word;
 use settings::Outcome;
 use settings::Refusal;
+use settling::settle;
 use words::head_word;
 use words::wide;
 ghost use Prim.Native.Nat.{_≤_, _<_};
@@ -13,7 +13,7 @@ ghost use lib.ListN.{length};
 ghost use Rattle.settings.specs.Tells.{Tells};
 ghost use Rattle.rule_sound.specs.Sound.{Sound};
 ghost use Rattle.engine.specs.Joint.{Operands, joint};
-ghost use Rattle.operations.specs.Settling.{Puts};
+ghost use Rattle.settling.specs.Settling.{Puts};
 ghost use Rattle.operations.specs.Joining.{Operates, Chooses, Forgets, Places, Lined};
 
 // The joint rule of the first n operands becomes the rule of the place.

@@ -1,6 +1,5 @@
 // The operations of the rule table: literal, CASE, apply, restrict, forget, count, next.
 mod counting; // counting.rt: count
-mod ending; // ending.rt: the end of every call that builds
 mod holding; // holding.rt: restrict
 mod joining; // joining.rt: apply, CASE, forget
 mod meeting; // meeting.rt: next

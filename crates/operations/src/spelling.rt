@@ -1,15 +1,15 @@
 // Literal: 1 where a feature's value is in a set, else 0.
-use crate::ending::settle;
 use rule_nodes::make;
 use rule_sound::sound;
 use settings::Outcome;
 use settings::Refusal;
+use settling::settle;
 use words::head_word;
 use words::wide;
 ghost use Prim.Native.Nat.{_^_, _≤_, _<_};
 ghost use Rattle.words.specs.Words.{features, size};
 ghost use Rattle.rule_sound.specs.Sound.{Sound};
-ghost use Rattle.operations.specs.Settling.{Puts};
+ghost use Rattle.settling.specs.Settling.{Puts};
 ghost use Rattle.operations.specs.Literal.{Literals, Spelled, Sized, literalOf};
 
 // What a literal gives: how many values its set has.

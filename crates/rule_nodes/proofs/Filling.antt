@@ -1,8 +1,8 @@
 -- The laws of a result built branch by branch (those of every kind), for the list of words that the code fills. Assumes nothing.
 use mathlib.Core.Bool.{Bool, true, false}
-use mathlib.Core.Path.{_≡_, sym, ap, ap₂, subst, _∙_}
+use mathlib.Core.Path.{_≡_, refl, sym, ap, ap₂, subst, _∙_}
 use mathlib.Core.List.{List, [], _∷_, _++_}
-use Prim.Native.Nat.{ℕ, suc, _+_, _<_}
+use Prim.Native.Nat.{ℕ, zero, suc, _+_, _≤_, _<_}
 use native.Mathlib.Numerals.{add-one}
 use native.Mathlib.Omega.{arith}
 use lib.ListN.{length, getD, drop, set, length-set}
@@ -11,8 +11,10 @@ use Rattle.theory.specs.Build.{make, Ext}
 use Rattle.theory.specs.Diagrams.{blank, value}
 use Rattle.theory.specs.Functions.{Agree, held}
 use Rattle.theory.specs.Rules.{Branch, Rule, Built}
-use Rattle.theory.specs.WellFormed.{Ok}
-use Rattle.theory.proofs.Canonical.{build-agree}
+use Rattle.theory.specs.WellFormed.{Mean, Ok}
+use Rattle.theory.proofs.Canonical.{build-agree, canonical}
+use Rattle.theory.proofs.Lists.{pos-drop}
+use Rattle.theory.proofs.Meaning.{Right, build-right}
 use Rattle.words.specs.Holding as H
 use Rattle.words.specs.Holding.{built as builtOf}
 use Rattle.words.specs.Words.{features, size, sizes, listed}
@@ -69,6 +71,29 @@ built-skip w k g h ok hk e = F.built-skip lawful w k g h ok (omega (arith, lengt
 -- a branch that means the rule is what is built
 pub built-there : (w : List ℕ) (k x : ℕ) (g : Rule) → Holds w → Good w k x → ((s : List ℕ) → value (nodes w) k (decode x) s ≡ g s) → built w k g ≡ (decode x, nodes w)
 built-there w k x g ok o e = F.built-there lawful w k (decode x) g ok o e
+
+-- rules that skip the features below k are built from k on
+pub built-jump : (w : List ℕ) (k : ℕ) (G : ℕ → Rule) → Holds w → k ≤ features w → ((j : ℕ) → j < k → (v : ℕ) (s : List ℕ) → G j (v ∷ s) ≡ G (suc j) s) → built w 0 (G 0) ≡ built w k (G k)
+built-jump w zero G ok h e = refl
+built-jump w (suc k) G ok h e =
+    built-jump w k G ok (omega arith) (λ j l. e j (omega arith)) ∙ built-skip w k (G k) (G (suc k)) ok (omega arith) (λ v l s. e k (omega arith) v s)
+    ∙ ap (λ (j : ℕ). built w j (G (suc k))) (add-one k)
+
+-- ---- results remembered
+-- what a result tells may be remembered
+pub result-mean : (w t : List ℕ) (k : ℕ) (g : Rule) (x : ℕ) → Holds w → Result w t k g (Is x) → Mean (nodes t) k (drop k (sizes w)) (decode x) g
+unfolding builtOf
+result-mean w t k g x ok r =
+    let q : Right (sizes w) k (drop k (sizes w)) g (nodes w) (built w k g) = build-right (sizes w) k (drop k (sizes w)) refl g (nodes w) (ok .wf) in
+    let n : nodes t ≡ built w k g .1 = F.grown-nodes lawful w t (built w k g .1) (r .grown) (r .answers .1) in
+    rw (n, r .answers .0) (q .mean)
+
+-- and what is remembered is the result
+pub mean-result : (w : List ℕ) (k : ℕ) (g : Rule) (x : ℕ) → Holds w → Mean (nodes w) k (drop k (sizes w)) (decode x) g → Result w w k g (Is x)
+unfolding builtOf
+mean-result w k g x ok m =
+    result-there w k x g ok
+    (canonical (sizes w) k (drop k (sizes w)) refl (pos-drop k (sizes w) (lawful .positive w (ok .laid))) (nodes w) (ok .wf) (decode x) g m)
 
 -- ---- branch by branch
 module _ (w : List ℕ) (k : ℕ) (g : Rule) (ok : Holds w) (hk : k < features w) where

@@ -1,7 +1,7 @@
 -- The laws of restrict on a table: features that the branch does not test are passed over, the held feature's branch is taken, any other feature is built branch by branch. Assumes nothing.
 use mathlib.Core.Path.{_≡_, refl, sym, ap, _∙_}
 use mathlib.Core.List.{List}
-use Prim.Native.Nat.{ℕ, zero, suc, _+_, _-_, _≤_, _<_}
+use Prim.Native.Nat.{ℕ, suc, _+_, _-_, _≤_, _<_}
 use native.Mathlib.Nat.{le-refl}
 use native.Mathlib.Numerals.{add-one}
 use native.Mathlib.Omega.{arith}
@@ -10,21 +10,16 @@ use Rattle.theory.specs.Build.{Ext}
 use Rattle.theory.specs.Diagrams.{meaning, next, value}
 use Rattle.theory.specs.Functions.{held}
 use Rattle.theory.specs.Operations.{restricted}
-use Rattle.theory.specs.Rules.{Rule}
-use Rattle.theory.specs.WellFormed.{Mean, Ok}
-use Rattle.theory.proofs.Canonical.{canonical}
-use Rattle.theory.proofs.Meaning.{Right, build-right}
+use Rattle.theory.specs.WellFormed.{Ok}
 use Rattle.theory.proofs.Values.{next-ok, value-next, value-wait, value-ext, next-ext}
 use Rattle.theory.proofs.WellFormed.{under-weaken}
-use Rattle.words.specs.Holding as H
 use Rattle.words.specs.Words.{features, sizes}
-use Rattle.words.proofs.Filling.{grown-nodes}
 use Rattle.rule_words.specs.Words.{decode, nodes}
 use Rattle.rule_nodes.specs.Nodes.{Holds, Result, built, Good, Place, top}
 use Rattle.rule_nodes.specs.declared.Answer.{Answer}
 use Rattle.rule_nodes.specs.declared.Answer.the-variants.{Is}
-use Rattle.rule_nodes.proofs.Filling.{gives-eq, result-there, built-skip, built-there}
-use Rattle.rule_nodes.proofs.Reading.{lawful, good-small}
+use Rattle.rule_nodes.proofs.Filling.{gives-eq, result-there, built-skip, built-jump, built-there}
+use Rattle.rule_nodes.proofs.Reading.{good-small}
 use Rattle.rule_nodes.proofs.Stepping.{top-good, good-next}
 use Rattle.rule_restrict.specs.Restrict.{restr}
 
@@ -34,12 +29,12 @@ restr-whole w b f x = ap (λ (j : ℕ). restricted j x (meaning (nodes w) (decod
 
 -- a result from feature 0 on is one from any feature up to which the branch tests nothing
 pub jump : (w : List ℕ) (b f x k : ℕ) → Holds w → f < features w → k ≤ f → Good w k b → built w 0 (restr w 0 b f x) ≡ built w k (restr w k b f x)
-jump w b f x zero ok hf h g = refl
-jump w b f x (suc k) ok hf h g =
-    let z : f - k ≡ suc (f - suc k) = omega arith in
-    jump w b f x k ok hf (omega arith) (under-weaken (nodes w) (length (nodes w)) (length (nodes w)) (suc k) k (decode b .to) (le-refl _) (omega arith) g)
-    ∙ built-skip w k (restr w k b f x) (restr w (suc k) b f x) ok (omega arith) (λ v l s. rw z (value-wait (nodes w) k (decode b) v (set s (f - suc k) x) g))
-    ∙ ap (λ (j : ℕ). built w j (restr w (suc k) b f x)) (add-one k)
+jump w b f x k ok hf h g =
+    built-jump w k (λ j. restr w j b f x) ok (omega arith)
+    (λ j l v s.
+    let z : f - j ≡ suc (f - suc j) = omega arith in
+    rw z
+    (value-wait (nodes w) j (decode b) v (set s (f - suc j) x) (under-weaken (nodes w) (length (nodes w)) (length (nodes w)) k (suc j) (decode b .to) (le-refl _) (omega arith) g)))
 
 module _ (w : List ℕ) (b f x : ℕ) (p : Place w 0 b) (hf : f < features w) where
   good-at : (k : ℕ) → k ≤ top w b → Good w k b
@@ -76,17 +71,3 @@ module _ (w : List ℕ) (b f x : ℕ) (p : Place w 0 b) (hf : f < features w) wh
 -- the result of a branch of feature k, from k + 1 on
 pub restr-next : (w t : List ℕ) (k c f x : ℕ) (a : Answer) → Place w (k + 1) c → f < features w → k < f → Result w t 0 (restr w 0 c f x) a → Result w t (k + 1) (restr w (k + 1) c f x) a
 restr-next w t k c f x a p hf lt r = gives-eq (sym (jump w c f x (k + 1) (p .holds) hf (omega arith) (p .good))) r
-
--- ---- results remembered
--- what a result tells may be remembered
-pub result-mean : (w t : List ℕ) (g : Rule) (x : ℕ) → Holds w → Result w t 0 g (Is x) → Mean (nodes t) 0 (sizes w) (decode x) g
-unfolding H.built
-result-mean w t g x ok r =
-    let q : Right (sizes w) 0 (sizes w) g (nodes w) (built w 0 g) = build-right (sizes w) 0 (sizes w) refl g (nodes w) (ok .wf) in
-    let n : nodes t ≡ built w 0 g .1 = grown-nodes lawful w t (built w 0 g .1) (r .grown) (r .answers .1) in
-    rw (n, r .answers .0) (q .mean)
-
--- and what is remembered is the result
-pub mean-result : (w : List ℕ) (g : Rule) (x : ℕ) → Holds w → Mean (nodes w) 0 (sizes w) (decode x) g → Result w w 0 g (Is x)
-unfolding H.built
-mean-result w g x ok m = result-there w 0 x g ok (canonical (sizes w) 0 (sizes w) refl (lawful .positive w (ok .laid)) (nodes w) (ok .wf) (decode x) g m)

@@ -19,14 +19,14 @@ use Rattle.rule_words.proofs.Reading.{length-nodes}
 use Rattle.rule_nodes.specs.Nodes.{Holds, Result, Makes, Listed, Place, Filling, top}
 use Rattle.rule_nodes.specs.declared.Answer.{Answer}
 use Rattle.rule_nodes.specs.declared.Answer.the-variants.{Is, NoRoom}
-use Rattle.rule_nodes.proofs.Filling.{fill-start, fill-more, fill-stop, stop-result, fill-listed, fill-make, filling-ext, filling-place, result-ext}
+use Rattle.rule_nodes.proofs.Filling.{fill-start, fill-more, fill-stop, stop-result, fill-listed, fill-make, filling-ext, filling-place, result-ext, result-mean, mean-result}
 use Rattle.rule_nodes.proofs.Reading.{lawful, good-small}
 use Rattle.rule_nodes.proofs.Stepping.{is-node, good-top, top-good, place-next}
 use Rattle.rule_restrict.specs.Notes.{Roomy, note, noteAt, Only, plain}
 use Rattle.rule_restrict.specs.Restrict.{restr, Holding, Noted, Walks, Walked}
 use Rattle.rule_restrict.proofs.Plain.{plain-like, length-plain, plain-of, like-sym, like-head, like-holds, like-nodes, like-top, like-place, like-listed, plain-makes}
 use Rattle.rule_restrict.proofs.Noting.{put-plain, noted-none, noted-put, noted-grown}
-use Rattle.rule_restrict.proofs.Restricting.{place-at, restr-here, restr-held, restr-from, restr-next, result-mean, mean-result}
+use Rattle.rule_restrict.proofs.Restricting.{place-at, restr-here, restr-held, restr-from, restr-next}
 
 -- the header without notes is the header
 plain-features : (w : List ℕ) → features (plain w) ≡ features w
@@ -110,7 +110,7 @@ module _ (w : List ℕ) (b f x : ℕ) (q : Walks w b f x) where
     walked-known c d h =
         let m = q .noted .right i in-use (omega arith) in
         let m′ : Mean (nodes P) 0 (sizes P) (decode (c - 1)) (restr P 0 (65536 + i) f x) = rw d m in
-        record { result = mean-result P (restr P 0 b f x) (c - 1) okP (rw whose at m′); noted = q .noted }
+        record { result = mean-result P 0 (restr P 0 b f x) (c - 1) okP (rw whose at m′); noted = q .noted }
 
     pub loop-start : (l : List ℕ) → length l ≡ 12 → ((u : ℕ) → u < 12 → listed l u ≡ 0) → Filling P P k g 0 l
     loop-start = fill-start P k g okP hk
@@ -229,7 +229,7 @@ module _ (w : List ℕ) (b f x : ℕ) (q : Walks w b f x) where
     meant : Mean (nodes (plain t)) 0 (sizes (plain t)) (decode r) (restr P 0 b f x)
     meant =
         let s = kept-sizes P (plain t) (y .result .grown .kept) (okP .laid .laid .few) in
-        rw s (result-mean P (plain t) (restr P 0 b f x) r okP (y .result))
+        rw s (result-mean P (plain t) 0 (restr P 0 b f x) r okP (y .result))
 
     pub walked-small : r < 131072
     walked-small = omega (arith, good-small (plain t) 0 r (meant .ok), okt .laid .laid .within, okt .laid .laid .most)

@@ -45,9 +45,12 @@ ended (Refused x) f g = g x refl
 pub opened-sound : {S : List ℕ} {cap : ℕ} {w w′ : List ℕ} → Opens S cap w w′ Taken → Sound w′
 opened-sound o = picture-sound (o .proper refl) (o .pictures refl)
 
+pub becomes-sound : {p : ℕ} {g : Rule} {w w′ : List ℕ} → Becomes p g w w′ → Sound w′
+becomes-sound b = picture-sound (b .proper) (b .pictures)
+
 pub writes-sound : {l : Cases} {p : ℕ} {g : Rule} {w w′ : List ℕ} {o : Outcome} → Sound w → Writes l p g w w′ o → Sound w′
 writes-sound {o = o} s r =
-    ended o (λ e. let b = r .becomes e in picture-sound (b .proper) (b .pictures)) (λ x e. subst Sound (sym (r .refused x e)) s)
+    ended o (λ e. becomes-sound (r .becomes e)) (λ x e. subst Sound (sym (r .refused x e)) s)
 
 -- ---- ONE PLACE: a call gives the place that it writes its rule, and keeps the rule of every other
 module _ {p : ℕ} {g : Rule} {w w′ : List ℕ} (b : Becomes p g w w′) where
@@ -73,7 +76,7 @@ same-table w u s t ec es a =
     (λ p h. let hp : p < 32 = omega (arith, length-rules w) in λ x v. ap (λ (f : Rule). f x) (at-rules w p hp) ∙ a p hp x v ∙ ap (λ (f : Rule). f x) (sym (at-rules u p hp)))
 
 -- ---- DECIDED: two outcomes that meet a promise are the same
-becomes-one : {p : ℕ} {g : Rule} {w u v : List ℕ} → Becomes p g w u → Becomes p g w v → u ≡ v
+pub becomes-one : {p : ℕ} {g : Rule} {w u v : List ℕ} → Becomes p g w u → Becomes p g w v → u ≡ v
 becomes-one {p} {g} {w} {u} {v} a b =
     ext-getD 0 u v (a .long ∙ sym (b .long))
     (λ j h. ⊎-elim

@@ -18,17 +18,17 @@ use Rattle.sheets.specs.Lookup.{SettingOf, setting-cases, Looks, returne
 use Rattle.sheets.specs.declared.looking.Looked.{Looked}
 use Rattle.sheets.proofs.Reading.{sheet-sizes, sheet-says, written-good}
 use Rattle.sheets.proofs.Sections.{Bytes}
-use Rattle.sheets.proofs.Writing.{good-written}
+use Rattle.sheets.proofs.Writing.{good-sheet, good-written}
 
 -- ---- the check
 pub check-newer : {s at : List ℕ} → NewerSheet s → Checks s at (Refused Newer)
-check-newer n = record { ends = stop n; ready = not-taken }
+check-newer n = record { ends = stop n; ready = not-taken; sheet = not-taken }
 
 pub check-bad : {s at : List ℕ} → (NewerSheet s → ⊥) → (Good s → ⊥) → Checks s at (Refused BadSheet)
-check-bad n b = record { ends = pass n (stop (λ w. b (written-good w))); ready = not-taken }
+check-bad n b = record { ends = pass n (stop (λ w. b (written-good w))); ready = not-taken; sheet = not-taken }
 
 pub check-good : {s at : List ℕ} → (NewerSheet s → ⊥) → Bytes s → Ready s at → Checks s at Taken
-check-good n B r = record { ends = pass n (pass (λ w. w (good-written (r .good) B)) refl); ready = λ e. r }
+check-good n B r = record { ends = pass n (pass (λ w. w (good-written (r .good) B)) refl); ready = λ e. r; sheet = λ e. good-sheet (r .good) B }
 
 -- a refusal of the check is one of every reader, whatever else it refuses
 pub refused-sheet : (s : List ℕ) (rest : Cases) (x : Refusal) → Ends (sheet-cases s taken) (Refused x) → Ends (sheet-cases s rest) (Refused x)

@@ -43,7 +43,8 @@ branches-rest s (b ∷ bs) q r e =
     each h t zero l = ap (word s) (let z : q + 3 * 0 ≡ q = omega arith in z) ∙ h
     each h t (suc v) l = ap (word s) (let z : q + 3 * suc v ≡ q + 3 + 3 * v = omega arith in z) ∙ t v (le-of-suc-le-suc l)
 
-three : (t : Target rules) → length (targetBytes t) ≡ 3
+-- a branch has three bytes
+pub three : (t : Target rules) → length (targetBytes t) ≡ 3
 unfolding targetBytes two
 three (D.leaf p) = refl
 three (D.node i) = refl

@@ -26,7 +26,8 @@ use Rattle.sheets.proofs.Reading.{sheet-good, sheet-sizes, sheet-says, 
 written : (S : List ℕ) (g : Rule) (s : List ℕ) → Writable S g → sheetOf S g ≡ s → IsSheet S g s
 written S g s w e = record { writable = w; bytes = e }
 
-agree-sheet : (S : List ℕ) (g h : Rule) → Agree S g h → sheetOf S g ≡ sheetOf S h
+-- rules that agree have one sheet
+pub agree-sheet : (S : List ℕ) (g h : Rule) → Agree S g h → sheetOf S g ≡ sheetOf S h
 unfolding sheetOf
 agree-sheet S g h a = ap (λ (r : Built). sheetBytes branchBytes (1 ∷ []) S (r .1) (r .0 ∷ [])) (build-agree 0 S g h a [])
 

@@ -6,8 +6,9 @@ use Rattle.settings.specs.Refusals.{Cases, Ends, _when_else_, taken}
 use Rattle.settings.specs.declared.refusals.Refusal.the-variants.{Newer, BadSheet}
 use Rattle.settings.specs.declared.refusals.Outcome.{Outcome}
 use Rattle.settings.specs.declared.refusals.Outcome.the-variants.{Taken}
-use Rattle.sheets.specs.Sheet.{NewerSheet, Written}
-use Rattle.sheets.specs.Diagram.{Ready}
+use Rattle.sheets.specs.Sheet.{IsSheet, NewerSheet, Written}
+use Rattle.sheets.specs.Bytes.{sizesOf}
+use Rattle.sheets.specs.Diagram.{ruleOf, Ready}
 
 -- a reader's table of refusals for the bytes s, before what else it refuses
 abbrev pub sheet-cases : List ℕ → Cases → Cases
@@ -16,3 +17,4 @@ sheet-cases s rest = Newer when (NewerSheet s) else BadSheet when (Written s →
 pub record Checks (s at : List ℕ) (o : Outcome) : Type 0 where
   pub ends : Ends (sheet-cases s taken) o
   pub ready : o ≡ Taken → Ready s at
+  pub sheet : o ≡ Taken → IsSheet (sizesOf s) (ruleOf s) s

@@ -1,6 +1,6 @@
 -- `operations::holding::put_restricted` meets its contract: what the walk built is settled. Assumes nothing.
 use Rattle.operations.proofs.Operands.{restrict-holding, restrict-agrees}
-use Rattle.operations.proofs.Settling.{settle-asks, settles, puts-agree}
+use Rattle.settling.proofs.Settling.{settle-asks, settles, puts-agree}
 use Rattle.rules.proofs.Sounding.{sound-long}
 use Rattle.rule_restrict.specs.Restrict.{restr}
 use mathlib.Core.Path.{_∙_}

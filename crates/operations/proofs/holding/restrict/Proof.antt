@@ -1,5 +1,5 @@
 -- `operations::holding::restrict` meets its contract: each test refuses in its turn, and the rest is put. Assumes nothing.
-use Rattle.operations.proofs.Settling.{write-pass}
+use Rattle.settling.proofs.Settling.{write-pass}
 use Rattle.rules.proofs.Sounding.{sound-long}
 use Rattle.rules.proofs.Answering.{write-refused}
 use Rattle.rule_sound.specs.Sound.{Sound}

@@ -1,6 +1,6 @@
 -- `operations::joining::apply` meets its contract: each test refuses in its turn, and two root words are the operands. Assumes nothing.
 use Rattle.operations.proofs.Operands.{apply-operands, apply-agrees}
-use Rattle.operations.proofs.Settling.{write-pass}
+use Rattle.settling.proofs.Settling.{write-pass}
 use Rattle.rules.proofs.Sounding.{sound-long}
 use Rattle.rules.proofs.Answering.{write-refused}
 use Rattle.rule_sound.specs.Sound.{Sound}

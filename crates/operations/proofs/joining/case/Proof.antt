@@ -1,6 +1,6 @@
 -- `operations::joining::case` meets its contract: each test refuses in its turn, and the root words in a row are the operands. Assumes nothing.
 use Rattle.operations.proofs.Operands.{case-operands, case-agrees}
-use Rattle.operations.proofs.Settling.{write-pass}
+use Rattle.settling.proofs.Settling.{write-pass}
 use Rattle.operations.specs.Joining.{Places}
 use Rattle.rules.proofs.Answering.{write-refused}
 use Rattle.rule_sound.specs.Sound.{Sound}

@@ -1,6 +1,6 @@
 -- `operations::joining::forget` meets its contract: each test refuses in its turn, and the operands are one root word, once for each value. Assumes nothing.
 use Rattle.operations.proofs.Operands.{forget-operands, forget-agrees}
-use Rattle.operations.proofs.Settling.{write-pass}
+use Rattle.settling.proofs.Settling.{write-pass}
 use Rattle.rules.proofs.Sounding.{sound-long}
 use Rattle.rules.proofs.Answering.{write-refused}
 use Rattle.rule_sound.specs.Sound.{Sound}

@@ -1,5 +1,5 @@
 -- `operations::joining::put_joint` meets its contract: what the engine built is settled. Assumes nothing.
-use Rattle.operations.proofs.Settling.{settle-asks, settles}
+use Rattle.settling.proofs.Settling.{settle-asks, settles}
 use Rattle.rules.proofs.Sounding.{sound-long}
 use Rattle.engine.specs.Joint.{joint}
 use native.Mathlib.Omega.{arith}

@@ -1,6 +1,6 @@
 -- `operations::spelling::literal` meets its contract: each test refuses in its turn, and nothing is shifted out of a set of the feature's values. Assumes nothing.
 use Rattle.operations.proofs.Bits.{literal-answered, shift-none, shift-some}
-use Rattle.operations.proofs.Settling.{write-pass}
+use Rattle.settling.proofs.Settling.{write-pass}
 use Rattle.rules.proofs.Sounding.{sound-long}
 use Rattle.settings.proofs.Endings.{not-taken, stop, pass}
 use Rattle.rules.proofs.Answering.{write-refused}

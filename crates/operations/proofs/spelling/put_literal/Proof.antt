@@ -1,5 +1,5 @@
 -- `operations::spelling::put_literal` meets its contract: the bits are the branches of one node, and what was made is settled. Assumes nothing.
-use Rattle.operations.proofs.Settling.{sound-holds, settle-asks, settles}
+use Rattle.settling.proofs.Settling.{sound-holds, settle-asks, settles}
 use Rattle.operations.proofs.Bits.{literal-listed, literal-made}
 use Rattle.operations.specs.Literal.{literalOf}
 use Rattle.rules.proofs.Sounding.{sound-long}

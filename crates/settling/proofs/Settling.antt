@@ -35,17 +35,16 @@ use Rattle.rule_words.proofs.Reading.{length-rules, at-rules}
 use Rattle.rule_nodes.specs.Nodes.{Holds, Result, built}
 use Rattle.rule_nodes.specs.declared.Answer.{Answer}
 use Rattle.rule_nodes.specs.declared.Answer.the-variants.{Is, NoRoom as Full}
-use Rattle.rule_nodes.proofs.Filling.{result-ext}
+use Rattle.rule_nodes.proofs.Filling.{result-ext, result-mean}
 use Rattle.rule_nodes.proofs.Reading.{lawful}
 use Rattle.rule_nodes.proofs.Undoing.{undo-asks, undo}
 use Rattle.rule_sound.specs.Sound.{Sound}
 use Rattle.rule_sound.proofs.Pictures.{ordered, sound-table}
 use Rattle.rule_sound.proofs.Sitting.{pad-zero}
 use Rattle.rule_collect.specs.Tidy.{Untidy}
-use Rattle.rule_restrict.proofs.Restricting.{result-mean}
 use Rattle.rules.specs.Writing.{Writes}
 use Rattle.rules.proofs.Sounding.{sound-list, sound-pos, sound-wf, sound-root}
-use Rattle.operations.specs.Settling.{Puts, Asks, Settled}
+use Rattle.settling.specs.Settling.{Exceeds, Puts, Asks, Settled}
 
 -- ---- a sound table can be built onto
 module _ {w : List ℕ} (s : Sound w) where
@@ -155,7 +154,7 @@ module _ {w t : List ℕ} (g : Rule) {b : ℕ} (s : Sound w) (r : Result w t 0 g
   place-agrees q hq x v = ⊎-elim
       (λ c. rw c
       (ap (λ (f : Rule). f x) (getD-set-same (rulesOf t) p (meaning (nodes t) (decode b)) zero-fun (omega (arith, length-rules t)))
-      ∙ result-mean w t g b (sound-holds s) r .says x v
+      ∙ result-mean w t 0 g b (sound-holds s) r .says x v
       ∙ e x v
       ∙ ap (λ (f : Rule). f x) (sym (getD-set-same (rulesOf w) p h zero-fun (omega (arith, length-rules w))))))
       (λ c.
@@ -198,9 +197,13 @@ module _ {w t : List ℕ} (g : Rule) {b : ℕ} (s : Sound w) (r : Result w t 0 g
         past = λ j l. d .past j (omega (arith, cap-same g s r)) ∙ kept g s r .past j (omega (arith, cap-same g s r));
       }
 
+-- rules that agree exceed a table's room together
+pub exceeds-agree : {w : List ℕ} {g h : Rule} → Sound w → Agree (sizes w) g h → Exceeds w g → Exceeds w h
+exceeds-agree {w} {g} {h} s e x = omega (arith, built-tally g h s e, built-tally g g s (λ t v. refl))
+
 -- `settle` may be asked
 pub settle-asks : {w t : List ℕ} {p n : ℕ} (g : Rule) (a : Answer) → Sound w → Result w t 0 g a → p < 32 → n ≡ count w → Asks p n t a
-settle-asks {w} {t} g (Is b) s r hp e = (built-untidy g s r, hp, result-mean w t g b (sound-holds s) r .ok)
+settle-asks {w} {t} g (Is b) s r hp e = (built-untidy g s r, hp, result-mean w t 0 g b (sound-holds s) r .ok)
 settle-asks {w} {t} g Full s r hp e =
     (r .grown .well .laid .laid, omega (arith, undo-asks w t (built w 0 g .1) (sound-holds s) (r .grown) (built-ext lawful w 0 g)))
 

@@ -4,7 +4,7 @@ use rule_collect::finish;
 use rule_nodes::Answer;
 use settings::Outcome;
 use settings::Refusal;
-ghost use Rattle.operations.specs.Settling.{Asks, Settled};
+ghost use Rattle.settling.specs.Settling.{Asks, Settled};
 
 // What was built into a table of n nodes becomes the rule of the place; where there was no room it is taken back.
 pub fn settle(t: &mut [u32], place: usize, n: usize, r: Answer) -> Outcome

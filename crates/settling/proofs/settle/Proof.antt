@@ -1,11 +1,11 @@
--- `operations::ending::settle` meets its contract: by cases of the answer, as `finish` and `roll_back` promise. Assumes nothing.
-use Rattle.operations.proofs.Settling.{settled-none, settled-is}
-use Rattle.operations.specs.Settling.{Asks}
+-- `settling::settle` meets its contract: by cases of the answer, as `finish` and `roll_back` promise. Assumes nothing.
+use Rattle.settling.proofs.Settling.{settled-none, settled-is}
+use Rattle.settling.specs.Settling.{Asks}
 use Rattle.rule_nodes.specs.declared.Answer.{Answer}
 use mathlib.Core.Path.{subst}
 use borrow.Author.Needs.{needs}
-use Rattle.operations.proofs.ending.settle.Statement.{statement}
-use Rattle.operations.proofs.ending.settle.Tie as tie
+use Rattle.settling.proofs.settle.Statement.{statement}
+use Rattle.settling.proofs.settle.Tie as tie
 
 enum-known-r : tie.Need-enum-known-r
 enum-known-r c = search needs

@@ -1,0 +1,4 @@
+pub mod Lists
+pub mod Sheeted
+pub mod Answering
+pub mod Theorems

@@ -1,0 +1,123 @@
+-- What the promises of write and read add up to. Assumes nothing.
+-- Words past the bound do not matter: rules' `becomes-past` holds for every call that writes a place.
+use mathlib.Core.Path.{_≡_, refl, sym, ap, subst, _∙_}
+use mathlib.Core.List.{List}
+use Prim.Native.Nat.{ℕ, _<_}
+use native.Mathlib.Omega.{arith}
+use lib.ListN.{length}
+use Rattle.theory.specs.Functions.{Agree}
+use Rattle.theory.specs.Rules.{Rule, Phrase}
+use Rattle.theory.specs.Settings.{Valid}
+use Rattle.theory.proofs.Ranges.{valid?}
+use Rattle.settings.specs.Refusals.{Ordered}
+use Rattle.settings.specs.declared.refusals.Refusal.the-variants.{BadArgument, NoRoom}
+use Rattle.settings.specs.declared.refusals.Outcome.{Outcome}
+use Rattle.settings.specs.declared.refusals.Outcome.the-variants.{Taken, Refused}
+use Rattle.settings.proofs.Endings.{ends-unique}
+use Rattle.words.specs.Words.{sizes}
+use Rattle.rule_words.specs.Words.{ruleOf}
+use Rattle.rule_sound.specs.Sound.{Sound}
+use Rattle.rules.specs.Reading.{Looks}
+use Rattle.rules.specs.declared.reading.Looked.{Looked}
+use Rattle.rules.proofs.Theorems.{ended, becomes-sound, becomes-one, place-written, places-kept, frame-kept}
+use Rattle.settling.specs.Settling.{Exceeds}
+use Rattle.settling.proofs.Settling.{exceeds-agree}
+use Rattle.sheets.specs.Sheet.{sheetOf, IsSheet, Written}
+use Rattle.sheets.specs.Lookup.{returned, Returns}
+use Rattle.sheets.proofs.Reading.{sheet-says}
+use Rattle.sheets.proofs.Theorems.{agree-sheet, newer-not, returns-argument, returns-number}
+use Rattle.rule_sheets.specs.Reading.{SheetExceeds, read-cases, ReadsSheet}
+use Rattle.rule_sheets.specs.Writing.{sheetAt, write-cases, WritesSheet}
+use Rattle.rule_sheets.specs.declared.writing.Wrote.{Wrote}
+use Rattle.rule_sheets.proofs.Sheeted.{place-sheet}
+
+-- ---- SOUND: read leaves a sound table sound, and keeps the rule of every other place
+pub read-sound : {p : ℕ} {s w w′ : List ℕ} {o : Outcome} → Sound w → ReadsSheet p s w w′ o → Sound w′
+read-sound {o = o} ok r =
+    ended o (λ e. let x = r .sheet e in becomes-sound (r .becomes e (x .rule) (x .is))) (λ x e. subst Sound (sym (r .refused x e)) ok)
+
+pub read-keeps : {p : ℕ} {s w w′ : List ℕ} {o : Outcome} → ReadsSheet p s w w′ o → (q : ℕ) → q < 32 → (q ≡ p → ⊥) → Agree (sizes w) (ruleOf w′ q) (ruleOf w q)
+read-keeps {o = o} r q h n =
+    ended o
+    (λ e. let x = r .sheet e in places-kept (r .becomes e (x .rule) (x .is)) q h n)
+    (λ x e t v. ap (λ (u : List ℕ). ruleOf u q t) (r .refused x e))
+
+-- ---- READ WHAT WAS WRITTEN: the same rule, in any table over the list with room; NO ROOM exactly where there is none
+module _ {w u u′ : List ℕ} {p q : ℕ} {o : Outcome} (ok : Sound w) (hp : p < 32) (fit : Sound u) (hq : q < 32) (list : sizes u ≡ sizes w) (r : ReadsSheet q (sheetAt w p) u u′ o) where
+  is : IsSheet (sizes u) (ruleOf w p) (sheetAt w p)
+  is = subst (λ (S : List ℕ). IsSheet S (ruleOf w p) (sheetAt w p)) (sym list) (place-sheet ok hp)
+
+  ending : (SheetExceeds u (sheetAt w p) → o ≡ Refused NoRoom) × ((SheetExceeds u (sheetAt w p) → ⊥) → o ≡ Taken)
+  ending =
+      let x : Written (sheetAt w p) = record { list = sizes w; rule = ruleOf w p; is = place-sheet ok hp } in
+      r .ends .1 (λ n. n fit) .1 (λ n. omega arith) .1 (λ n. newer-not _ n x) .1 (λ n. n x) .1 (λ n. n (record { rule = ruleOf w p; is = is }))
+
+  pub read-written : (Exceeds u (ruleOf w p) → ⊥) → (o ≡ Taken) × Agree (sizes w) (ruleOf u′ q) (ruleOf w p)
+  read-written n = (done, subst (λ (S : List ℕ). Agree S (ruleOf u′ q) (ruleOf w p)) list (place-written (r .becomes done (ruleOf w p) is) hq))
+    where
+      done : o ≡ Taken
+      done = ending .1 (λ x. n (exceeds-agree fit (λ t v. sym (sheet-says (x .is) t v) ∙ sheet-says is t v) (x .exceeds)))
+
+  pub read-written-full : Exceeds u (ruleOf w p) → o ≡ Refused NoRoom
+  read-written-full x = ending .0 (record { rule = ruleOf w p; is = is; exceeds = x })
+
+module _ {p : ℕ} {s w w′ : List ℕ} (hp : p < 32) (r : ReadsSheet p s w w′ Taken) where
+  abbrev g : Rule
+  g = r .sheet refl .rule
+
+  says : Agree (sizes w) (ruleOf w′ p) g
+  says = place-written (r .becomes refl g (r .sheet refl .is)) hp
+
+  list : sizes w′ ≡ sizes w
+  list = frame-kept (r .becomes refl g (r .sheet refl .is)) .1
+
+  -- ---- WRITE WHAT WAS READ: the same bytes
+  pub write-read : sheetAt w′ p ≡ s
+  write-read = ap (λ (S : List ℕ). sheetOf S (ruleOf w′ p)) list ∙ agree-sheet (sizes w) (ruleOf w′ p) g says ∙ r .sheet refl .is .bytes
+
+  -- ---- LOOK UP: the lookup in the bytes answers what the table's look up answers after reading them
+  pub look-up-read : Sound w → (t : List ℕ) (l : Looked) (n : ℕ) → Looks p t w′ l → Returns s t n → n ≡ returned (l .outcome) (l .number)
+  look-up-read ok t l n a b = go (valid? (sizes w) t)
+    where
+      told : {o : Outcome} → l .outcome ≡ o → returned (l .outcome) (l .number) ≡ returned o (l .number)
+      told e = ap (λ (o : Outcome). returned o (l .number)) e
+
+      later : ((Valid (sizes w′) t → ⊥) → l .outcome ≡ Refused BadArgument) × (((Valid (sizes w′) t → ⊥) → ⊥) → l .outcome ≡ Taken)
+      later = a .ends .1 (λ m. m (read-sound ok r)) .1 (λ m. omega arith)
+
+      go : Dec (Valid (sizes w) t) → n ≡ returned (l .outcome) (l .number)
+      go (yes v) =
+          let e = later .1 (λ m. m (subst (λ (S : List ℕ). Valid S t) (sym list) v)) in
+          returns-number b (r .sheet refl .is) v ∙ ap (λ (x : Phrase). x .end) (sym (says t v)) ∙ sym (a .gives e) ∙ sym (told e)
+      go (no m) = returns-argument b (r .sheet refl .is) m ∙ sym (told (later .0 (λ v. m (subst (λ (S : List ℕ). Valid S t) list v))))
+
+-- ---- the numbers of each table ascend: the first refusal that applies is the lowest
+pub sheets-ordered : (p : ℕ) (s w : List ℕ) → Ordered (read-cases p s w) × Ordered (write-cases p s w)
+sheets-ordered p s w = (
+  (omega arith, (omega arith, (omega arith, (omega arith, (omega arith, (omega arith, tt)))))),
+  (omega arith, (omega arith, (omega arith, tt))),
+)
+
+-- ---- DECIDED: two outcomes that meet a promise are the same
+pub read-decided : (p : ℕ) (s w u v : List ℕ) (o q : Outcome) → ReadsSheet p s w u o → ReadsSheet p s w v q → (o ≡ q) × (u ≡ v)
+read-decided p s w u v o q a b = (
+  same,
+  ended o
+      (λ e. let x = a .sheet e in becomes-one (a .becomes e (x .rule) (x .is)) (b .becomes (sym same ∙ e) (x .rule) (x .is)))
+      (λ x e. a .refused x e ∙ sym (b .refused x (sym same ∙ e))),
+)
+  where
+    same : o ≡ q
+    same = ends-unique (read-cases p s w) o q (a .ends) (b .ends)
+
+pub write-decided : (p : ℕ) (w out u v : List ℕ) (r q : Wrote) → WritesSheet p w out u r → WritesSheet p w out v q → (r ≡ q) × (u ≡ v)
+write-decided p w out u v r q a b = (
+  λ i. record { outcome = same i; length = long i },
+  ended (r .outcome) (λ e. a .bytes e ∙ sym (b .bytes (sym same ∙ e))) (λ x e. a .kept x e ∙ sym (b .kept x (sym same ∙ e))),
+)
+  where
+    same : r .outcome ≡ q .outcome
+    same = ends-unique (write-cases p out w) (r .outcome) (q .outcome) (a .ends) (b .ends)
+
+    long : r .length ≡ q .length
+    long = ended (r .outcome) (λ e. a .length-is e ∙ sym (b .length-is (sym same ∙ e))) (λ x e. a .none x e ∙ sym (b .none x (sym same ∙ e)))

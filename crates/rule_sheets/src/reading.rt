@@ -1,0 +1,72 @@
+// Read: the rule of a sheet into a place.
+use rule_reader::take_in;
+use rule_sound::sound;
+use settings::Outcome;
+use settings::Refusal;
+use settling::settle;
+use sheets::check;
+use sheets::features_of;
+use sheets::size_at;
+use words::head_word;
+use words::wide;
+ghost use mathlib.Core.Path.{_≡_};
+ghost use Prim.Native.Nat.{_<_};
+ghost use Rattle.settings.specs.Tells.{Tells};
+ghost use Rattle.words.specs.Words.{sizes};
+ghost use Rattle.rule_sound.specs.Sound.{Sound};
+ghost use Rattle.settling.specs.Settling.{Puts};
+ghost use Rattle.sheets.specs.Bytes.{sizesOf, Head};
+ghost use Rattle.sheets.specs.Diagram.{Ready, ruleOf};
+ghost use Rattle.rule_sheets.specs.Reading.{ReadsSheet};
+
+// Whether the sheet's feature list is the table's.
+fn same_list(t: &[u32], sheet: &[u8]) -> bool
+    requires { ⌜ (Sound (now t)) × (Head (now sheet)) ⌝ }
+    ensures { λ r. ⌜ Tells r (sizesOf (now (sheet .entry)) ≡ sizes (now (t .entry))) ⌝ }
+{
+    let n = features_of(sheet);
+    if n != wide(head_word(t, 2)) {
+        return false;
+    }
+    let mut k: usize = 0;
+    while k < n {
+        if size_at(sheet, k) != wide(head_word(t, 3 + k)) {
+            return false;
+        }
+        k += 1;
+    }
+    true
+}
+
+// The rule of a good sheet over the table's features becomes the rule of the place.
+fn put_read(t: &mut [u32], place: usize, sheet: &[u8], at: &[u32; 4096]) -> Outcome
+    requires { ⌜ (Sound (now t)) × (place < 32) × (Ready (now sheet) (now at)) × (sizesOf (now sheet) ≡ sizes (now t)) ⌝ }
+    ensures { λ r. ⌜ Puts place (ruleOf (now (sheet .entry))) (now (t .entry)) (now (t .exit)) r ⌝ }
+{
+    let used = wide(head_word(t, 19));
+    let r = take_in(t, sheet, at);
+    settle(t, place, used, r)
+}
+
+// The rule of the sheet becomes the rule of the place.
+pub fn read(t: &mut [u32], place: usize, sheet: &[u8]) -> Outcome
+    ensures { λ r. ⌜ ReadsSheet place (now (sheet .entry)) (now (t .entry)) (now (t .exit)) r ⌝ }
+{
+    if !sound(t) {
+        return Outcome::Refused(Refusal::Damaged);
+    }
+    if 32 <= place {
+        return Outcome::Refused(Refusal::BadPlace);
+    }
+    let mut at = [0u32; 4096];
+    let checked = check(sheet, &mut at);
+    match checked {
+        Outcome::Refused(x) => Outcome::Refused(x),
+        Outcome::Taken => {
+            if !same_list(t, sheet) {
+                return Outcome::Refused(Refusal::OtherFeatures);
+            }
+            put_read(t, place, sheet, &at)
+        }
+    }
+}

@@ -1,0 +1,33 @@
+-- `rule_writer::numbering::renumber` meets its contract: a phrase stays, a node has its note. Assumes nothing.
+use mathlib.Core.Path.{sym, ap, _∙_}
+use Prim.Native.Nat.{ℕ, _+_, _-_}
+use native.Mathlib.Omega.{arith}
+use borrow.Author.Needs.{needs}
+use Rattle.rule_writer.specs.Numbering.{mark}
+use Rattle.rule_writer.proofs.Numbers.{renumbered-phrase, renumbered-node}
+use Rattle.rule_writer.proofs.numbering.renumber.Statement.{statement}
+use Rattle.rule_writer.proofs.numbering.renumber.Tie as tie
+
+returns : tie.Need-returns
+returns c = sym (renumbered-phrase _ _ ((c .if1) .taken))
+
+wide-requires : tie.Need-wide-requires
+wide-requires c κs = search needs
+
+mul-result : tie.Need-mul-result
+mul-result c = search needs
+
+element-copy-out-result : tie.Need-element-copy-out-result
+element-copy-out-result c = search needs
+
+add-result : tie.Need-add-result
+add-result c = let e = ap (mark ((c .before .before .before) .args .notes .now)) ((c .before .wide) .ensures .0) in
+    omega (arith, (c .before .before .before) .pre .2, renumbered-node ((c .before .before .before) .args .notes .now) ((c .before .before .before) .args .b) (omega arith))
+
+returns-2 : tie.Need-returns-2
+returns-2 c = ap (λ (x : ℕ). 65535 + mark ((c .before .before .before) .args .notes .now) x) ((c .before .wide) .ensures .0) ∙ sym (renumbered-node ((c .before .before .before) .args .notes .now) ((c .before .before .before) .args .b) (omega arith))
+
+pub renumber-spec : {M : Type 1} → statement M
+renumber-spec =
+    tie.close
+    (tie.spec returns wide-requires mul-result element-copy-out-result add-result returns-2)
