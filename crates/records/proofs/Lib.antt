@@ -2,3 +2,5 @@ pub mod Writing
 pub mod Laying
 pub mod Undoing
 pub mod Searching
+pub mod Making
+pub mod Restoring

@@ -10,6 +10,7 @@ use Rattle.theory.specs.Diagrams.{meaning}
 use Rattle.theory.specs.Rules.{Branch, Node, Rule}
 use Rattle.theory.proofs.Copying.{marked-le}
 use Rattle.words.specs.Tab.{tab}
+use Rattle.words.specs.Coding.{nodes as nodesOf}
 use Rattle.words.specs.Words.{head, word, capacity, size, count, bound, feature}
 use Rattle.words.proofs.Tab.{split, same, tab-ext}
 use Rattle.rule_words.specs.Words.{decode, nodeAt, nodes, root, roots, ruleOf, rulesOf}
@@ -97,7 +98,7 @@ module _ {w t w′ : List ℕ} (u : Untidy w) (a : Rooted w t) (b : Brought t w�
   roots-back = tab-ext (λ p. decode (root t p)) (λ p. decode (root w′ p)) 32 (λ p h. ap decode (sym (b .middle (32 + p) (omega arith) (omega arith))))
 
   nodes-back : nodes w′ ≡ copies t
-  unfolding nodes copies
+  unfolding nodesOf copies
   nodes-back =
       ap (tab (nodeAt w′)) (b .fewer)
       ∙ tab-ext (nodeAt w′) (λ i. nodeAt t (capacity t + i)) (done t)

@@ -11,6 +11,7 @@ use Rattle.theory.specs.Rules.{Branch, Node, rules}
 use Rattle.theory.specs.Settings.{FeatureList, Pos}
 use Rattle.theory.specs.WellFormed.{Under, WF}
 use Rattle.words.specs.Tab.{tab}
+use Rattle.words.specs.Coding.{nodes as nodesOf}
 use Rattle.words.specs.Words.{word, capacity, features, size, count, sizes, feature, body}
 use Rattle.words.proofs.Tab.{length-tab, getD-tab, tab-ext}
 use Rattle.theory.proofs.Lists.{pos-of}
@@ -107,7 +108,7 @@ module _ {w w′ : List ℕ} (f : Framed w) (k : Steady w w′) where
   same-sizes = ap (tab (size w′)) same-features ∙ tab-ext (size w′) (size w) (features w) same-size
 
   pub same-nodes : nodes w′ ≡ nodes w
-  unfolding nodes
+  unfolding nodesOf
   same-nodes =
       ap (tab (nodeAt w′)) same-count
       ∙ tab-ext (nodeAt w′) (nodeAt w) (count w)

@@ -6,13 +6,13 @@ use native.Mathlib.Omega.{arith}
 use lib.ListN.{length}
 use Rattle.theory.specs.Rules.{Branch, Node}
 use Rattle.words.specs.Words.{head, capacity, count, sizes, hashAt, lastOf}
-use Rattle.words.proofs.Words.{length-sizes}
+use Rattle.words.proofs.Words.{length-sizes, sizes-show}
 use Rattle.words.proofs.Chains.{last-ext}
 use Rattle.rule_words.specs.Words.{encode, nodes, root, roots, rulesOf}
 use Rattle.rule_words.specs.Picture.{nodeHash, Shows, Proper}
 use Rattle.rule_words.proofs.Reading.{encode-decode, length-nodes, at-nodes, at-roots, length-rules}
 use Rattle.rule_words.proofs.Bounding.{rules-small}
-use Rattle.rule_words.proofs.Showing.{sizes-show, body-shows, hash-shows}
+use Rattle.rule_words.proofs.Showing.{body-shows, hash-shows}
 use Rattle.sweep.specs.Sweeping.{Bare, Relinked}
 use Rattle.rule_collect.specs.Tidy.{Untidy, Tidied}
 use Rattle.rule_collect.specs.Collecting.{Collected}
@@ -38,7 +38,7 @@ module _ {w t : List ℕ} (u : Untidy w) (c : Collected w t) where
         most = u .most;
         list = u .list;
         places = length-rules w;
-        phrases = λ p h s x. rules-small w p h s;
+        range = λ p h s x. rules-small w p h s;
         fits = omega (arith, ap (λ (q : List Branch × List Node). length (q .1)) (c .holds), length-nodes t, c .fewer, u .within);
       }
 

@@ -3,18 +3,16 @@ use mathlib.Core.Bool.{Bool, true, false}
 use mathlib.Core.Path.{_≡_}
 use mathlib.Core.List.{List}
 use mathlib.Core.Option.{Option, none, some}
-use Prim.Native.Nat.{ℕ, suc, _-_, _≤_, _<_}
+use Prim.Native.Nat.{ℕ, _-_, _≤_, _<_}
 use lib.Dec.{ltb}
 use lib.ListN.{length, getD}
 use Rattle.theory.specs.Build.{make}
-use Rattle.theory.specs.Deciding.{Alike, In}
-use Rattle.theory.specs.Diagrams.{blank, empty}
 use Rattle.theory.specs.Rules.{rules, Branch, Node, Rule, Built}
 use Rattle.theory.specs.WellFormed.{Ok}
 use Rattle.words.specs.Holding as H
-use Rattle.words.specs.Words.{capacity, features, size, sizes, count, feature, body, listed, pick, Kept}
-use Rattle.records.specs.Laid.{Laid}
-use Rattle.rule_words.specs.Words.{decode, branches, nodes, wordOf}
+use Rattle.words.specs.Words.{capacity, features, size, sizes, feature, listed, pick}
+use Rattle.records.specs.Nodes as R
+use Rattle.rule_words.specs.Words.{decode, branches, code, nodes, wordOf}
 use Rattle.rule_nodes.specs.declared.Found.{Found}
 use Rattle.rule_nodes.specs.declared.Found.the-variants.{At, Missing}
 use Rattle.rule_nodes.specs.declared.Answer.{Answer}
@@ -22,13 +20,12 @@ use Rattle.rule_nodes.specs.declared.Answer.the-variants.{Is, NoRoom}
 
 -- ---- the table
 -- laid out as every table, and a body is 0 past the values of its feature
-pub record RuleLaid (w : List ℕ) : Type 0 where
-  pub laid : Laid w
-  pub padded : (i v : ℕ) → i < count w → size w (feature w i) ≤ v → v < 12 → body w i v ≡ 0
+abbrev pub RuleLaid : List ℕ → Type 0
+RuleLaid w = R.NodesLaid code w
 
 -- how a rule table is read
 abbrev pub layout : H.Layout rules
-layout = record { nodes = nodes; sizes = sizes; capacity = capacity; Laid = RuleLaid; Kept = Kept }
+layout = R.layoutOf code
 
 abbrev pub Holds : List ℕ → Type 0
 Holds w = H.Holds layout w
@@ -61,27 +58,17 @@ abbrev pub Good : List ℕ → ℕ → ℕ → Type 0
 Good w k b = Ok (nodes w) k (decode b)
 
 -- a list of branch words for feature k, 0 past its size
-pub record Listed (w : List ℕ) (k : ℕ) (l : List ℕ) : Type 0 where
-  pub each : (v : ℕ) → v < size w k → Good w (suc k) (listed l v)
-  pub pad : (v : ℕ) → size w k ≤ v → v < 12 → listed l v ≡ 0
-
--- the node of feature k with the list's branches
-abbrev pub nodeOf : List ℕ → ℕ → List ℕ → Node
-nodeOf w k l = record { feature = k; branches = branches (size w k) (listed l) }
+abbrev pub Listed : List ℕ → ℕ → List ℕ → Type 0
+Listed w k l = R.Listed code w k l
 
 -- the first m of a list are all its first
 pub record AllSame (m : ℕ) (l : List ℕ) : Type 0 where
   pub each : (v : ℕ) → v < m → listed l v ≡ listed l 0
 
--- nothing has the list's branches at feature k: they differ, and no node has them
-pub record Absent (w : List ℕ) (k : ℕ) (l : List ℕ) : Type 0 where
-  pub varied : ¬ Alike blank (branches (size w k) (listed l))
-  pub missing : ¬ In empty (nodeOf w k l) (nodes w)
-
 -- the unique search is right: what it found is what `make` gives, and it says missing only where `make` adds a node
 abbrev pub Finds : List ℕ → ℕ → List ℕ → Found → Type 0
 Finds w k l (At b) = (make k (branches (size w k) (listed l)) (nodes w) ≡ (decode (wordOf b), nodes w)) × (wordOf b < 131072)
-Finds w k l Missing = Absent w k l
+Finds w k l Missing = R.Absent code w k l
 
 -- the answer and the table are those of `make` with the list's branches
 abbrev pub Makes : List ℕ → List ℕ → ℕ → List ℕ → Answer → Type 0

@@ -9,6 +9,7 @@ use lib.ListN.{length, getD, set, length-set, List·getD-eq-default}
 use lib.Seq.{getD-set-other, ext-getD}
 use Rattle.theory.specs.Rules.{Built}
 use Rattle.words.specs.Tab.{tab}
+use Rattle.words.specs.Coding.{nodes as nodesOf}
 use Rattle.words.specs.Words.{head, word, capacity, features, size, sizes, count, bound, feature, hashAt, lastOf, Kept, Zeros}
 use Rattle.words.proofs.Chains.{last-ext}
 use Rattle.words.proofs.Tab.{split, tab-ext, length-tab, getD-tab}
@@ -129,7 +130,7 @@ module _ {w u : List ℕ} (e : Like w u) where
     like-sizes = ap (tab (size u)) fts ∙ tab-ext (size u) (size w) (features w) sz
 
     pub like-nodes : nodes u ≡ nodes w
-    unfolding nodes
+    unfolding nodesOf
     like-nodes =
         ap (tab (nodeAt u)) cnt
         ∙ tab-ext (nodeAt u) (nodeAt w) (count w)
@@ -157,10 +158,10 @@ module _ {w u : List ℕ} (e : Like w u) where
     like-laid =
         record {
           laid = laid;
-          padded = λ i v h a b.
+          padded = λ i h v a b.
               let l : i < count w = omega (arith, cnt) in
               let s : size u (feature u i) ≡ size w (feature w i) = ap (size u) (wd i 0 l (omega arith)) ∙ sz (feature w i) (d .tests i l) in
-              wd i (1 + v) l (omega arith) ∙ ok .padded i v l (omega arith) b;
+              wd i (1 + v) l (omega arith) ∙ ok .padded i l v (omega arith) b;
         }
 
   pub like-holds : Holds w → Holds u

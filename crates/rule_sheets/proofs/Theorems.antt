@@ -1,20 +1,22 @@
 -- What the promises of write and read add up to. Assumes nothing.
 -- Words past the bound do not matter: rules' `becomes-past` holds for every call that writes a place.
 use mathlib.Core.Path.{_≡_, refl, sym, ap, subst, _∙_}
+use mathlib.Core.Logic.{⊎-elim}
 use mathlib.Core.List.{List}
-use Prim.Native.Nat.{ℕ, _<_}
+use Prim.Native.Nat.{ℕ, _≤_, _<_}
 use native.Mathlib.Omega.{arith}
 use lib.ListN.{length}
 use Rattle.theory.specs.Functions.{Agree}
 use Rattle.theory.specs.Rules.{Rule, Phrase}
 use Rattle.theory.specs.Settings.{Valid}
 use Rattle.theory.proofs.Ranges.{valid?}
-use Rattle.settings.specs.Refusals.{Ordered}
+use Rattle.settings.specs.Refusals.{Ends, Ordered}
 use Rattle.settings.specs.declared.refusals.Refusal.the-variants.{BadArgument, NoRoom}
 use Rattle.settings.specs.declared.refusals.Outcome.{Outcome}
 use Rattle.settings.specs.declared.refusals.Outcome.the-variants.{Taken, Refused}
-use Rattle.settings.proofs.Endings.{ends-unique}
+use Rattle.settings.proofs.Endings.{ends-unique, not-refused}
 use Rattle.words.specs.Words.{sizes}
+use Rattle.words.proofs.Tab.{split}
 use Rattle.rule_words.specs.Words.{ruleOf}
 use Rattle.rule_sound.specs.Sound.{Sound}
 use Rattle.rules.specs.Reading.{Looks}
@@ -25,7 +27,7 @@ use Rattle.settling.proofs.Settling.{exceeds-agree}
 use Rattle.sheets.specs.Sheet.{sheetOf, IsSheet, Written}
 use Rattle.sheets.specs.Lookup.{returned, Returns}
 use Rattle.sheets.proofs.Reading.{sheet-says}
-use Rattle.sheets.proofs.Theorems.{agree-sheet, newer-not, returns-argument, returns-number}
+use Rattle.sheets.proofs.Theorems.{agree-sheet, longest, newer-not, returns-argument, returns-number}
 use Rattle.rule_sheets.specs.Reading.{SheetExceeds, read-cases, ReadsSheet}
 use Rattle.rule_sheets.specs.Writing.{sheetAt, write-cases, WritesSheet}
 use Rattle.rule_sheets.specs.declared.writing.Wrote.{Wrote}
@@ -121,3 +123,19 @@ write-decided p w out u v r q a b = (
 
     long : r .length ≡ q .length
     long = ended (r .outcome) (λ e. a .length-is e ∙ sym (b .length-is (sym same ∙ e))) (λ x e. a .none x e ∙ sym (b .none x (sym same ∙ e)))
+
+-- ---- SMALL: a written sheet has at most 102,428 bytes
+pub written-small : (p : ℕ) (w out out′ : List ℕ) (r : Wrote) → WritesSheet p w out out′ r → r .length ≤ 102428
+written-small p w out out′ r a = ended (r .outcome) done (λ x e. omega (arith, a .none x e))
+  where
+    done : r .outcome ≡ Taken → r .length ≤ 102428
+    done e = ⊎-elim (λ more. absurd (sound (λ ok. omega (arith, a .length-is e, longest (place-sheet ok place))))) (λ few. few) (split 102428 (r .length))
+      where
+        ends : Ends (write-cases p out w) Taken
+        ends = subst (Ends (write-cases p out w)) e (a .ends)
+
+        sound : (Sound w → ⊥) → ⊥
+        sound n = not-refused (ends .0 n)
+
+        place : p < 32
+        place = let n : 32 ≤ p → ⊥ = λ h. not-refused (ends .1 sound .0 h) in omega (arith, n)

@@ -20,15 +20,17 @@ use Rattle.theory.proofs.WellFormed.{all-ok-at, all-ok-of}
 use Rattle.theory.proofs.Ordering.{tidy-is-table, table-is-tidy}
 use Rattle.theory.proofs.Tables.{table-mean}
 use Rattle.theory.proofs.Bounded.{Bounded, Results, empty-bounded, rules-bounded}
-use Rattle.words.specs.Words.{word, head, capacity, features, size, count, sizes, feature, body, hashOf, hashAt, lastOf}
+use Rattle.words.specs.Coding.{nodes as nodesOf}
+use Rattle.words.specs.Words.{word, head, capacity, features, size, count, sizes, feature, body, hashAt, lastOf}
 use Rattle.words.proofs.Tab.{tab-ext, tab-of}
-use Rattle.words.proofs.Words.{length-sizes, at-sizes, pos-sizes, hash-ext}
+use Rattle.words.proofs.Words.{length-sizes, at-sizes, pos-sizes, sizes-show}
+use Rattle.words.proofs.Picture.{hash-shown}
 use Rattle.words.proofs.Chains.{last-ext}
 use Rattle.rule_words.specs.Words.{decode, encode, encodeTo, branches, nodeAt, nodes, root, roots, rulesOf}
-use Rattle.rule_words.specs.Picture.{bodyOf, nodeHash, Shows, Pictures, Proper, IsTable}
+use Rattle.rule_words.specs.Picture.{bodyOf, drawing, nodeHash, Shows, Pictures, Proper, IsTable}
 use Rattle.rule_words.proofs.Reading.{encode-decode, length-nodes, at-nodes, node-same, length-roots, at-roots, length-rules, at-rules}
 use Rattle.rule_words.proofs.Bounding.{decode-encode, rules-small}
-use Rattle.rule_words.proofs.Showing.{sizes-show, body-shows, hash-shows}
+use Rattle.rule_words.proofs.Showing.{body-shows, hash-shows}
 use Rattle.checks.specs.Chained.{Same, Alone}
 use Rattle.rule_sound.specs.Sound.{Sits, NodeOk, Sound}
 use Rattle.rule_sound.specs.Walk.{Ordered}
@@ -116,12 +118,12 @@ module _ {w : List ℕ} (s : Sound w) where
           most = λ k hk. let f : k < features w = omega arith in omega (arith, at-sizes w k f, h .fit .large k f .1);
         };
         places = length-rules w;
-        phrases = λ p hp t x. rules-small w p hp t;
+        range = λ p hp t x. rules-small w p hp t;
         fits = omega (arith, ap (λ (q : List Branch × List Node). length (q .1)) (sound-table s), length-nodes w, h .within);
       }
 
 pub sound-is : {w : List ℕ} → Sound w → IsTable w
-sound-is {w} s = record { cap = capacity w; sizes = sizes w; rules = rulesOf w; proper = sound-proper s; pictures = sound-pictures s }
+sound-is {w} s = record { cap = capacity w; sizes = sizes w; places = rulesOf w; proper = sound-proper s; pictures = sound-pictures s }
 
 -- ---- a picture is a sound table
 module _ {cap : ℕ} {S : List ℕ} {gs : List Rule} {w : List ℕ} (p : Proper cap S gs) (d : Pictures cap S gs w) where
@@ -135,7 +137,7 @@ module _ {cap : ℕ} {S : List ℕ} {gs : List Rule} {w : List ℕ} (p : Proper 
   tidy = table-is-tidy S (pos-of S (λ k h. omega (arith, p .list .least k h))) gs
 
   bounded : Results 65536 (table S gs)
-  bounded = rules-bounded 65536 (omega arith) S gs (λ i h t x. p .phrases i (omega (arith, p .places)) t x) [] (empty-bounded 65536 (omega arith))
+  bounded = rules-bounded 65536 (omega arith) S gs (λ i h t x. p .range i (omega (arith, p .places)) t x) [] (empty-bounded 65536 (omega arith))
 
   sizes-said : sizes w ≡ S
   unfolding sizes
@@ -169,7 +171,7 @@ module _ {cap : ℕ} {S : List ℕ} {gs : List Rule} {w : List ℕ} (p : Proper 
           ∙ tab-of blank (at N i .branches) (size w (feature w i)) (size-says i h)
 
   nodes-show : nodes w ≡ N
-  unfolding nodes
+  unfolding nodesOf
   nodes-show = tab-ext (nodeAt w) (at N) (count w) (λ i h. node-shows i (omega (arith, d .used))) ∙ tab-of empty N (count w) (sym (d .used))
 
   root-shows : (q : ℕ) → q < 32 → decode (root w q) ≡ getD R q blank
@@ -186,8 +188,7 @@ module _ {cap : ℕ} {S : List ℕ} {gs : List Rule} {w : List ℕ} (p : Proper 
       record { below = omega (arith, u .0); above = λ g. rw e (subst (λ (x : ℕ). k ≤ x) (sym (d .tests i (omega (arith, u .0)))) (u .1)) }
 
   hash-said : (i : ℕ) → i < length N → hashAt w i ≡ nodeHash N i
-  hash-said i h =
-      ap (λ (k : ℕ). hashOf k (body w i)) (d .tests i h) ∙ hash-ext (at N i .feature) (body w i) (bodyOf (at N i)) (λ v hv. d .bodies i v h hv)
+  hash-said i h = hash-shown drawing N w i (d .tests i h) (λ v hv. d .bodies i v h hv)
 
   node-shows-ok : (i : ℕ) → i < length N → NodeOk w i
   unfolding word

@@ -13,10 +13,11 @@ use Rattle.theory.specs.WellFormed.{Fits, Ok, Under, WF}
 use Rattle.theory.specs.Rules.{Branch, Node, node}
 use Rattle.theory.proofs.WellFormed.{under-weaken}
 use Rattle.words.specs.Words.{word, size, count, sizes, feature, body}
+use Rattle.words.proofs.Coding.{branch-past}
 use Rattle.words.proofs.Tab.{same, split, length-tab, getD-tab}
 use Rattle.words.proofs.Words.{length-sizes, at-sizes}
 use Rattle.rule_words.specs.Words.{decode, branches, nodeAt, nodes}
-use Rattle.rule_words.proofs.Reading.{decode-phrase, decode-node, decode-inj, length-nodes, at-nodes, branch-past}
+use Rattle.rule_words.proofs.Reading.{decode-phrase, decode-node, decode-inj, length-nodes, at-nodes}
 use Rattle.settings.specs.Tells.{Tells}
 use Rattle.checks.specs.Chained.{Same}
 use Rattle.settings.proofs.Answers.{tells-leb}

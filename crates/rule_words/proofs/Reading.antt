@@ -5,15 +5,16 @@ use mathlib.Core.List.{List}
 use Prim.Native.Nat.{ℕ, _+_, _-_, _≤_, _<_}
 use native.Mathlib.Omega.{arith}
 use borrow.Author.Tests.{lt-ltb, le-ltb}
-use lib.ListN.{length, getD, List·getD-eq-default}
-use Rattle.theory.specs.Diagrams.{at, blank, empty}
+use lib.ListN.{length, getD}
+use Rattle.theory.specs.Diagrams.{at, blank}
 use Rattle.theory.specs.Functions.{zero-fun}
 use Rattle.theory.specs.WellFormed.{Under}
 use Rattle.theory.specs.Rules.{Branch, Node, phrase, node}
-use Rattle.words.specs.Tab.{tab}
 use Rattle.words.specs.Words.{count, size, feature, body}
+use Rattle.words.specs.Coding.{Faithful}
+use Rattle.words.proofs.Coding as C
 use Rattle.words.proofs.Tab.{split, tab-ext, length-tab, getD-tab}
-use Rattle.rule_words.specs.Words.{decode, encode, branches, nodeAt, nodes, root, roots, ruleOf, rulesOf}
+use Rattle.rule_words.specs.Words.{decode, encode, branches, code, nodeAt, nodes, root, roots, ruleOf, rulesOf}
 
 pub decode-phrase : (x : ℕ) → x < 65536 → decode x ≡ phrase x
 unfolding decode
@@ -44,21 +45,23 @@ under-word N m k x u = ⊎-elim
 
 -- the node list
 pub length-nodes : (w : List ℕ) → length (nodes w) ≡ count w
-unfolding nodes
-length-nodes w = length-tab (nodeAt w) (count w)
+length-nodes w = C.length-nodes code w
 
 pub at-nodes : (w : List ℕ) (i : ℕ) → i < count w → at (nodes w) i ≡ nodeAt w i
-unfolding nodes
-at-nodes w i h = getD-tab (nodeAt w) (count w) i empty h
+at-nodes w i h = C.at-nodes code w i h
 
 -- branch v of node i
 pub branch-at : (w : List ℕ) (i v : ℕ) → i < count w → v < size w (feature w i) → getD (at (nodes w) i .branches) v blank ≡ decode (body w i v)
-branch-at w i v h hv =
-    ap (λ (x : Node). getD (x .branches) v blank) (at-nodes w i h) ∙ getD-tab (λ u. decode (body w i u)) (size w (feature w i)) v blank hv
+branch-at w i v h hv = C.branch-at code w i v h hv
 
--- past the size a list of branches has ended
-pub branch-past : (F : ℕ → Branch) (n v : ℕ) → n ≤ v → getD (tab F n) v blank ≡ blank
-branch-past F n v h = List·getD-eq-default (tab F n) blank (omega (arith, length-tab F n))
+-- the branches tell the body words
+pub faithful : Faithful code
+faithful =
+    record {
+      reads = λ f g v h e. ap decode (e v (omega arith));
+      padded = λ m f g e p v l h. sym (e v h) ∙ p v l h;
+      told = λ m f g l e p q v h. ⊎-elim (λ s. decode-inj (f v) (g v) (e v s)) (λ s. p v s h ∙ sym (q v s h)) (split v m);
+    }
 
 -- records with the same words hold the same node
 pub node-same : (w w′ : List ℕ) (i i′ : ℕ) → feature w′ i′ ≡ feature w i → size w′ (feature w i) ≡ size w (feature w i)

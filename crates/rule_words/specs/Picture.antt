@@ -1,65 +1,44 @@
--- A rule table at rest is the picture of its rules: which words it has, given capacity, feature list and rules. Assumes nothing.
-use mathlib.Core.Path.{_≡_}
+-- The picture of 32 rules: a rule table at rest. Assumes nothing.
 use mathlib.Core.List.{List}
-use Prim.Native.Nat.{ℕ, _+_, _*_, _≤_, _<_}
-use lib.ListN.{length, getD, set}
-use Rattle.theory.specs.Settings.{FeatureList, Valid}
-use Rattle.theory.specs.Functions.{zero-fun}
-use Rattle.theory.specs.Diagrams.{at, blank}
-use Rattle.theory.specs.Build.{table}
-use Rattle.theory.specs.Rules.{Branch, Node, Rule}
-use Rattle.words.specs.Words.{word, kind, capacity, features, size, count, sizes, bound, feature, body, link, bucket, hashOf, lastOf, Zeros}
-use Rattle.rule_words.specs.Words.{encode, root, rulesOf}
+use Prim.Native.Nat.{ℕ, _<_}
+use lib.ListN.{getD}
+use Rattle.theory.specs.Diagrams.{blank}
+use Rattle.theory.specs.Rules.{rules, Branch, Node, Rule}
+use Rattle.words.specs.Picture as P
+use Rattle.rule_words.specs.Words.{encode, rulesOf}
 
 -- body word v of a node: its branch words, 0 past its size
 abbrev pub bodyOf : Node → ℕ → ℕ
 bodyOf x v = encode (getD (x .branches) v blank)
 
+-- kind word 1, 32 places, a root word for each, phrase numbers up to 65,535
+abbrev pub drawing : P.Drawing rules
+drawing =
+    record {
+      number = 1;
+      places = 32;
+      bodyOf = bodyOf;
+      rootOf = λ R p. encode (getD R p blank);
+      InRange = λ x. x .end < 65536;
+      said = rulesOf;
+    }
+
 abbrev pub nodeHash : List Node → ℕ → ℕ
-nodeHash N i = hashOf (at N i .feature) (bodyOf (at N i))
+nodeHash N i = P.nodeHash drawing N i
 
--- the words show the capacity, the sizes, the roots R and the nodes N, and nothing else
-pub record Shows (cap : ℕ) (S : List ℕ) (R : List Branch) (N : List Node) (w : List ℕ) : Type 0 where
-  pub long : bound cap ≤ length w
-  pub kind-is : kind w ≡ 1
-  pub room : capacity w ≡ cap
-  pub many : features w ≡ length S
-  pub sizes-are : (k : ℕ) → k < 16 → size w k ≡ getD S k 0
-  pub used : count w ≡ length N
-  pub shares : Zeros w 20 32
-  pub roots-are : (p : ℕ) → p < 32 → root w p ≡ encode (getD R p blank)
-  pub middle : Zeros w 64 4096
-  pub heads : (h : ℕ) → h < 4096 → bucket w h ≡ lastOf (nodeHash N) h (length N)
-  pub tests : (i : ℕ) → i < length N → feature w i ≡ at N i .feature
-  pub bodies : (i v : ℕ) → i < length N → v < 12 → body w i v ≡ bodyOf (at N i) v
-  pub links : (i : ℕ) → i < length N → link w i ≡ lastOf (nodeHash N) (nodeHash N i) i
-  pub spare : (i j : ℕ) → i < length N → 14 ≤ j → j < 16 → word w i j ≡ 0
-  pub clean : Zeros w (8192 + 16 * length N) (bound cap)
+-- the words show the roots R and the nodes N; are the picture of the rules gs; a table can hold gs; the words are some rules' picture
+abbrev pub Shows : ℕ → List ℕ → List Branch → List Node → List ℕ → Type 0
+Shows cap S R N w = P.Shows drawing cap S R N w
 
--- the picture of the rules gs: the nodes are those that building them in turn gives
 abbrev pub Pictures : ℕ → List ℕ → List Rule → List ℕ → Type 0
-Pictures cap S gs w = Shows cap S (table S gs .0) (table S gs .1) w
+Pictures cap S gs w = P.Pictures drawing cap S gs w
 
--- what a rule table can hold: 32 rules, phrase numbers up to 65,535, no more distinct rests than the capacity
-pub record Proper (cap : ℕ) (S : List ℕ) (gs : List Rule) : Type 0 where
-  pub some : 1 ≤ cap
-  pub most : cap ≤ 4096
-  pub list : FeatureList S
-  pub places : length gs ≡ 32
-  pub phrases : (p : ℕ) → p < 32 → (s : List ℕ) → Valid S s → getD gs p zero-fun s .end < 65536
-  pub fits : length (table S gs .1) ≤ cap
+abbrev pub Proper : ℕ → List ℕ → List Rule → Type 0
+Proper cap S gs = P.Proper drawing cap S gs
 
--- the words are a rule table's: the picture of some rules
-pub record IsTable (w : List ℕ) : Type 0 where
-  pub cap : ℕ
-  pub sizes : List ℕ
-  pub rules : List Rule
-  pub proper : Proper cap sizes rules
-  pub pictures : Pictures cap sizes rules w
+abbrev pub IsTable : List ℕ → Type 0
+IsTable w = P.IsTable drawing w
 
--- w′ is w with the rule of place p replaced by g: the picture of the rules so changed; the words past the table are kept
-pub record Becomes (p : ℕ) (g : Rule) (w w′ : List ℕ) : Type 0 where
-  pub long : length w′ ≡ length w
-  pub proper : Proper (capacity w) (sizes w) (set (rulesOf w) p g)
-  pub pictures : Pictures (capacity w) (sizes w) (set (rulesOf w) p g) w′
-  pub past : (j : ℕ) → bound (capacity w) ≤ j → getD w′ j 0 ≡ getD w j 0
+-- w′ is w with the rule of place p replaced by g
+abbrev pub Becomes : ℕ → Rule → List ℕ → List ℕ → Type 0
+Becomes p g w w′ = P.Becomes drawing p g w w′

@@ -1,12 +1,14 @@
 -- What the words of a rule table say: its nodes, its roots, its rules. Assumes nothing.
+use mathlib.Core.Path.{_≡_}
 use mathlib.Core.List.{List}
-use Prim.Native.Nat.{ℕ, _+_, _-_}
+use Prim.Native.Nat.{ℕ, _+_, _-_, _≤_, _<_}
 use lib.Dec.{ltb}
 use Rattle.theory.specs.Diagrams as D
 use Rattle.theory.specs.Diagrams.{meaning}
 use Rattle.theory.specs.Rules.{rules, Branch, Node, Rule, phrase, node}
 use Rattle.words.specs.Tab.{tab}
-use Rattle.words.specs.Words.{head, count, size, feature, body, pick}
+use Rattle.words.specs.Words.{head, pick}
+use Rattle.words.specs.Coding as C
 use Rattle.rule_words.specs.declared.Branch.{Branch as CodeBranch}
 use Rattle.rule_words.specs.declared.Branch.the-variants.{Phrase, Node as NodeIs}
 
@@ -26,12 +28,16 @@ encode b = encodeTo (b .to)
 abbrev pub branches : ℕ → (ℕ → ℕ) → List Branch
 branches m f = tab (λ v. decode (f v)) m
 
--- node i: its feature, and as many branches as that feature has values
-abbrev pub nodeAt : List ℕ → ℕ → Node
-nodeAt w i = record { feature = feature w i; branches = branches (size w (feature w i)) (body w i) }
+-- how a record's body says them: a word for each branch, 0 past them
+abbrev pub code : C.Code rules
+code = record { arm = λ f v. decode (f v); Padded = λ m f. (v : ℕ) → m ≤ v → v < 12 → f v ≡ 0 }
 
-unfoldable pub nodes : List ℕ → List Node
-nodes w = tab (nodeAt w) (count w)
+-- node i, and all nodes
+abbrev pub nodeAt : List ℕ → ℕ → Node
+nodeAt w i = C.nodeAt code w i
+
+abbrev pub nodes : List ℕ → List Node
+nodes w = C.nodes code w
 
 -- the root word of place p
 abbrev pub root : List ℕ → ℕ → ℕ

@@ -103,7 +103,7 @@ module _ {S : List ℕ} {cap : ℕ} {w w′ : List ℕ} (o : Openable S cap w) (
           most = o .most;
           list = o .list;
           places = length-tab (λ p. zero-fun) 32;
-          phrases = λ p h s v. subst (λ (g : Rule). g s .end < 65536) (sym (getD-tab (λ q. zero-fun) 32 p zero-fun h)) (let z : 0 < 65536 = omega arith in z);
+          range = λ p h s v. subst (λ (g : Rule). g s .end < 65536) (sym (getD-tab (λ q. zero-fun) 32 p zero-fun h)) (let z : 0 < 65536 = omega arith in z);
           fits = omega (arith, ap (λ (q : List Branch × List Node). length (q .1)) (zeros-built S (o .list) 32));
         };
         pictures = λ e. subst (λ (q : List Branch × List Node). Shows cap S (q .0) (q .1) w′) (sym (zeros-built S (o .list) 32)) shown;

@@ -66,7 +66,7 @@ module _ {w : List ℕ} (s : Sound w) where
       }
 
   pub sound-holds : Holds w
-  sound-holds = record { laid = record { laid = sound-laid; padded = pad-zero (ordered s) }; wf = sound-wf s }
+  sound-holds = record { laid = record { laid = sound-laid; padded = λ i h v a b. pad-zero (ordered s) i v h a b }; wf = sound-wf s }
 
 -- ---- the table t after building the rule g onto the sound table w
 module _ {w t : List ℕ} (g : Rule) {a : Answer} (s : Sound w) (r : Result w t 0 g a) where
@@ -178,7 +178,7 @@ module _ {w t : List ℕ} (g : Rule) {b : ℕ} (s : Sound w) (r : Result w t 0 g
     most = d .most;
     list = d .list;
     places = wanted-long;
-    phrases = λ q hq x v. subst (λ (z : ℕ). z < 65536) (ap (λ (y : _). y .end) (place-agrees q hq x v)) (d .phrases q hq x v);
+    range = λ q hq x v. subst (λ (z : ℕ). z < 65536) (ap (λ (y : _). y .end) (place-agrees q hq x v)) (d .range q hq x v);
     fits = subst (λ (y : List Branch × List Node). length (y .1) ≤ capacity w) one-table (d .fits);
   }
 

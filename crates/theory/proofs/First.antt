@@ -54,7 +54,7 @@ heads : (v y : ℕ) (s u : List ℕ) → From (v ∷ s) (y ∷ u) → ((v ≡ y)
 heads v y s u (inl e) = inl (head-eq-of-cons-eq e, inl (tail-eq-of-cons-eq e))
 heads v y s u (inr b) = heads-before b
 
-from-later : (v : ℕ) {s u : List ℕ} → From s u → From (v ∷ s) (v ∷ u)
+pub from-later : (v : ℕ) {s u : List ℕ} → From s u → From (v ∷ s) (v ∷ u)
 from-later v (inl e) = inl (ap (λ (t : List ℕ). v ∷ t) e)
 from-later v (inr b) = inr (later b)
 

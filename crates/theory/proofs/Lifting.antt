@@ -6,17 +6,18 @@ use native.Mathlib.Omega.{arith}
 use lib.ListN.{length, getD, drop, length-map}
 use Rattle.theory.specs.Kind.{Kind}
 use Rattle.theory.specs.Deciding.{Alike, In, alike?, find}
-use Rattle.theory.specs.Settings.{Pos}
-use Rattle.theory.specs.Functions.{Fun, held, lift, parts}
+use Rattle.theory.specs.Settings.{Pos, zeros}
+use Rattle.theory.specs.Functions.{Amount, Fun, held, lift, parts}
 use Rattle.theory.specs.Diagrams.{Branch, Node, base, blank, empty, less, node, node-of, up}
 use Rattle.theory.specs.Comparing.{branch-discrete, node-discrete}
 use Rattle.theory.specs.WellFormed.{WF}
 use Rattle.theory.specs.Build.{Built, below, build, decide, each, make}
 use Rattle.theory.proofs.Lists.{drop-head, getD-map-in}
+use Rattle.theory.proofs.Ranges.{zeros-valid}
 use Rattle.theory.proofs.Offsets.{less-up, map-less-both}
 use Rattle.theory.proofs.Growing.{build-cons, build-nil}
-use Rattle.theory.proofs.Values.{means-length}
-use Rattle.theory.proofs.Meaning.{Rights, build-right, each-right}
+use Rattle.theory.proofs.Values.{means-length, value-zeros}
+use Rattle.theory.proofs.Meaning.{Right, Rights, build-right, each-right}
 use Rattle.theory.proofs.Making.{make-alike, make-new, make-there}
 use Rattle.theory.proofs.Canonical.{onto}
 
@@ -78,3 +79,10 @@ module _ {K : Kind} where
       ∙ ap (λ (r : List (Branch K) × List (Node K)). make k (r .0) (r .1)) (each-lift S (suc k) ns d a (build-lift S (suc k) ns d (pos .1) a) g 0 n N w)
       ∙ make-lift S k a (q .0) (q .1) (t .wfs) (let l = means-length (q .1) (suc k) ns (q .0) 0 n g (t .means) in let z = pos .0 in omega arith)
       ∙ ap (λ (r : Built K). let x : Built K = (up a (r .0), r .1) in x) (sym (build-cons k n ns g N))
+
+  -- what the result's branch adds is the function's offset where all features that are left are 0
+  pub build-adds : (S : List ℕ) (k : ℕ) (ns : List ℕ) → drop k S ≡ ns → Pos ns → (g : Fun K) (N : List (Node K)) → WF S N → build k ns g N .0 .adds ≡ g (zeros ns) .off
+  build-adds S k ns rest pos g N w =
+      let r : Right S k ns g N (build k ns g N) = build-right S k ns rest g N w in
+      sym (value-zeros S (build k ns g N .1) (r .wf) k ns (build k ns g N .0) (r .mean .ok))
+      ∙ ap (λ (x : Amount K). x .off) (r .mean .says (zeros ns) (zeros-valid ns pos))

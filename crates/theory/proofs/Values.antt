@@ -179,8 +179,12 @@ module _ {K : Kind} where
       ∙ value-zeros S N w (suc k) ns (next N k b 0) (go-on-ok S N w k (b .adds) (b .to) 0 o)
       ∙ go-on-zero S N w k (b .adds) (b .to) o
 
+  -- what a branch adds is added to what lies below its target
+  pub value-split : (N : List (Node K)) (k : ℕ) (b : Branch K) (s : List ℕ) → value N k b s ≡ lift (b .adds) (value N k (record { adds = K .nil; to = b .to }) s)
+  value-split N k b s = ap (λ (c : K .Off). value N k (record { adds = c; to = b .to }) s) (sym (K .group .plus-nil (b .adds))) ∙ value-up N k (b .adds) (record { adds = K .nil; to = b .to }) s
+
   pub value-plain : (N : List (Node K)) (k i : ℕ) (a : K .Off) (s : List ℕ) → value N k (record { adds = a; to = node i }) s ≡ lift a (value N k (plain i) s)
-  value-plain N k i a s = ap (λ (c : K .Off). value N k (record { adds = c; to = node i }) s) (sym (K .group .plus-nil a)) ∙ value-up N k a (plain i) s
+  value-plain N k i a s = value-split N k (record { adds = a; to = node i }) s
 
   pub means-place : (N : List (Node K)) (k : ℕ) (ns : List ℕ) (bs : List (Branch K)) (gs : List (Fun K)) → Means N k ns bs gs → (i : ℕ) → i < length gs → Mean N k ns (getD bs i blank) (getD gs i zero-fun)
   means-place N k ns bs [] m i h = absurd (not-suc-le-zero h)

@@ -2,3 +2,5 @@ pub mod Tab
 pub mod Words
 pub mod Chains
 pub mod Filling
+pub mod Coding
+pub mod Picture

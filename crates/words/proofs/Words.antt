@@ -1,15 +1,16 @@
 -- Header, sizes and hashes of words that agree, and what a frame keeps. Assumes nothing.
-use mathlib.Core.Path.{_≡_, refl, ap, ap₂, _∙_}
+use mathlib.Core.Path.{_≡_, refl, sym, ap, ap₂, _∙_}
+use mathlib.Core.Logic.{⊎-elim}
 use mathlib.Core.List.{List}
 use Prim.Native.Nat.{ℕ, zero, suc, _+_, _*_, _/_, _%_, _≤_, _<_}
 use native.Mathlib.Nat.{mod-lt}
 use native.Mathlib.Omega.{arith}
-use lib.ListN.{length, getD}
+use lib.ListN.{length, getD, List·getD-eq-default}
 use Rattle.theory.specs.Settings.{Pos}
 use Rattle.theory.proofs.Lists.{pos-of}
 use Rattle.words.specs.Tab.{tab}
-use Rattle.words.specs.Words.{word, capacity, features, size, sizes, feature, body, hashTo, hashOf, hashAt, Kept}
-use Rattle.words.proofs.Tab.{length-tab, getD-tab, tab-ext}
+use Rattle.words.specs.Words.{head, word, capacity, features, size, sizes, feature, body, hashTo, hashOf, hashAt, Kept, Zeros}
+use Rattle.words.proofs.Tab.{split, length-tab, getD-tab, tab-ext}
 
 pub length-sizes : (w : List ℕ) → length (sizes w) ≡ features w
 unfolding sizes
@@ -18,6 +19,14 @@ length-sizes w = length-tab (size w) (features w)
 pub at-sizes : (w : List ℕ) (k : ℕ) → k < features w → getD (sizes w) k 0 ≡ size w k
 unfolding sizes
 at-sizes w k h = getD-tab (size w) (features w) k 0 h
+
+-- the sixteen size words, 0 past the last size
+pub sizes-show : (w : List ℕ) → Zeros w (3 + features w) 19 → (k : ℕ) → k < 16 → size w k ≡ getD (sizes w) k 0
+unfolding head
+sizes-show w z k h = ⊎-elim
+    (λ l. sym (at-sizes w k l))
+    (λ l. z .zeros (3 + k) (omega arith) (omega arith) ∙ sym (List·getD-eq-default (sizes w) 0 (omega (arith, length-sizes w))))
+    (split k (features w))
 
 pub pos-sizes : (w : List ℕ) → ((k : ℕ) → k < features w → 0 < size w k) → Pos (sizes w)
 pos-sizes w h = pos-of (sizes w) (λ k l. let f : k < features w = omega (arith, length-sizes w) in omega (arith, at-sizes w k f, h k f))

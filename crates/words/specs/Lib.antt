@@ -1,3 +1,5 @@
 pub mod Tab
 pub mod Words
 pub mod Holding
+pub mod Coding
+pub mod Picture

@@ -1,0 +1,171 @@
+-- The laws of `find` and `make`: those of every kind, for packed bodies whose branch 0 adds nothing. Assumes nothing.
+use mathlib.Core.Path.{_≡_, sym, ap, ap₂, subst, _∙_}
+use mathlib.Core.Logic.{⊎-elim}
+use mathlib.Core.List.{List, map}
+use mathlib.Core.Option.{Option, none, some}
+use Prim.Native.Nat.{ℕ, suc, _+_, _≤_, _<_}
+use native.Mathlib.Omega.{arith}
+use lib.IntN.{ℤ, _+ℤ_, _-ℤ_, +ℤ-idr}
+use lib.ListN.{length, getD, length-map}
+use lib.Seq.{ext-getD}
+use Rattle.theory.specs.Build.{Built, make}
+use Rattle.theory.specs.Costs.{costs}
+use Rattle.theory.specs.Deciding.{Alike}
+use Rattle.theory.specs.Diagrams.{Branch, blank, up}
+use Rattle.theory.specs.WellFormed.{Ok}
+use Rattle.theory.proofs.Lists.{getD-map-in}
+use Rattle.theory.proofs.Offsets.{Level, branchTo}
+use Rattle.cost_laws.specs.Integers.{int}
+use Rattle.cost_laws.proofs.Integers.{ℕ-eq, sum-ℕ, minus-ℕ, minus-self}
+use Rattle.cost_laws.proofs.Words.{int-one}
+use Rattle.words.specs.Coding.{branches}
+use Rattle.words.specs.Holding as H
+use Rattle.words.specs.Words.{capacity, features, size, count, listed}
+use Rattle.words.proofs.Filling.{raised, gives-lift}
+use Rattle.words.proofs.Tab.{split, length-tab, getD-tab}
+use Rattle.records.specs.Changes.{Pushed, RecordIs, Finds as FindsRecord}
+use Rattle.records.specs.Nodes.{Listed, Absent}
+use Rattle.records.proofs.Making as M
+use Rattle.cost_words.specs.Words.{branch, goes, added, code, packed, nodes}
+use Rattle.cost_words.specs.declared.Target.{Target as CodeTarget}
+use Rattle.cost_words.proofs.Packing.{target-node, target-one, int-zero, packed-goes, packed-added, faithful}
+use Rattle.cost_nodes.specs.Nodes.{layout, Holds, Levelled, AllSame, Finds, arms, Armed, Lowered, Makes}
+use Rattle.cost_nodes.specs.declared.Answer.the-variants.{Is, NoRoom}
+use Rattle.cost_nodes.specs.declared.Found.{Found}
+use Rattle.cost_nodes.specs.declared.Found.the-variants.{At, Missing}
+use Rattle.cost_nodes.proofs.Reading.{lawful, ok-small}
+
+-- ---- what the search's answer tells
+pub found-at : (w : List ℕ) (k : ℕ) (l : List ℕ) (r : Found) (x : CodeTarget) → r ≡ At x → Finds w k l r → Finds w k l (At x)
+found-at w k l r x e f = subst (λ (y : Found). Finds w k l y) e f
+
+pub found-missing : (w : List ℕ) (k : ℕ) (l : List ℕ) (r : Found) → r ≡ Missing → Finds w k l r → Absent code w k l
+found-missing w k l r e f = subst (λ (y : Found). Finds w k l y) e f
+
+-- the branch that adds nothing to node i
+node-branch : (x i : ℕ) → x ≡ suc i → branchTo i ≡ branch x 2147483648
+node-branch x i e = λ j. record { adds = sym int-zero j; to = sym (target-node x i e) j }
+
+-- ---- find
+module _ (w : List ℕ) (k : ℕ) (l : List ℕ) (ok : Holds w) (hk : k < features w) (lv : Levelled w k l) where
+  abbrev bs : List (Branch costs)
+  bs = branches code (size w k) (listed l)
+
+  pub many : (2 ≤ size w k) × (size w k ≤ 8)
+  many = ok .laid .laid .large k hk
+
+  level-bs : Level bs
+  level-bs = ap (λ (b : Branch costs). b .adds) (M.at-bs faithful w k l ok hk (lv .fits) 0 (omega (arith, many .0))) ∙ ap int (lv .level) ∙ int-zero
+
+  -- equal branches need no node
+  pub found-same : (x : ℕ) → x ≡ goes (listed l) 0 → AllSame (size w k) l → make k bs (nodes w) ≡ (branch x 2147483648, nodes w)
+  found-same x e s =
+      M.found-same faithful w k l ok hk (lv .fits) (λ v h. ap₂ branch (s .targets v h) (s .addeds v h))
+      ∙ ap (λ (b : Branch costs). let t : Built costs = (b, nodes w) in t) (ap₂ branch (sym e) (lv .level))
+
+  not-alike : (AllSame (size w k) l → ⊥) → ¬ Alike blank bs
+  not-alike n a =
+      n (record {
+        targets = λ v h. target-one (goes (listed l) v) (goes (listed l) 0) (ap (λ (b : Branch costs). b .to) (M.alike-arms faithful w k l ok hk (lv .fits) a v h));
+        addeds = λ v h. int-one (added (listed l) v) (listed l 4) (ap (λ (b : Branch costs). b .adds) (M.alike-arms faithful w k l ok hk (lv .fits) a v h));
+      })
+
+  -- an equal node is there
+  pub found-node : (x i : ℕ) → x ≡ suc i → i < count w → (AllSame (size w k) l → ⊥) → RecordIs w i k l → make k bs (nodes w) ≡ (branch x 2147483648, nodes w)
+  found-node x i e h n q =
+      M.found-node faithful w k l ok hk (lv .fits) level-bs i h (not-alike n) q ∙ ap (λ (b : Branch costs). let t : Built costs = (b, nodes w) in t) (node-branch x i e)
+
+  -- neither: the branch must be made
+  pub found-none : (r : ℕ) → r ≡ 0 → (AllSame (size w k) l → ⊥) → FindsRecord w k l r → Absent code w k l
+  found-none r z n f = M.found-none faithful w k l ok hk (lv .fits) r z (not-alike n) f
+
+  -- the first target is small
+  pub first-small : goes (listed l) 0 ≤ count w
+  first-small = ok-small w (suc k) (goes (listed l) 0) (added (listed l) 0) (lv .fits .each 0 (omega (arith, many .0)))
+
+-- ---- make
+pub small-target : (w : List ℕ) (k : ℕ) (x a : List ℕ) → Holds w → Armed w k x a → (v : ℕ) → v < 8 → listed x v < 65536
+small-target w k x a ok ar v h = ⊎-elim
+    (λ l. omega (arith, ok-small w (suc k) (listed x v) (listed a v) (ar .each v l), ok .laid .laid .within, ok .laid .laid .most))
+    (λ l. omega (arith, ar .pad v l h))
+    (split v (size w k))
+
+back : (z y : ℤ) → z +ℤ (y -ℤ z) ≡ y
+back z y = ℕ-eq (z +ℤ (y -ℤ z)) y (omega (arith, sum-ℕ z (y -ℤ z), minus-ℕ y z))
+
+-- the body l has the targets x, and what a adds more than its first
+module _ (w : List ℕ) (k : ℕ) (x a r l : List ℕ) (ok : Holds w) (hk : k < features w) (ar : Armed w k x a) (lo : Lowered (size w k) a r)
+    (e : (v : ℕ) → v < 12 → getD l v 0 ≡ packed (listed x) (listed r) v) where
+  abbrev z : ℤ
+  z = int (listed a 0)
+
+  abbrev m : ℕ
+  m = size w k
+
+  size-is : (2 ≤ m) × (m ≤ 8)
+  size-is = ok .laid .laid .large k hk
+
+  small : (v : ℕ) → v < 8 → listed x v < 65536
+  small = small-target w k x a ok ar
+
+  arm-is : (v : ℕ) → v < 8 → code .arm (listed l) v ≡ branch (listed x v) (listed r v)
+  arm-is v h =
+      faithful .reads (listed l) (packed (listed x) (listed r)) v h e
+      ∙ ap₂ branch (packed-goes (listed x) (listed r) small v h) (packed-added (listed x) (listed r) v)
+
+  fits : Listed code w k l
+  fits =
+      record {
+        each = λ v h. subst (Ok (nodes w) (suc k)) (sym (arm-is v (omega (arith, size-is)))) (ar .each v h);
+        pad = faithful .padded m (packed (listed x) (listed r)) (listed l) (λ v h. sym (e v h))
+            (record {
+              targets = λ v b h. packed-goes (listed x) (listed r) small v h ∙ ar .pad v b h;
+              addeds = λ v b h. packed-added (listed x) (listed r) v ∙ lo .pad v b h;
+            });
+      }
+
+  pub levelled : Levelled w k l
+  levelled =
+      let h : 0 < m = omega (arith, size-is) in
+      record {
+        fits = fits;
+        level = e 4 (omega arith) ∙ packed-added (listed x) (listed r) 0 ∙ int-one (listed r 0) 2147483648 (lo .each 0 h ∙ minus-self z ∙ sym int-zero);
+      }
+
+  -- with the first's added integer put back the branches are those asked for
+  arms-up : map (up z) (branches code m (listed l)) ≡ arms m x a
+  arms-up =
+      let n : length (branches code m (listed l)) ≡ m = length-tab (code .arm (listed l)) m in
+      let n′ : length (map (up z) (branches code m (listed l))) ≡ m = length-map (branches code m (listed l)) (up z) ∙ n in
+      ext-getD blank (map (up z) (branches code m (listed l))) (arms m x a) (n′ ∙ sym (length-tab (λ v. branch (listed x v) (listed a v)) m))
+      (λ v h.
+      let hm : v < m = omega arith in
+      getD-map-in (up z) blank blank (branches code m (listed l)) v (omega arith)
+      ∙ ap (up z) (getD-tab (code .arm (listed l)) m v blank hm ∙ arm-is v (omega (arith, size-is)))
+      ∙ (λ i. record { adds = (ap (λ (y : ℤ). z +ℤ y) (lo .each v hm) ∙ back z (int (listed a v))) i; to = branch (listed x v) 0 .to })
+      ∙ sym (getD-tab (λ u. branch (listed x u) (listed a u)) m v blank hm))
+
+  lifted : (w′ : List ℕ) (o : Option (Branch costs)) → H.Gives layout w w′ (make k (branches code m (listed l)) (nodes w)) o → H.Gives layout w w′ (make k (arms m x a) (nodes w)) (raised z o)
+  lifted w′ o g =
+      subst (λ (cs : List (Branch costs)). H.Gives layout w w′ (make k cs (nodes w)) (raised z o)) arms-up
+      (gives-lift lawful w w′ k z (branches code m (listed l)) o ok (omega (arith, length-tab (code .arm (listed l)) m, size-is)) g)
+
+  -- the answer that goes to the word y
+  raised-is : (y : ℕ) → up z (branch y 2147483648) ≡ branch y (listed a 0)
+  raised-is y = λ i. record { adds = (ap (λ (c : ℤ). z +ℤ c) int-zero ∙ +ℤ-idr z) i; to = branch y 0 .to }
+
+  answered : (w′ : List ℕ) (y : ℕ) → H.Gives layout w w′ (make k (branches code m (listed l)) (nodes w)) (some (branch y 2147483648)) → Makes w w′ k x a (Is y (listed a 0))
+  answered w′ y g =
+      subst (λ (b : Branch costs). H.Gives layout w w′ (make k (arms m x a) (nodes w)) (some b)) (raised-is y) (lifted w′ (some (branch y 2147483648)) g)
+
+  pub made-new : (w′ : List ℕ) (y : ℕ) → Absent code w k l → count w < capacity w → y ≡ suc (count w) → Pushed w w′ k l → Makes w w′ k x a (Is y (listed a 0))
+  made-new w′ y ab less d p =
+      answered w′ y
+      (subst (λ (b : Branch costs). H.Gives layout w w′ (make k (branches code m (listed l)) (nodes w)) (some b)) (node-branch y (count w) d)
+      (M.made-new faithful w k l ok hk fits (level-bs w k l ok hk levelled) w′ ab less p))
+
+  pub made-none : Absent code w k l → (count w < capacity w → ⊥) → Makes w w k x a NoRoom
+  made-none ab full = lifted w none (M.made-none faithful w k l ok hk fits (level-bs w k l ok hk levelled) ab full)
+
+  pub made-there : (y : ℕ) → make k (branches code m (listed l)) (nodes w) ≡ (branch y 2147483648, nodes w) → Makes w w k x a (Is y (listed a 0))
+  made-there y d = answered w y (M.made-there faithful w k l ok hk fits (branch y 2147483648) d)

@@ -1,0 +1,93 @@
+-- `cost_nodes::all_same` meets its contract: in the loop the first v targets and added words of the body equal the first. Assumes nothing.
+use Rattle.cost_words.specs.Words.{goes as goesAt, added}
+use Rattle.words.specs.Words.{listed}
+use borrow.Author.Count.{below-more}
+use native.Mathlib.Omega.{arith}
+use Prim.Native.Nat.{ℕ, _-_, _≤_, _<_}
+use mathlib.Core.Path.{_≡_, sym, _∙_}
+use borrow.Author.Needs.{needs}
+use Rattle.cost_nodes.proofs.all_same.Statement.{statement}
+use Rattle.cost_nodes.proofs.all_same.Tie as tie
+
+abbrev Inv-loop : tie.InvT-loop
+Inv-loop m list goes adds v₀ v = (v ≤ m) × (goes ≡ goesAt (listed list) 0) × (adds ≡ listed list 4) × ((u : ℕ) → u < v → goesAt (listed list) u ≡ goesAt (listed list) 0) × ((u : ℕ) → u < v → added (listed list) u ≡ listed list 4)
+
+abbrev μ-loop : tie.MeasureT-loop
+μ-loop m list goes adds v₀ v = m - v
+
+array-read-half-of : tie.Need-array-read-half-of Inv-loop μ-loop
+array-read-half-of c = search needs
+
+half-of-requires : tie.Need-half-of-requires Inv-loop μ-loop
+half-of-requires c κs = search needs
+
+array-read-adds : tie.Need-array-read-adds Inv-loop μ-loop
+array-read-adds c = search needs
+
+loop-holds : tie.Need-loop-holds Inv-loop μ-loop
+loop-holds c = (omega arith, (c .half-of) .ensures, search needs, (λ u h. absurd (omega arith)), (λ u h. absurd (omega arith)))
+
+mul-half-of : tie.Need-mul-half-of Inv-loop μ-loop
+mul-half-of c = search needs
+
+array-read-half-of-2 : tie.Need-array-read-half-of-2 Inv-loop μ-loop
+array-read-half-of-2 c = search needs
+
+half-of-requires-2 : tie.Need-half-of-requires-2 Inv-loop μ-loop
+half-of-requires-2 c κs = search needs
+
+returns : tie.Need-returns Inv-loop μ-loop
+returns c = let l = (c .before .before .before .loop) in λ al. (c .if1) .taken ((c .before .half-of2) .ensures ∙ al .targets (l .v) (omega arith) ∙ sym (l .inv .1))
+
+add-if2 : tie.Need-add-if2 Inv-loop μ-loop
+add-if2 c = search needs
+
+mul-if2 : tie.Need-mul-if2 Inv-loop μ-loop
+mul-if2 c = search needs
+
+array-read-if2 : tie.Need-array-read-if2 Inv-loop μ-loop
+array-read-if2 c = search needs
+
+returns-2 : tie.Need-returns-2 Inv-loop μ-loop
+returns-2 c = let l = (c .before .before .before .before .loop) in λ al. (c .if2) .taken (al .addeds (l .v) (omega arith) ∙ sym (l .inv .2))
+
+add-v : tie.Need-add-v Inv-loop μ-loop
+add-v c = search needs
+
+loop-less : tie.Need-loop-less Inv-loop μ-loop
+loop-less c = search needs
+
+loop-again : tie.Need-loop-again Inv-loop μ-loop
+loop-again c = let l = (c .before .before .before .before .loop) in (
+  omega arith,
+  l .inv .1,
+  l .inv .2,
+  below-more _ _ (l .inv .3) (sym ((c .before .before .half-of2) .ensures) ∙ (c .before .if1) .left ∙ l .inv .1),
+  below-more _ _ (l .inv .4) ((c .if2) .left ∙ l .inv .2),
+)
+
+returns-3 : tie.Need-returns-3 Inv-loop μ-loop
+returns-3 c = let l = (c .before .loop) in record { targets = λ v h. l .inv .3 v (omega arith); addeds = λ v h. l .inv .4 v (omega arith) }
+
+pub all-same-spec : {M : Type 1} → statement M
+all-same-spec =
+    tie.close
+    (tie.spec
+    Inv-loop
+    μ-loop
+    array-read-half-of
+    half-of-requires
+    array-read-adds
+    loop-holds
+    mul-half-of
+    array-read-half-of-2
+    half-of-requires-2
+    returns
+    add-if2
+    mul-if2
+    array-read-if2
+    returns-2
+    add-v
+    loop-less
+    loop-again
+    returns-3)

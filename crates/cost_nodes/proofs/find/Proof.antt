@@ -1,0 +1,94 @@
+-- `cost_nodes::find` meets its contract: equal branches need no node; else the records tell whether the node is there. Assumes nothing.
+use Rattle.words.specs.Words.{size}
+use Rattle.settings.proofs.Answers.{sure, sure-not}
+use Rattle.cost_nodes.specs.Nodes.{AllSame}
+use Rattle.cost_nodes.proofs.Making.{found-same, found-node, found-none, first-small}
+use native.Mathlib.Omega.{arith}
+use Prim.Native.Nat.{ℕ, _+_, _-_}
+use mathlib.Core.Path.{_≡_, sym, subst, _∙_}
+use borrow.Author.Needs.{needs}
+use Rattle.cost_nodes.proofs.find.Statement.{statement}
+use Rattle.cost_nodes.proofs.find.Tie as tie
+
+add-head-word : tie.Need-add-head-word
+add-head-word c = search needs
+
+head-word-requires : tie.Need-head-word-requires
+head-word-requires c κs = search needs
+
+wide-requires : tie.Need-wide-requires
+wide-requires c κs = search needs
+
+all-same-requires : tie.Need-all-same-requires
+all-same-requires c κs = omega (arith, (c .before .before .before) .pre .0 .laid .laid .large ((c .before .before .before) .args .k) ((c .before .before .before) .pre .1))
+
+array-read-half-of : tie.Need-array-read-half-of
+array-read-half-of c = search needs
+
+half-of-requires : tie.Need-half-of-requires
+half-of-requires c κs = search needs
+
+target-at-requires : tie.Need-target-at-requires
+target-at-requires c κs = search needs
+
+returns : tie.Need-returns
+returns c = let a = (c .before .before .before .before .before .before .before) in
+    let w = a .args .t .now in
+    let k = a .args .k in
+    let l = a .args .t3 in
+    let e : (c .before .before .before .before .wide) .result ≡ size w k = (c .before .before .before .before .wide) .ensures .0 ∙ (c .before .before .before .before .before .head-word) .ensures in
+    let d = a .pre .0 .laid .laid in (
+      found-same w k l (a .pre .0) (a .pre .1) (a .pre .2) _ ((c .target-at) .ensures ∙ (c .before .half-of) .ensures) (subst (λ (n : ℕ). AllSame n l) e (sure ((c .before .before .if1) .taken) ((c .before .before .before .all-same) .ensures))),
+      omega (arith, (c .target-at) .ensures ∙ (c .before .half-of) .ensures, first-small w k l (a .pre .0) (a .pre .1) (a .pre .2), d .within, d .most),
+    )
+
+find-record-requires : tie.Need-find-record-requires
+find-record-requires c κs = search needs
+
+sub-narrow : tie.Need-sub-narrow
+sub-narrow c = search needs
+
+narrow-requires : tie.Need-narrow-requires
+narrow-requires c κs = search needs
+
+returns-2 : tie.Need-returns-2
+returns-2 c = let a = (c .before .before .before .before .before .before .before .before) in
+    let w = a .args .t .now in
+    let k = a .args .k in
+    let l = a .args .t3 in
+    let e : (c .before .before .before .before .before .wide) .result ≡ size w k = (c .before .before .before .before .before .wide) .ensures .0 ∙ (c .before .before .before .before .before .before .head-word) .ensures in
+    let d = a .pre .0 .laid .laid in
+    let f = (c .before .before .find-record) .ensures in
+    let q : 1 + (c .narrow) .result ≡ 1 + ((c .before .before .find-record) .result - 1) = omega (arith, (c .narrow) .ensures) in (
+      found-node w k l (a .pre .0) (a .pre .1) (a .pre .2) (1 + (c .narrow) .result) ((c .before .before .find-record) .result - 1) (omega arith) (omega (arith, f .within))
+          (λ s. sure-not ((c .before .before .before .if1) .left) ((c .before .before .before .before .all-same) .ensures) (subst (λ (n : ℕ). AllSame n l) (sym e) s)) (f .there (omega arith)),
+      omega (arith, f .within, d .within, d .most),
+    )
+
+returns-3 : tie.Need-returns-3
+returns-3 c = let a = (c .before .before .before .before .before .before .before) in
+    let w = a .args .t .now in
+    let k = a .args .k in
+    let l = a .args .t3 in
+    let e : (c .before .before .before .before .wide) .result ≡ size w k = (c .before .before .before .before .wide) .ensures .0 ∙ (c .before .before .before .before .before .head-word) .ensures in
+    let d = a .pre .0 .laid .laid in
+    found-none w k l (a .pre .0) (a .pre .1) (a .pre .2) ((c .before .find-record) .result) (omega arith)
+    (λ s. sure-not ((c .before .before .if1) .left) ((c .before .before .before .all-same) .ensures) (subst (λ (n : ℕ). AllSame n l) (sym e) s)) ((c .before .find-record) .ensures)
+
+pub find-spec : {M : Type 1} → statement M
+find-spec =
+    tie.close
+    (tie.spec
+    add-head-word
+    head-word-requires
+    wide-requires
+    all-same-requires
+    array-read-half-of
+    half-of-requires
+    target-at-requires
+    returns
+    find-record-requires
+    sub-narrow
+    narrow-requires
+    returns-2
+    returns-3)

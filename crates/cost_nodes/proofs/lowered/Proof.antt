@@ -1,0 +1,79 @@
+-- `cost_nodes::lowered` meets its contract: in the loop the first v are lowered, and the others are 0. Assumes nothing.
+use Rattle.cost_laws.specs.Integers.{int}
+use Rattle.words.specs.Words.{listed}
+use Rattle.words.proofs.Tab.{same}
+use lib.IntN.{_-ℤ_}
+use lib.Seq.{getD-set-same, getD-set-other}
+use lib.ListN.{length, length-set, getD-replicate}
+use native.Mathlib.Omega.{arith}
+use Prim.Native.Nat.{ℕ, _-_, _≤_, _<_}
+use mathlib.Core.Logic.{⊎-elim}
+use mathlib.Core.Path.{_≡_, refl, ap, _∙_}
+use borrow.Author.Needs.{needs}
+use Rattle.cost_nodes.proofs.lowered.Statement.{statement}
+use Rattle.cost_nodes.proofs.lowered.Tie as tie
+
+abbrev Inv-loop : tie.InvT-loop
+Inv-loop m adds list₀ v₀ list v = (length list ≡ 8) × (v ≤ m) × ((u : ℕ) → u < v → int (listed list u) ≡ int (listed adds u) -ℤ int (listed adds 0)) × ((u : ℕ) → v ≤ u → u < 8 → listed list u ≡ 0)
+
+abbrev μ-loop : tie.MeasureT-loop
+μ-loop m adds list₀ v₀ list v = m - v
+
+loop-holds : tie.Need-loop-holds Inv-loop μ-loop
+loop-holds c = (refl, omega arith, (λ u h. absurd (omega arith)), λ u a b. getD-replicate 8 u 0 0 b)
+
+mul-difference-word : tie.Need-mul-difference-word Inv-loop μ-loop
+mul-difference-word c = search needs
+
+array-read-difference-word : tie.Need-array-read-difference-word Inv-loop μ-loop
+array-read-difference-word c = search needs
+
+array-read-difference-word-2 : tie.Need-array-read-difference-word-2 Inv-loop μ-loop
+array-read-difference-word-2 c = search needs
+
+difference-word-requires : tie.Need-difference-word-requires Inv-loop μ-loop
+difference-word-requires c κs = (c .before .before) .pre .1 ((c .before .loop) .v) (omega arith)
+
+mul-list : tie.Need-mul-list Inv-loop μ-loop
+mul-list c = search needs
+
+array-write-list : tie.Need-array-write-list Inv-loop μ-loop
+array-write-list c = search needs
+
+add-v : tie.Need-add-v Inv-loop μ-loop
+add-v c = search needs
+
+loop-less : tie.Need-loop-less Inv-loop μ-loop
+loop-less c = search needs
+
+loop-again : tie.Need-loop-again Inv-loop μ-loop
+loop-again c = let l = (c .before .before .loop) in (
+  simp length-set (l .inv .0),
+  omega arith,
+  (λ u h. ⊎-elim
+      (λ e. rw e (ap int (getD-set-same (l .list) _ _ 0 (omega arith)) ∙ (c .difference-word) .ensures))
+      (λ n. ap int (getD-set-other (l .list) _ u _ 0 n) ∙ l .inv .2 u (omega (arith, n)))
+      (same u (l .v))),
+  (λ u a b. getD-set-other (l .list) _ u _ 0 (omega arith) ∙ l .inv .3 u (omega arith) b),
+)
+
+returns : tie.Need-returns Inv-loop μ-loop
+returns c = let l = (c .before .loop) in record { each = λ v h. l .inv .2 v (omega arith); pad = λ v a b. l .inv .3 v (omega arith) b }
+
+pub lowered-spec : {M : Type 1} → statement M
+lowered-spec =
+    tie.close
+    (tie.spec
+    Inv-loop
+    μ-loop
+    loop-holds
+    mul-difference-word
+    array-read-difference-word
+    array-read-difference-word-2
+    difference-word-requires
+    mul-list
+    array-write-list
+    add-v
+    loop-less
+    loop-again
+    returns)

@@ -1,0 +1,137 @@
+-- `cost_nodes::make` meets its contract: what was found is there; what is missing becomes the last node, where there is room. Assumes nothing.
+use Rattle.words.specs.Words.{size, count}
+use Rattle.cost_nodes.specs.Nodes.{Lowered}
+use Rattle.cost_nodes.proofs.Making.{found-at, found-missing, small-target, levelled, made-new, made-none, made-there}
+use native.Mathlib.Omega.{arith}
+use Prim.Native.Nat.{ℕ, _+_}
+use mathlib.Core.Path.{_≡_, ap, subst, _∙_}
+use borrow.Author.Needs.{needs}
+use Rattle.cost_nodes.proofs.make.Statement.{statement}
+use Rattle.cost_nodes.proofs.make.Tie as tie
+
+add-head-word : tie.Need-add-head-word
+add-head-word c = search needs
+
+head-word-requires : tie.Need-head-word-requires
+head-word-requires c κs = search needs
+
+wide-requires : tie.Need-wide-requires
+wide-requires c κs = search needs
+
+lowered-requires : tie.Need-lowered-requires
+lowered-requires c κs = let a = (c .before .before .before .before) in
+    let e : (c .wide) .result ≡ size (a .args .t .now) (a .args .k) = (c .wide) .ensures .0 ∙ (c .before .head-word) .ensures in
+    (omega (arith, a .pre .0 .laid .laid .large (a .args .k) (a .pre .1)), λ v h. a .pre .2 .near v (omega arith))
+
+pack-requires : tie.Need-pack-requires
+pack-requires c κs = let a = (c .before .before .before .before .before) in small-target (a .args .t .now) (a .args .k) (a .args .goes) (a .args .t4) (a .pre .0) (a .pre .2)
+
+array-read-base : tie.Need-array-read-base
+array-read-base c = search needs
+
+find-requires : tie.Need-find-requires
+find-requires c κs = let a = (c .before .before .before .before .before .before .before) in
+    let w = a .args .t .now in
+    let k = a .args .k in
+    let x = a .args .goes in
+    let y = a .args .t4 in
+    let r = (c .before .before .lowered) .result in
+    let l = (c .before .pack) .result in
+    let lo : Lowered (size w k) y r = subst (λ (n : ℕ). Lowered n y r) ((c .before .before .before .wide) .ensures .0 ∙ (c .before .before .before .before .head-word) .ensures) ((c .before .before .lowered) .ensures) in
+    (a .pre .0, a .pre .1, levelled w k x y r l (a .pre .0) (a .pre .1) (a .pre .2) lo ((c .before .pack) .ensures))
+
+enum-known-x : tie.Need-enum-known-x
+enum-known-x c = search needs
+
+enum-told : tie.Need-enum-told
+enum-told c = search needs
+
+head-word-requires-2 : tie.Need-head-word-requires-2
+head-word-requires-2 c κs = search needs
+
+head-word-requires-3 : tie.Need-head-word-requires-3
+head-word-requires-3 c κs = search needs
+
+push-requires : tie.Need-push-requires
+push-requires c κs = search needs
+
+narrow-requires : tie.Need-narrow-requires
+narrow-requires c κs = search needs
+
+target-word-requires : tie.Need-target-word-requires
+target-word-requires c κs = search needs
+
+same-length : tie.Need-same-length
+same-length c = search needs
+
+returns : tie.Need-returns
+returns c = let a = (c .before .before .before .before .before .before .before .before .before .before .before .before .before .before .before .before .before .before .before .before .before) in
+    let w = a .args .t .now in
+    let k = a .args .k in
+    let x = a .args .goes in
+    let y = a .args .t4 in
+    let r = (c .before .before .before .before .before .before .before .before .before .before .before .before .before .before .before .before .lowered) .result in
+    let l = (c .before .before .before .before .before .before .before .before .before .before .before .before .before .before .before .pack) .result in
+    let lo : Lowered (size w k) y r = subst (λ (n : ℕ). Lowered n y r) ((c .before .before .before .before .before .before .before .before .before .before .before .before .before .before .before .before .before .wide) .ensures .0 ∙ (c .before .before .before .before .before .before .before .before .before .before .before .before .before .before .before .before .before .before .head-word) .ensures) ((c .before .before .before .before .before .before .before .before .before .before .before .before .before .before .before .before .lowered) .ensures) in
+    let ab = found-missing w k l _ ((c .before .before .before .before .before .before .before .before .before .before .before .enum-told) .given .1) ((c .before .before .before .before .before .before .before .before .before .before .before .before .before .find) .ensures) in
+    let e : (c .target-word) .result ≡ 1 + count w = (c .target-word) .ensures ∙ ap (λ (i : ℕ). 1 + i) ((c .before .narrow) .ensures ∙ (c .before .before .before .before .push) .ensures .0) in
+    made-new w k x y r l (a .pre .0) (a .pre .1) (a .pre .2) lo ((c .before .before .before .before .before .before .before .before .before .before .before .before .before .before .before .pack) .ensures) _ _ ab (omega arith) (omega arith) ((c .before .before .before .before .push) .ensures .1)
+
+same-length-2 : tie.Need-same-length-2
+same-length-2 c = search needs
+
+returns-2 : tie.Need-returns-2
+returns-2 c = let a = (c .before .before .before .before .before .before .before .before .before .before .before .before .before .before .before) in
+    let w = a .args .t .now in
+    let k = a .args .k in
+    let x = a .args .goes in
+    let y = a .args .t4 in
+    let r = (c .before .before .before .before .before .before .before .before .before .before .lowered) .result in
+    let l = (c .before .before .before .before .before .before .before .before .before .pack) .result in
+    let lo : Lowered (size w k) y r = subst (λ (n : ℕ). Lowered n y r) ((c .before .before .before .before .before .before .before .before .before .before .before .wide) .ensures .0 ∙ (c .before .before .before .before .before .before .before .before .before .before .before .before .head-word) .ensures) ((c .before .before .before .before .before .before .before .before .before .before .lowered) .ensures) in
+    let ab = found-missing w k l _ ((c .before .before .before .before .before .enum-told) .given .1) ((c .before .before .before .before .before .before .before .find) .ensures) in
+    made-none w k x y r l (a .pre .0) (a .pre .1) (a .pre .2) lo ((c .before .before .before .before .before .before .before .before .before .pack) .ensures) ab (omega arith)
+
+target-word-requires-2 : tie.Need-target-word-requires-2
+target-word-requires-2 c κs = let a = (c .before .before .before .before .before .before .before .before .before .before .before) in found-at (a .args .t .now) (a .args .k) ((c .before .before .before .before .before .pack) .result) _ ((c .before .x) .given .0 .0) ((c .before .x) .given .1) ((c .before .before .before .find) .ensures) .1
+
+same-length-3 : tie.Need-same-length-3
+same-length-3 c = search needs
+
+returns-3 : tie.Need-returns-3
+returns-3 c = let a = (c .before .before .before .before .before .before .before .before .before .before .before .before) in
+    let w = a .args .t .now in
+    let k = a .args .k in
+    let x = a .args .goes in
+    let y = a .args .t4 in
+    let r = (c .before .before .before .before .before .before .before .lowered) .result in
+    let l = (c .before .before .before .before .before .before .pack) .result in
+    let lo : Lowered (size w k) y r = subst (λ (n : ℕ). Lowered n y r) ((c .before .before .before .before .before .before .before .before .wide) .ensures .0 ∙ (c .before .before .before .before .before .before .before .before .before .head-word) .ensures) ((c .before .before .before .before .before .before .before .lowered) .ensures) in
+    rw ((c .target-word2) .ensures)
+    (made-there w k x y r l (a .pre .0) (a .pre .1) (a .pre .2) lo ((c .before .before .before .before .before .before .pack) .ensures) _ (found-at w k l _ ((c .before .before .x) .given .0 .0) ((c .before .before .x) .given .1) ((c .before .before .before .before .find) .ensures) .0))
+
+pub make-spec : {M : Type 1} → statement M
+make-spec =
+    tie.close
+    (tie.spec
+    add-head-word
+    head-word-requires
+    wide-requires
+    lowered-requires
+    pack-requires
+    array-read-base
+    find-requires
+    enum-known-x
+    enum-told
+    head-word-requires-2
+    head-word-requires-3
+    push-requires
+    narrow-requires
+    target-word-requires
+    same-length
+    returns
+    same-length-2
+    returns-2
+    target-word-requires-2
+    same-length-3
+    returns-3)

@@ -1,0 +1,151 @@
+-- Targets and integers in words, and two targets in a word: read back. Assumes nothing.
+use mathlib.Core.Path.{_≡_, refl, sym, ap, ap₂, _∙_}
+use mathlib.Core.Logic.{⊎-elim}
+use Prim.Native.Nat.{ℕ, zero, suc, _+_, _*_, _-_, _/_, _%_, _≤_, _<_}
+use native.Mathlib.Omega.{arith}
+use borrow.Author.Tests.{eq-eqb, ne-eqb, lt-ltb, le-ltb}
+use lib.IntN.{pos}
+use Rattle.theory.specs.Costs.{costs}
+use Rattle.theory.specs.Diagrams.{Branch, Target, leaf, node}
+use Rattle.cost_laws.specs.Integers.{fall, bias, int, wordFor}
+use Rattle.cost_laws.proofs.Integers.{ℕ-eq, minus-fall}
+use Rattle.cost_laws.proofs.Words.{int-ℕ, int-one, int-word, signed-word}
+use Rattle.words.specs.Coding.{Faithful}
+use Rattle.words.proofs.Tab.{split, same}
+use Rattle.cost_words.specs.Words.{target, targetWord, branch, half, goes, added, Padded, code, packed}
+
+-- ---- targets
+pub target-end : (x : ℕ) → x ≡ 0 → target x ≡ leaf tt
+unfolding target
+target-end x e = rw e
+
+pub target-node : (x i : ℕ) → x ≡ suc i → target x ≡ node i
+unfolding target
+target-node x i e = rw e
+
+pub target-word : (x : ℕ) → targetWord (target x) ≡ x
+unfolding target
+target-word zero = refl
+target-word (suc i) = refl
+
+pub word-target : (t : Target costs) → target (targetWord t) ≡ t
+unfolding target
+word-target (leaf e) = refl
+word-target (node i) = refl
+
+pub target-one : (x y : ℕ) → target x ≡ target y → x ≡ y
+target-one x y e = sym (target-word x) ∙ ap targetWord e ∙ target-word y
+
+-- ---- integers
+pub int-zero : int 2147483648 ≡ pos 0
+int-zero = ℕ-eq (int 2147483648) (pos 0) (omega (arith, int-ℕ 2147483648))
+
+pub int-fall : (x : ℕ) → fall (int x) ≤ bias
+int-fall x = omega (arith, ap fall (signed-word x), minus-fall (pos x) (pos bias))
+
+pub word-int : (x : ℕ) → wordFor (int x) ≡ x
+word-int x = omega (arith, int-ℕ x, int-fall x)
+
+-- the branch of the words of a branch
+pub word-branch : (b : Branch costs) → fall (b .adds) ≤ bias → branch (targetWord (b .to)) (wordFor (b .adds)) ≡ b
+word-branch b h = λ i. record { adds = int-word (b .adds) h i; to = word-target (b .to) i }
+
+-- ---- halves
+pub half-even : (x v : ℕ) → v % 2 ≡ 0 → half x v ≡ x % 65536
+unfolding half
+half-even x v e = rw (eq-eqb (v % 2) 0 e)
+
+pub half-odd : (x v : ℕ) → (v % 2 ≡ 0 → ⊥) → half x v ≡ x / 65536
+unfolding half
+half-odd x v e = rw (ne-eqb (v % 2) 0 e)
+
+-- the two halves of body word u
+pub goes-low : (f : ℕ → ℕ) (u : ℕ) → goes f (2 * u) ≡ f u % 65536
+goes-low f u =
+    let e : 2 * u / 2 ≡ u = omega arith in
+    half-even (f (2 * u / 2)) (2 * u) (omega arith) ∙ ap (λ (j : ℕ). f j % 65536) e
+
+pub goes-high : (f : ℕ → ℕ) (u : ℕ) → goes f (2 * u + 1) ≡ f u / 65536
+goes-high f u =
+    let e : (2 * u + 1) / 2 ≡ u = omega arith in
+    half-odd (f ((2 * u + 1) / 2)) (2 * u + 1) (λ z. omega arith) ∙ ap (λ (j : ℕ). f j / 65536) e
+
+-- ---- a body packed
+module _ (x a : ℕ → ℕ) where
+  pub packed-low : (v : ℕ) → v < 4 → packed x a v ≡ x (2 * v) + 65536 * x (2 * v + 1)
+  unfolding packed
+  packed-low v h = rw (lt-ltb v 4 h)
+
+  pub packed-high : (v : ℕ) → 4 ≤ v → packed x a v ≡ a (v - 4)
+  unfolding packed
+  packed-high v h = rw (le-ltb v 4 h)
+
+  pub packed-added : (v : ℕ) → added (packed x a) v ≡ a v
+  packed-added v = packed-high (4 + v) (omega arith) ∙ ap a (let e : 4 + v - 4 ≡ v = omega arith in e)
+
+  pub packed-goes : ((u : ℕ) → u < 8 → x u < 65536) → (v : ℕ) → v < 8 → goes (packed x a) v ≡ x v
+  packed-goes small v h = ⊎-elim even odd (same (v % 2) 0)
+    where
+      word : packed x a (v / 2) ≡ x (2 * (v / 2)) + 65536 * x (2 * (v / 2) + 1)
+      word = packed-low (v / 2) (omega arith)
+
+      low : x (2 * (v / 2)) < 65536
+      low = small (2 * (v / 2)) (omega arith)
+
+      even : v % 2 ≡ 0 → goes (packed x a) v ≡ x v
+      even e =
+          let q : 2 * (v / 2) ≡ v = omega arith in
+          let r : packed x a (v / 2) % 65536 ≡ x (2 * (v / 2)) = omega (arith, word, low) in
+          half-even (packed x a (v / 2)) v e ∙ r ∙ ap x q
+
+      odd : (v % 2 ≡ 0 → ⊥) → goes (packed x a) v ≡ x v
+      odd e =
+          let q : 2 * (v / 2) + 1 ≡ v = omega (arith, e) in
+          let r : packed x a (v / 2) / 65536 ≡ x (2 * (v / 2) + 1) = omega (arith, word, low) in
+          half-odd (packed x a (v / 2)) v e ∙ r ∙ ap x q
+
+pub packed-ext : (x y a b : ℕ → ℕ) → ((v : ℕ) → v < 8 → x v ≡ y v) → ((v : ℕ) → v < 8 → a v ≡ b v) → (v : ℕ) → v < 12 → packed x a v ≡ packed y b v
+packed-ext x y a b e d v h = ⊎-elim
+    (λ l. packed-low x a v l ∙ ap₂ (λ (p q : ℕ). p + 65536 * q) (e (2 * v) (omega arith)) (e (2 * v + 1) (omega arith)) ∙ sym (packed-low y b v l))
+    (λ l. packed-high x a v l ∙ d (v - 4) (omega arith) ∙ sym (packed-high y b v l))
+    (split v 4)
+
+-- every body is packed of its targets and added words
+pub packed-self : (f : ℕ → ℕ) (v : ℕ) → v < 12 → f v ≡ packed (goes f) (added f) v
+packed-self f v h = ⊎-elim
+    (λ l.
+    let e : f v ≡ goes f (2 * v) + 65536 * goes f (2 * v + 1) = omega (arith, goes-low f v, goes-high f v) in
+    e ∙ sym (packed-low (goes f) (added f) v l))
+    (λ l. ap f (let e : v ≡ 4 + (v - 4) = omega arith in e) ∙ sym (packed-high (goes f) (added f) v l))
+    (split v 4)
+
+-- ---- the branches tell the body words
+module _ (m : ℕ) (f g : ℕ → ℕ) (e : (v : ℕ) → v < m → code .arm f v ≡ code .arm g v) (p : Padded m f) (q : Padded m g) where
+  goes-told : (v : ℕ) → v < 8 → goes f v ≡ goes g v
+  goes-told v h = ⊎-elim
+      (λ s. target-one (goes f v) (goes g v) (ap (λ (b : Branch costs). b .to) (e v s)))
+      (λ s. p .targets v s h ∙ sym (q .targets v s h))
+      (split v m)
+
+  added-told : (v : ℕ) → v < 8 → added f v ≡ added g v
+  added-told v h = ⊎-elim
+      (λ s. int-one (added f v) (added g v) (ap (λ (b : Branch costs). b .adds) (e v s)))
+      (λ s. p .addeds v s h ∙ sym (q .addeds v s h))
+      (split v m)
+
+  body-told : (u : ℕ) → u < 12 → f u ≡ g u
+  body-told u h = packed-self f u h ∙ packed-ext (goes f) (goes g) (added f) (added g) goes-told added-told u h ∙ sym (packed-self g u h)
+
+goes-same : (f g : ℕ → ℕ) → ((u : ℕ) → u < 12 → f u ≡ g u) → (v : ℕ) → v < 8 → goes f v ≡ goes g v
+goes-same f g e v h = ap (λ (y : ℕ). half y v) (e (v / 2) (omega arith))
+
+pub faithful : Faithful code
+faithful =
+    record {
+      reads = λ f g v h e. ap₂ branch (goes-same f g e v h) (e (4 + v) (omega arith));
+      padded = λ m f g e p. record {
+        targets = λ v l h. sym (goes-same f g e v h) ∙ p .targets v l h;
+        addeds = λ v l h. sym (e (4 + v) (omega arith)) ∙ p .addeds v l h;
+      };
+      told = λ m f g l e p q. body-told m f g e p q;
+    }

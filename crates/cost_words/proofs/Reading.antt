@@ -1,0 +1,38 @@
+-- The node list, the roots and the costs by index. Assumes nothing.
+use mathlib.Core.Path.{_≡_}
+use mathlib.Core.List.{List}
+use Prim.Native.Nat.{ℕ, _<_}
+use lib.ListN.{length, getD}
+use Rattle.theory.specs.Diagrams.{at, blank}
+use Rattle.theory.specs.Functions.{zero-fun}
+use Rattle.words.specs.Words.{count, size, feature, body}
+use Rattle.words.proofs.Coding as C
+use Rattle.words.proofs.Tab.{length-tab, getD-tab}
+use Rattle.cost_words.specs.Words.{branch, goes, added, code, nodeAt, nodes, rootAt, roots, costOf, costsOf}
+
+pub length-nodes : (w : List ℕ) → length (nodes w) ≡ count w
+length-nodes w = C.length-nodes code w
+
+pub at-nodes : (w : List ℕ) (i : ℕ) → i < count w → at (nodes w) i ≡ nodeAt w i
+at-nodes w i h = C.at-nodes code w i h
+
+-- branch v of node i
+pub branch-at : (w : List ℕ) (i v : ℕ) → i < count w → v < size w (feature w i) → getD (at (nodes w) i .branches) v blank ≡ branch (goes (body w i) v) (added (body w i) v)
+branch-at w i v h hv = C.branch-at code w i v h hv
+
+-- roots and costs
+pub length-roots : (w : List ℕ) → length (roots w) ≡ 16
+unfolding roots
+length-roots w = length-tab (rootAt w) 16
+
+pub at-roots : (w : List ℕ) (p : ℕ) → p < 16 → getD (roots w) p blank ≡ rootAt w p
+unfolding roots
+at-roots w p h = getD-tab (rootAt w) 16 p blank h
+
+pub length-costs : (w : List ℕ) → length (costsOf w) ≡ 16
+unfolding costsOf
+length-costs w = length-tab (costOf w) 16
+
+pub at-costs : (w : List ℕ) (p : ℕ) → p < 16 → getD (costsOf w) p zero-fun ≡ costOf w p
+unfolding costsOf
+at-costs w p h = getD-tab (costOf w) 16 p zero-fun h

@@ -1,0 +1,20 @@
+-- `cost_words::adds_at` meets its contract: the added words follow the four words of targets. Assumes nothing.
+use Rattle.words.specs.Words.{word}
+use native.Mathlib.Omega.{arith}
+use Prim.Native.Nat.{_+_}
+use mathlib.Core.Path.{_≡_, ap, _∙_}
+use borrow.Author.Needs.{needs}
+use Rattle.cost_words.proofs.adds_at.Statement.{statement}
+use Rattle.cost_words.proofs.adds_at.Tie as tie
+
+add-record-word : tie.Need-add-record-word
+add-record-word c = search needs
+
+record-word-requires : tie.Need-record-word-requires
+record-word-requires c κs = search needs
+
+returns : tie.Need-returns
+returns c = let a = c .before .before .args in c .record-word .ensures ∙ ap (word (a .t .now) (a .i)) (let e : 5 + a .v ≡ 1 + (4 + a .v) = omega arith in e)
+
+pub adds-at-spec : {M : Type 1} → statement M
+adds-at-spec = tie.close (tie.spec add-record-word record-word-requires returns)

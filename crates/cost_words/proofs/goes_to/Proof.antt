@@ -1,0 +1,22 @@
+-- `cost_words::goes_to` meets its contract: a half of a body word. Assumes nothing.
+use Rattle.cost_words.specs.Words.{half}
+use Prim.Native.Nat.{ℕ}
+use mathlib.Core.Path.{ap, _∙_}
+use borrow.Author.Needs.{needs}
+use Rattle.cost_words.proofs.goes_to.Statement.{statement}
+use Rattle.cost_words.proofs.goes_to.Tie as tie
+
+add-record-word : tie.Need-add-record-word
+add-record-word c = search needs
+
+record-word-requires : tie.Need-record-word-requires
+record-word-requires c κs = search needs
+
+half-of-requires : tie.Need-half-of-requires
+half-of-requires c κs = search needs
+
+returns : tie.Need-returns
+returns c = c .half-of .ensures ∙ ap (λ (y : ℕ). half y (c .before .before .before .args .v)) (c .before .record-word .ensures)
+
+pub goes-to-spec : {M : Type 1} → statement M
+goes-to-spec = tie.close (tie.spec add-record-word record-word-requires half-of-requires returns)

@@ -1,0 +1,127 @@
+// What the words of a cost table say: targets in half words, added integers, roots and bases.
+use words::head_word;
+use words::record_word;
+ghost use mathlib.Core.Path.{_≡_};
+ghost use Prim.Native.Nat.{ℕ, _+_, _*_, _≤_, _<_};
+ghost use lib.ListN.{length, getD};
+ghost use lib.IntN.{_+ℤ_, _-ℤ_};
+ghost use Rattle.cost_laws.specs.Integers.{Fit, int};
+ghost use Rattle.cost_laws.specs.Range.{addMost};
+ghost use Rattle.words.specs.Words.{body, listed};
+ghost use Rattle.cost_words.specs.Words.{half, goes, added, packed, root, base, wordOf};
+
+// Where a branch goes: to the end or to a node.
+pub enum Target {
+    End,
+    Node(u32),
+}
+
+// The word of a target.
+pub fn target_word(x: Target) -> u32
+    requires { ⌜ wordOf x < 65536 ⌝ }
+    ensures { λ r. ⌜ r ≡ wordOf x ⌝ }
+{
+    match x {
+        Target::End => 0,
+        Target::Node(i) => 1 + i,
+    }
+}
+
+// The target of a word.
+pub fn target_at(w: u32) -> Target
+    ensures { λ r. ⌜ wordOf r ≡ w ⌝ }
+{
+    if w == 0 {
+        Target::End
+    } else {
+        Target::Node(w - 1)
+    }
+}
+
+// The half of a word that is for value v.
+pub fn half_of(x: u32, v: usize) -> u32
+    ensures { λ r. ⌜ r ≡ half x v ⌝ }
+{
+    if v % 2 == 0 { x % 65536 } else { x / 65536 }
+}
+
+// The target word of value v of record i.
+pub fn goes_to(t: &[u32], i: usize, v: usize) -> u32
+    requires { ⌜ (8192 + 16 * i + 16 ≤ length (now t)) × (i < 8192) × (v < 8) ⌝ }
+    ensures { λ r. ⌜ r ≡ goes (body (now (t .entry)) i) v ⌝ }
+{
+    half_of(record_word(t, i, 1 + v / 2), v)
+}
+
+// The word that stands for what the branch of value v of record i adds.
+pub fn adds_at(t: &[u32], i: usize, v: usize) -> u32
+    requires { ⌜ (8192 + 16 * i + 16 ≤ length (now t)) × (i < 8192) × (v < 8) ⌝ }
+    ensures { λ r. ⌜ r ≡ added (body (now (t .entry)) i) v ⌝ }
+{
+    record_word(t, i, 5 + v)
+}
+
+// The root word of place p.
+pub fn root_word(t: &[u32], p: usize) -> u32
+    requires { ⌜ (64 ≤ length (now t)) × (p < 16) ⌝ }
+    ensures { λ r. ⌜ r ≡ root (now (t .entry)) p ⌝ }
+{
+    head_word(t, 32 + p)
+}
+
+// The word that stands for the base of place p.
+pub fn base_word(t: &[u32], p: usize) -> u32
+    requires { ⌜ (64 ≤ length (now t)) × (p < 16) ⌝ }
+    ensures { λ r. ⌜ r ≡ base (now (t .entry)) p ⌝ }
+{
+    head_word(t, 48 + p)
+}
+
+// A word in a wider number.
+fn wider(x: u32) -> u64
+    ensures { λ r. ⌜ (r ≡ x) × (r < 4294967296) ⌝ }
+{
+    x as u64
+}
+
+// The word that stands for the sum of two.
+pub fn sum_word(a: u32, b: u32) -> u32
+    requires { ⌜ Fit addMost (int a +ℤ int b) ⌝ }
+    ensures { λ r. ⌜ int r ≡ int a +ℤ int b ⌝ }
+{
+    (wider(a) + wider(b) - 2147483648) as u32
+}
+
+// The word that stands for the difference of two.
+pub fn difference_word(a: u32, b: u32) -> u32
+    requires { ⌜ Fit addMost (int a -ℤ int b) ⌝ }
+    ensures { λ r. ⌜ int r ≡ int a -ℤ int b ⌝ }
+{
+    (wider(a) + 2147483648 - wider(b)) as u32
+}
+
+// Body word v of a record with these targets and added words.
+fn packed_word(to: [u32; 8], adds: [u32; 8], v: usize) -> u32
+    requires { ⌜ ((u : ℕ) → u < 8 → listed to u < 65536) × (v < 12) ⌝ }
+    ensures { λ r. ⌜ r ≡ packed (listed to) (listed adds) v ⌝ }
+{
+    if v < 4 {
+        to[2 * v] + 65536 * to[2 * v + 1]
+    } else {
+        adds[v - 4]
+    }
+}
+
+// The body of a record with these targets and added words.
+pub fn pack(to: [u32; 8], adds: [u32; 8]) -> [u32; 12]
+    requires { ⌜ ((u : ℕ) → u < 8 → listed to u < 65536) ⌝ }
+    ensures { λ r. ⌜ ((v : ℕ) → v < 12 → getD r v 0 ≡ packed (listed to) (listed adds) v) ⌝ }
+{
+    let mut list = [0u32; 12];
+    let mut v: usize = 0;
+    while v < 12 {
+        list[v] = packed_word(to, adds, v);
+        v += 1;
+    }
+    list
+}

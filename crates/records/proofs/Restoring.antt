@@ -1,0 +1,59 @@
+-- The exact undo of a refused call: what was added, rolled back, leaves the words as they were. For every kind whose code is faithful. Assumes nothing.
+use mathlib.Core.Path.{_≡_, sym, ap, _∙_}
+use mathlib.Core.Logic.{⊎-elim}
+use mathlib.Core.List.{List}
+use Prim.Native.Nat.{ℕ, _+_, _-_, _≤_, _<_}
+use native.Mathlib.Omega.{arith}
+use Rattle.theory.specs.Kind.{Kind}
+use Rattle.theory.specs.Build.{Ext}
+use Rattle.theory.specs.Diagrams.{Node, at}
+use Rattle.theory.proofs.Growing.{ext-le}
+use Rattle.theory.proofs.WellFormed.{at-more}
+use Rattle.words.specs.Coding.{Code, Faithful, branches, nodeAt, nodes}
+use Rattle.words.specs.Holding.{Holds, Grown}
+use Rattle.words.specs.Words.{size, count, word, feature, body}
+use Rattle.words.proofs.Coding.{length-nodes, at-nodes, bodies-same}
+use Rattle.words.proofs.Filling.{grown-ext}
+use Rattle.words.proofs.Tab.{same}
+use Rattle.words.proofs.Words.{kept-size}
+use Rattle.records.specs.Changes.{Rolled}
+use Rattle.records.specs.Nodes.{layoutOf}
+use Rattle.records.proofs.Making.{lawful}
+use Rattle.records.proofs.Undoing.{undone}
+
+module _ {K : Kind} {C : Code K} (F : Faithful C) (w t : List ℕ) (N : List (Node K)) (ok : Holds (layoutOf C) w) (g : Grown (layoutOf C) w t N) (e : Ext (nodes C w) N) where
+  x : Ext (nodes C w) (nodes C t)
+  x = grown-ext (lawful C) w t N ok g e
+
+  -- `roll_back` may be asked
+  pub undo-asks : count w ≤ count t
+  undo-asks = omega (arith, ext-le x, length-nodes C w, length-nodes C t)
+
+  node-kept : (i : ℕ) → i < count w → nodeAt C t i ≡ nodeAt C w i
+  node-kept i h =
+      sym (at-nodes C t i (omega (arith, undo-asks))) ∙ ap (λ (M : List (Node K)). at M i) (x .ends)
+      ∙ at-more (nodes C w) (x .more) i (omega (arith, length-nodes C w)) ∙ at-nodes C w i h
+
+  feature-kept : (i : ℕ) → i < count w → feature t i ≡ feature w i
+  feature-kept i h = ap (λ (y : Node K). y .feature) (node-kept i h)
+
+  size-kept : (i : ℕ) → i < count w → size t (feature t i) ≡ size w (feature w i)
+  size-kept i h = ap (size t) (feature-kept i h) ∙ kept-size w t (g .kept) (ok .laid .laid .few) (feature w i) (ok .laid .laid .tests i h)
+
+  body-kept : (i : ℕ) → i < count w → (v : ℕ) → v < 12 → body t i v ≡ body w i v
+  body-kept i h =
+      bodies-same F (size w (feature w i)) (body t i) (body w i) (ok .laid .laid .large (feature w i) (ok .laid .laid .tests i h) .1)
+      (sym (ap (λ (m : ℕ). branches C m (body t i)) (size-kept i h)) ∙ ap (λ (y : Node K). y .branches) (node-kept i h))
+      (rw (size-kept i h) at (g .well .laid .padded i (omega (arith, undo-asks))))
+      (ok .laid .padded i h)
+
+  -- equal nodes have equal words
+  words-kept : (i j : ℕ) → i < count w → j < 13 → word t i j ≡ word w i j
+  words-kept i j h l = ⊎-elim
+      (λ z. rw z (feature-kept i h))
+      (λ z. let q : 1 + (j - 1) ≡ j = omega (arith, z) in rw q at (body-kept i h (j - 1) (omega (arith, z))))
+      (same j 0)
+
+  -- THE EXACT UNDO
+  pub undo : (t′ : List ℕ) → Rolled t t′ (count w) → t′ ≡ w
+  undo t′ r = undone w t t′ (ok .laid .laid) (g .kept) words-kept r

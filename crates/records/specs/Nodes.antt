@@ -1,0 +1,35 @@
+-- A table of any kind as the holder of a node list, given how its body words say branches; one node that is asked for. Assumes nothing.
+use mathlib.Core.List.{List}
+use Prim.Native.Nat.{ℕ, suc, _<_}
+use Rattle.theory.specs.Kind.{Kind}
+use Rattle.theory.specs.Deciding.{Alike, In}
+use Rattle.theory.specs.Diagrams.{Node, blank, empty}
+use Rattle.theory.specs.WellFormed.{Ok}
+use Rattle.words.specs.Coding.{Code, branches, nodes}
+use Rattle.words.specs.Holding.{Layout}
+use Rattle.words.specs.Words.{capacity, size, sizes, count, feature, body, listed, Kept}
+use Rattle.records.specs.Laid.{Laid}
+
+module _ {K : Kind} (C : Code K) where
+  -- laid out as every table, and each body says nothing past the values of its feature
+  pub record NodesLaid (w : List ℕ) : Type 0 where
+    pub laid : Laid w
+    pub padded : (i : ℕ) → i < count w → C .Padded (size w (feature w i)) (body w i)
+
+  -- how such a table is read
+  abbrev pub layoutOf : Layout K
+  layoutOf = record { nodes = nodes C; sizes = sizes; capacity = capacity; Laid = NodesLaid; Kept = Kept }
+
+  -- the list is a body for feature k: its branches may stand one feature on, and it is padded
+  pub record Listed (w : List ℕ) (k : ℕ) (l : List ℕ) : Type 0 where
+    pub each : (v : ℕ) → v < size w k → Ok (nodes C w) (suc k) (C .arm (listed l) v)
+    pub pad : C .Padded (size w k) (listed l)
+
+  -- the node of feature k with the list's branches
+  abbrev pub nodeOf : List ℕ → ℕ → List ℕ → Node K
+  nodeOf w k l = record { feature = k; branches = branches C (size w k) (listed l) }
+
+  -- nothing has the list's branches at feature k: they differ, and no node has them
+  pub record Absent (w : List ℕ) (k : ℕ) (l : List ℕ) : Type 0 where
+    pub varied : ¬ Alike blank (branches C (size w k) (listed l))
+    pub missing : ¬ In empty (nodeOf w k l) (nodes C w)

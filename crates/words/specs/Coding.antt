@@ -1,0 +1,32 @@
+-- How the body words of a record say the branches of a node, and the nodes that the words of a table say so. Assumes nothing.
+use mathlib.Core.Path.{_≡_}
+use mathlib.Core.List.{List}
+use Prim.Native.Nat.{ℕ, _≤_, _<_}
+use Rattle.theory.specs.Kind.{Kind}
+use Rattle.theory.specs.Diagrams.{Branch, Node}
+use Rattle.words.specs.Tab.{tab}
+use Rattle.words.specs.Words.{count, size, feature, body}
+
+pub record Code (K : Kind) : Type 1 where
+  -- branch v that the body words f say
+  pub arm : (ℕ → ℕ) → ℕ → Branch K
+  -- past m branches the body words f say nothing: they are 0
+  pub Padded : ℕ → (ℕ → ℕ) → Type 0
+
+module _ {K : Kind} (C : Code K) where
+  -- the branches that the body words f say for a feature of m values
+  abbrev pub branches : ℕ → (ℕ → ℕ) → List (Branch K)
+  branches m f = tab (C .arm f) m
+
+  -- node i: its feature, and as many branches as that feature has values
+  abbrev pub nodeAt : List ℕ → ℕ → Node K
+  nodeAt w i = record { feature = feature w i; branches = branches (size w (feature w i)) (body w i) }
+
+  unfoldable pub nodes : List ℕ → List (Node K)
+  nodes w = tab (nodeAt w) (count w)
+
+-- what a code must obey: it reads nothing but the 12 body words, and the branches tell them all
+pub record Faithful {K : Kind} (C : Code K) : Type 0 where
+  pub reads : (f g : ℕ → ℕ) (v : ℕ) → v < 8 → ((u : ℕ) → u < 12 → f u ≡ g u) → C .arm f v ≡ C .arm g v
+  pub padded : (m : ℕ) (f g : ℕ → ℕ) → ((u : ℕ) → u < 12 → f u ≡ g u) → C .Padded m f → C .Padded m g
+  pub told : (m : ℕ) (f g : ℕ → ℕ) → m ≤ 8 → ((v : ℕ) → v < m → C .arm f v ≡ C .arm g v) → C .Padded m f → C .Padded m g → (u : ℕ) → u < 12 → f u ≡ g u
