@@ -1,5 +1,11 @@
-/* Lampgrotto for C. A slice of the library is a pointer and a length here; a pointer must be good for its length, and slices
-   that a call writes must not overlap others. Everything else a call tests itself. Nothing is allocated, nothing is kept. */
+/* Lampgrotto for C: rules over features, kept as decision diagrams in words that the caller lends.
+
+   A slice of the library is a pointer and a length here. A pointer must be good for its length (any pointer that is not null will
+   do where the length is 0), and a slice that a call writes must not overlap another of that call. Everything else a call tests
+   itself. Nothing is allocated, nothing is kept between calls, and there is no state but the lent words: calls on different
+   tables may run at the same time.
+
+   Every function is proved against docs/PROMISES.md, which says the same as the comments here, more exactly. */
 #ifndef LAMPGROTTO_H
 #define LAMPGROTTO_H
 
@@ -13,53 +19,117 @@ extern "C" {
 /* How a call ends. 0: it was done. Of several refusals that apply the lowest is given, and the table is left as it was. */
 enum lampgrotto_ending {
     LAMPGROTTO_TAKEN = 0,
-    LAMPGROTTO_DAMAGED = 1,
-    LAMPGROTTO_BAD_PLACE = 2,
-    LAMPGROTTO_NEWER = 3,
-    LAMPGROTTO_BAD_SHEET = 4,
-    LAMPGROTTO_OTHER_FEATURES = 5,
-    LAMPGROTTO_BAD_ARGUMENT = 6,
-    LAMPGROTTO_BAD_SELECTOR = 7,
-    LAMPGROTTO_RANGE = 8,
-    LAMPGROTTO_NO_ROOM = 9,
-    LAMPGROTTO_NO_SPACE = 10,
-    LAMPGROTTO_NONE = 11,
-    LAMPGROTTO_BAD_OPENING = 12
+    LAMPGROTTO_DAMAGED = 1,        /* the words are no sound table */
+    LAMPGROTTO_BAD_PLACE = 2,      /* a place of 32 or more */
+    LAMPGROTTO_NEWER = 3,          /* a sheet of a later edition */
+    LAMPGROTTO_BAD_SHEET = 4,      /* the bytes are no sheet of any rule */
+    LAMPGROTTO_OTHER_FEATURES = 5, /* the sheet's feature list is not the table's */
+    LAMPGROTTO_BAD_ARGUMENT = 6,   /* a feature, value, set, operator, list length, setting or number outside its range */
+    LAMPGROTTO_BAD_SELECTOR = 7,   /* a selector that chooses a branch which the list has not */
+    LAMPGROTTO_RANGE = 8,          /* a cost outside its range */
+    LAMPGROTTO_NO_ROOM = 9,        /* the nodes of all places, with those of the result, are more than the capacity */
+    LAMPGROTTO_NO_SPACE = 10,      /* the output is shorter than the sheet */
+    LAMPGROTTO_NONE = 11,          /* there is no such setting */
+    LAMPGROTTO_BAD_OPENING = 12    /* no feature list, a capacity outside 1 to 4,096, or too few words */
 };
 
 /* ---- libsheets.a: the phone's lookup */
 
 /* The phrase number (below 65,536) that the sheet's rule gives the setting, a byte for each feature; or 65,536 plus NEWER,
-   BAD_SHEET or BAD_ARGUMENT. The whole sheet is checked each time. It takes 51 KB of stack. */
+   BAD_SHEET or BAD_ARGUMENT (no setting of the sheet's features). The whole sheet is checked each time. It takes 51 KB of stack. */
 uint32_t lampgrotto_look_up(const uint8_t *sheet, size_t sheet_len, const uint8_t *setting, size_t setting_len);
 
-/* ---- liblampgrotto.a: a rule table in lent words. Each call answers how it ended. */
+/* ---- liblampgrotto.a: a rule table in lent words
+
+   A table has 32 places, 0 to 31, and each holds a rule. A rule gives each setting (a byte for each feature) a number from 0 to
+   65,535. Every call answers how it ended, and takes
+     t         the table's words; words past LAMPGROTTO_WORDS(capacity) are neither read nor written;
+     scratch   words for remembered results, any number of them, 0 too, with anything in them. No answer and no table depends on
+               them, only the time: with too few a call does its work again and again, and all of them are cleared first. About
+               16 for each node do well;
+     place     the place that gets the result; it may be one of those that the call reads;
+     out       words for results. They are laid over its front, as many as fit; a refused call lays 0s. Words past them stay.
+   Every call but open refuses DAMAGED words. */
 
 /* How many words a table of this capacity (1 to 4,096 nodes) needs. */
 #define LAMPGROTTO_WORDS(capacity) (32 * (size_t)(capacity) + 8192)
 
-/* A fresh table over features of 2 to 8 values, 1 to 16 of them: all 32 places hold the constant 0. */
+/* Makes a fresh table over 1 to 16 features of 2 to 8 values: all places hold the constant 0. The words may hold anything before.
+   Refuses: BAD_OPENING. */
 uint32_t lampgrotto_open(uint32_t *t, size_t t_len, const uint8_t *features, size_t features_len, size_t capacity);
 
-/* The place gives every setting the number. */
+/* The place gives every setting the number.
+   Refuses: BAD_PLACE; BAD_ARGUMENT, a number past 65,535. */
 uint32_t lampgrotto_constant(uint32_t *t, size_t t_len, size_t place, uint32_t number);
 
-/* The place gets the rule of another. */
+/* The place gets the rule of another.
+   Refuses: BAD_PLACE. */
 uint32_t lampgrotto_copy(uint32_t *t, size_t t_len, size_t place, size_t from);
 
-/* The place gives 1 where the feature's value has its bit set, else 0; out[0] gets how many values that are. */
+/* The place gives 1 where the feature's value is in the set, else 0. Bit v of bits stands for value v. out[0]: how many values the
+   set has.
+   Refuses: BAD_PLACE; BAD_ARGUMENT, no such feature or a bit at or above its size; NO_ROOM. */
 uint32_t lampgrotto_literal(uint32_t *t, size_t t_len, size_t place, size_t feature, uint32_t bits, uint32_t *out, size_t out_len);
 
-/* The place gets 1 smaller, 2 larger, 3 equal, 4 less or 5 differ of places a and b. Scratch of any length will do; more is quicker. */
+/* At each setting the place gives the number of one of 1 to 8 branches, which are places: the one whose index is the selector's
+   number.
+   Refuses: BAD_PLACE; BAD_ARGUMENT, 0 or more than 8 branches; BAD_SELECTOR; NO_ROOM. */
+uint32_t lampgrotto_case(uint32_t *t, size_t t_len, uint32_t *scratch, size_t scratch_len, size_t place, size_t selector,
+                         const uint32_t *branches, size_t branches_len);
+
+/* At each setting the place gives the operator of the numbers of places a and b: 1 smaller, 2 larger, or 1 where they are
+   3 equal, 4 less, 5 different, else 0.
+   Refuses: BAD_PLACE; BAD_ARGUMENT, another operator; NO_ROOM. */
 uint32_t lampgrotto_apply(uint32_t *t, size_t t_len, uint32_t *scratch, size_t scratch_len, size_t place, uint32_t op, size_t a,
                           size_t b);
 
-/* out[0] gets the number that the place gives the setting. */
+/* The place gets the rule of another with a feature held at a value: it no longer depends on that feature.
+   Refuses: BAD_PLACE; BAD_ARGUMENT, no such feature or value; NO_ROOM. */
+uint32_t lampgrotto_restrict(uint32_t *t, size_t t_len, size_t place, size_t from, size_t feature, size_t value);
+
+/* The place gets the rule of another with a feature removed: the largest number over its values.
+   Refuses: BAD_PLACE; BAD_ARGUMENT, no such feature; NO_ROOM. */
+uint32_t lampgrotto_forget(uint32_t *t, size_t t_len, uint32_t *scratch, size_t scratch_len, size_t place, size_t from,
+                           size_t feature);
+
+/* out[0]: the number that the place gives the setting.
+   Refuses: BAD_PLACE; BAD_ARGUMENT, no setting of the table's features. */
 uint32_t lampgrotto_rule_look_up(const uint32_t *t, size_t t_len, size_t place, const uint8_t *setting, size_t setting_len,
                                  uint32_t *out, size_t out_len);
 
-/* out[0] gets how many distinct rests the 32 places have: the nodes in use. */
+/* out[0]: 1 where the rules of two places agree at every setting, else 0.
+   Refuses: BAD_PLACE. */
+uint32_t lampgrotto_same(const uint32_t *t, size_t t_len, size_t a, size_t b, uint32_t *out, size_t out_len);
+
+/* out[0] + 2^32 out[1]: how many settings the place gives the number.
+   Refuses: BAD_PLACE; BAD_ARGUMENT, a number past 65,535. */
+uint32_t lampgrotto_count(const uint32_t *t, size_t t_len, size_t place, uint32_t number, uint32_t *out, size_t out_len);
+
+/* out[0] to out[15]: the first setting at or after the given one to which the place gives the number, a word for each feature, and
+   0 past them.
+   Refuses: BAD_PLACE; BAD_ARGUMENT, a number past 65,535 or no setting of the table's features; NONE. */
+uint32_t lampgrotto_next(const uint32_t *t, size_t t_len, size_t place, uint32_t number, const uint8_t *setting, size_t setting_len,
+                         uint32_t *out, size_t out_len);
+
+/* out[0]: how many distinct rests the rules of all places have, which is the nodes in use. */
 uint32_t lampgrotto_tally(const uint32_t *t, size_t t_len, uint32_t *out, size_t out_len);
+
+/* Writes the sheet of the place's rule to the front of the bytes; those after it stay. out[0]: how many bytes it has, at most 102,428.
+   Refuses: BAD_PLACE; NO_SPACE, fewer bytes than that, and then none is written. It takes about 33 KB of stack. */
+uint32_t lampgrotto_write(const uint32_t *t, size_t t_len, size_t place, uint8_t *sheet, size_t sheet_len, uint32_t *out,
+                          size_t out_len);
+
+/* The place gets the rule of a sheet.
+   Refuses: BAD_PLACE; NEWER; BAD_SHEET; OTHER_FEATURES; NO_ROOM. It takes about 51 KB of stack. */
+uint32_t lampgrotto_read(uint32_t *t, size_t t_len, size_t place, const uint8_t *sheet, size_t sheet_len);
+
+/* ---- settings in dictionary order, with no table */
+
+/* out[0]: 1 if the setting is the last of its features, else 0; out[1] to out[16]: the next one, a word for each feature, and 0 past
+   them; after the last all 0.
+   Refuses: BAD_ARGUMENT, no feature list or no setting of it. */
+uint32_t lampgrotto_step(const uint8_t *features, size_t features_len, const uint8_t *setting, size_t setting_len, uint32_t *out,
+                         size_t out_len);
 
 #ifdef __cplusplus
 }

@@ -3,7 +3,6 @@
 #include "lampgrotto.h"
 #include <stdio.h>
 #include <string.h>
-#include <time.h>
 
 enum { FEATURES = 16, NODES = 8192, SETTINGS = 1 << 20, BYTES = 200000 };
 
@@ -159,12 +158,6 @@ static void random_sheets(void) {
     printf("spoiled %ld: newer %ld, taken %ld, of these written again the same %ld\n", spoiled, newer, taken, same);
 }
 
-static double seconds(void) {
-    struct timespec t;
-    clock_gettime(CLOCK_MONOTONIC, &t);
-    return t.tv_sec + t.tv_nsec * 1e-9;
-}
-
 /* five features of size 8, 3,511 different nodes of the last: how far the check goes is told by what is spoiled */
 static void large_sheet(void) {
     struct list f = {5, {8, 8, 8, 8, 8}};
@@ -178,25 +171,14 @@ static void large_sheet(void) {
     static const char *upto[4] = {"places", "and each node", "and twins", "and the walk and the lookup"};
     static uint8_t *last;
     last = good.bytes + good.length - 3;
-    enum { ROUNDS = 30 };
     for (int phase = 0; phase < 4; phase++) {
         uint8_t root[3];
         memcpy(root, last, 3);
         if (phase == 1) last[0] = 2;
         if (phase == 2) last[1] = last[2] = 0;
-        uint32_t r = 0;
-        double start = seconds();
-        for (int i = 0; i < ROUNDS; i++) r = lampgrotto_look_up(good.bytes, good.length + (phase == 0), setting, 5);
-        double took = seconds() - start;
+        printf("%s: %u\n", upto[phase], lampgrotto_look_up(good.bytes, good.length + (phase == 0), setting, 5));
         memcpy(last, root, 3);
-        printf("%s: %u\n", upto[phase], r);
-        fprintf(stderr, "%s: %.0f us\n", upto[phase], took / ROUNDS * 1e6);
     }
-    uint32_t sum = 0;
-    double start = seconds();
-    for (int i = 0; i < ROUNDS; i++)
-        for (size_t p = 0; p < good.length; p++) sum = sum * 31 + good.bytes[p];
-    fprintf(stderr, "a plain pass over the bytes: %.0f us (sum %u)\n", (seconds() - start) / ROUNDS * 1e6, sum);
 }
 
 int main(void) {

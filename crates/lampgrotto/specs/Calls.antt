@@ -3,19 +3,23 @@ use mathlib.Core.Path.{_≡_}
 use mathlib.Core.List.{List, [], _∷_}
 use Prim.Native.Nat.{ℕ}
 use Rattle.settings.specs.Refusals.{outcomeNumber}
+use Rattle.settings.specs.Step.{Steps, settingOf}
 use Rattle.settings.specs.declared.refusals.Outcome.{Outcome}
+use Rattle.settings.specs.declared.steps.Stepped as P
 use Rattle.rules.specs.Opening.{Opens}
-use Rattle.rules.specs.Reading.{Looks, Tallies}
+use Rattle.rules.specs.Reading.{Looks, Compares, Tallies}
 use Rattle.rules.specs.declared.reading.Looked as R
+use Rattle.rules.specs.declared.reading.Compared as C
 use Rattle.rules.specs.declared.reading.Tallied as T
 use Rattle.operations.specs.Literal.{Literals}
+use Rattle.operations.specs.Counting.{Counts}
+use Rattle.operations.specs.Meeting.{Meets}
 use Rattle.operations.specs.declared.spelling.Made as M
-
--- results laid over the front of the lent words, as many as fit
-abbrev pub placed : List ℕ → List ℕ → List ℕ
-placed [] o = o
-placed (x ∷ l) [] = []
-placed (x ∷ l) (y ∷ o) = x ∷ placed l o
+use Rattle.operations.specs.declared.counting.Counted as N
+use Rattle.operations.specs.declared.meeting.Met as E
+use Rattle.rule_sheets.specs.Writing.{WritesSheet}
+use Rattle.rule_sheets.specs.declared.writing.Wrote as F
+use Rattle.lampgrotto.specs.Results.{placed, bit, halves}
 
 -- the number is that of an ending which meets the call's own promise
 pub record Wrote (P : Outcome → Type 0) (r : ℕ) : Type 0 where
@@ -26,21 +30,36 @@ pub record Wrote (P : Outcome → Type 0) (r : ℕ) : Type 0 where
 abbrev pub Opened : List ℕ → ℕ → List ℕ → List ℕ → ℕ → Type 0
 Opened S cap w w′ r = Wrote (Opens S cap w w′) r
 
--- and so are the results
-pub record Spelled (p f x : ℕ) (w w′ out out′ : List ℕ) (r : ℕ) : Type 0 where
-  pub answer : M.Made
-  pub meets : Literals p f x w w′ answer
-  pub number : r ≡ outcomeNumber (answer .outcome)
-  pub results : out′ ≡ placed (answer .size ∷ []) out
+-- the number is that of an answer which meets the call's own promise, and the answer's results are laid into the words out
+pub record Gave {A : Type 0} (P : A → Type 0) (ending : A → Outcome) (results : A → List ℕ) (out out′ : List ℕ) (r : ℕ) : Type 0 where
+  pub answer : A
+  pub meets : P answer
+  pub number : r ≡ outcomeNumber (ending answer)
+  pub laid : out′ ≡ placed (results answer) out
 
-pub record Looked (p : ℕ) (s w out out′ : List ℕ) (r : ℕ) : Type 0 where
-  pub answer : R.Looked
-  pub meets : Looks p s w answer
-  pub number : r ≡ outcomeNumber (answer .outcome)
-  pub results : out′ ≡ placed (answer .number ∷ []) out
+abbrev pub Spelled : ℕ → ℕ → ℕ → List ℕ → List ℕ → List ℕ → List ℕ → ℕ → Type 0
+Spelled p f x w w′ = Gave (Literals p f x w w′) (λ (a : M.Made). a .outcome) (λ (a : M.Made). a .size ∷ [])
 
-pub record Tallied (w out out′ : List ℕ) (r : ℕ) : Type 0 where
-  pub answer : T.Tallied
-  pub meets : Tallies w answer
-  pub number : r ≡ outcomeNumber (answer .outcome)
-  pub results : out′ ≡ placed (answer .count ∷ []) out
+abbrev pub Looked : ℕ → List ℕ → List ℕ → List ℕ → List ℕ → ℕ → Type 0
+Looked p s w = Gave (Looks p s w) (λ (a : R.Looked). a .outcome) (λ (a : R.Looked). a .number ∷ [])
+
+abbrev pub Compared : ℕ → ℕ → List ℕ → List ℕ → List ℕ → ℕ → Type 0
+Compared p q w = Gave (Compares p q w) (λ (a : C.Compared). a .outcome) (λ (a : C.Compared). bit (a .same) ∷ [])
+
+abbrev pub Tallied : List ℕ → List ℕ → List ℕ → ℕ → Type 0
+Tallied w = Gave (Tallies w) (λ (a : T.Tallied). a .outcome) (λ (a : T.Tallied). a .count ∷ [])
+
+abbrev pub Counted : ℕ → ℕ → List ℕ → List ℕ → List ℕ → ℕ → Type 0
+Counted p x w = Gave (Counts p x w) (λ (a : N.Counted). a .outcome) (λ (a : N.Counted). halves (a .count))
+
+-- the values of a setting, and 0 for each place past them, 16 words in all
+abbrev pub Met : ℕ → ℕ → List ℕ → List ℕ → List ℕ → List ℕ → ℕ → Type 0
+Met p x s w = Gave (Meets p x s w) (λ (a : E.Met). a .outcome) (λ (a : E.Met). a .setting .values)
+
+-- first whether the setting was the last
+abbrev pub Stepped : List ℕ → List ℕ → List ℕ → List ℕ → ℕ → Type 0
+Stepped S s = Gave (Steps S (settingOf s)) (λ (a : P.Stepped). a .outcome) (λ (a : P.Stepped). bit (a .last) ∷ a .setting .values)
+
+-- the sheet of place p laid into bytes, which are s before and s′ after the call
+abbrev pub Filed : ℕ → List ℕ → List ℕ → List ℕ → List ℕ → List ℕ → ℕ → Type 0
+Filed p w s s′ = Gave (WritesSheet p w s s′) (λ (a : F.Wrote). a .outcome) (λ (a : F.Wrote). a .length ∷ [])

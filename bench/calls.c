@@ -1,0 +1,231 @@
+/* The calls of a rule table at several numbers of nodes in use: how each grows, and how it compares with the plain C program, with
+   that program and the table's test before each call, and, for yes/no features, with BuDDy. */
+#include "check.h"
+#include "filling.h"
+#include "lampgrotto.h"
+#include "plain.h"
+#include "timing.h"
+#include <stdio.h>
+#include <stdlib.h>
+#include <string.h>
+#ifndef SIZE
+#define SIZE 8 /* of each of the sixteen features; BUDDY asks for 2 */
+#endif
+#ifdef BUDDY
+#include <bdd.h>
+extern void bdd_operator_reset(void); /* forgets remembered results, which a library call does not keep either */
+#endif
+
+static struct calls at;
+static uint32_t out[17];
+static uint8_t setting[16];
+
+static void expect(int holds, const char *what) {
+    if (holds) return;
+    printf("%s: wrong\n", what);
+    exit(1);
+}
+
+/* ---- the library */
+static void library_look_up(void) { sink += lampgrotto_rule_look_up(words, length, at.largest, setting, 16, out, 1); }
+static void library_constant(void) { sink += lampgrotto_constant(words, length, CONSTANT, 7); }
+static void library_apply(void) { sink += lampgrotto_apply(words, length, scratch, scratch_length, APPLIED, DIFFER, at.apply_a, at.apply_b); }
+static void library_case(void) {
+    uint32_t branches[2] = {(uint32_t)at.case_a, (uint32_t)at.case_b};
+    sink += lampgrotto_case(words, length, scratch, scratch_length, CHOSEN, SELECTOR, branches, 2);
+}
+static void library_forget(void) { sink += lampgrotto_forget(words, length, scratch, scratch_length, FORGOTTEN, at.forget, at.forget_f); }
+static void library_restrict(void) { sink += lampgrotto_restrict(words, length, RESTRICTED, at.restrict_, at.restrict_f, 1); }
+static void library_count(void) { sink += lampgrotto_count(words, length, at.largest, 1, out, 2); }
+static void library_next(void) { sink += lampgrotto_next(words, length, at.largest, 1, setting, 16, out, 16); }
+
+/* ---- the plain program */
+static branch result;
+static uint64_t number;
+static uint8_t found[16];
+
+static void plain_looking(void) { sink += number = plain_look_up(plain_root(at.largest), setting); }
+static void plain_constant(void) { sink += result = 2 * 7 + 1; }
+static void plain_applying(void) { sink += result = plain_apply(DIFFER, plain_root(at.apply_a), plain_root(at.apply_b)); }
+static void plain_choosing(void) {
+    branch branches[2] = {plain_root(at.case_a), plain_root(at.case_b)};
+    sink += result = plain_case(plain_root(SELECTOR), branches, 2);
+}
+static void plain_forgetting(void) { sink += result = plain_forget(plain_root(at.forget), at.forget_f); }
+static void plain_restricting(void) { sink += result = plain_restrict(plain_root(at.restrict_), at.restrict_f, 1); }
+static void plain_counting(void) { sink += number = plain_count(plain_root(at.largest), 1); }
+static void plain_meeting(void) {
+    memcpy(found, setting, 16);
+    sink += number = plain_next(plain_root(at.largest), 1, found);
+}
+static void checking(void) { sink += table_is_sound(words, length); }
+
+/* ---- BuDDy */
+#ifdef BUDDY
+static BDD diagrams[32];
+
+static void buddy_load(void) {
+    static BDD nodes[4096];
+    bdd_init(20000, 2 * (int)words[19] + 16); /* as many remembered results as the scratch has room for, and some more */
+    bdd_setvarnum(16);
+    for (uint32_t i = 0; i < words[19]; i++) {
+        const uint32_t *r = words + 8192 + 16 * (size_t)i;
+        BDD low = r[1] < 65536 ? (r[1] ? bddtrue : bddfalse) : nodes[r[1] - 65536];
+        BDD high = r[2] < 65536 ? (r[2] ? bddtrue : bddfalse) : nodes[r[2] - 65536];
+        nodes[i] = bdd_addref(bdd_ite(bdd_ithvar(r[0]), high, low));
+    }
+    for (int p = 0; p < 32; p++) {
+        uint32_t b = words[32 + p];
+        diagrams[p] = b < 65536 ? (b ? bddtrue : bddfalse) : nodes[b - 65536];
+    }
+}
+
+static BDD answer;
+static void buddy_reset(void) { bdd_operator_reset(); }
+static void buddy_apply(void) {
+    bdd_operator_reset();
+    answer = bdd_apply(diagrams[at.apply_a], diagrams[at.apply_b], bddop_xor);
+}
+static void buddy_case(void) {
+    bdd_operator_reset();
+    answer = bdd_ite(diagrams[SELECTOR], diagrams[at.case_b], diagrams[at.case_a]);
+}
+static void buddy_forget(void) {
+    bdd_operator_reset();
+    answer = bdd_exist(diagrams[at.forget], bdd_ithvar((int)at.forget_f));
+}
+static void buddy_restrict(void) {
+    bdd_operator_reset();
+    answer = bdd_restrict(diagrams[at.restrict_], bdd_ithvar((int)at.restrict_f));
+}
+static void buddy_count(void) {
+    bdd_operator_reset();
+    number = (uint64_t)bdd_satcount(diagrams[at.largest]);
+}
+static void buddy_look_up(void) {
+    BDD b = diagrams[at.largest];
+    while (b > 1) b = setting[bdd_var(b)] ? bdd_high(b) : bdd_low(b);
+    number = b;
+}
+#endif
+
+/* ---- one job in each way; where a way writes a rule, its result must be that of the place */
+struct job {
+    const char *name;
+    void (*library)(void), (*plain)(void), (*buddy)(void);
+    size_t place; /* of the result; 0: a number */
+};
+
+#ifdef BUDDY
+#define OR_BUDDY(job) job
+#else
+#define OR_BUDDY(job) NULL
+#endif
+
+/* write and read of a sheet have their rows here when the table has these calls */
+static const struct job jobs[] = {
+    {"look up", library_look_up, plain_looking, OR_BUDDY(buddy_look_up), 0},
+    {"constant", library_constant, plain_constant, NULL, CONSTANT},
+    {"apply", library_apply, plain_applying, OR_BUDDY(buddy_apply), APPLIED},
+    {"CASE", library_case, plain_choosing, OR_BUDDY(buddy_case), CHOSEN},
+    {"forget", library_forget, plain_forgetting, OR_BUDDY(buddy_forget), FORGOTTEN},
+    {"restrict", library_restrict, plain_restricting, OR_BUDDY(buddy_restrict), RESTRICTED},
+    {"count", library_count, plain_counting, OR_BUDDY(buddy_count), 0},
+    {"next", library_next, plain_meeting, NULL, 0},
+};
+enum { JOBS = sizeof jobs / sizeof *jobs, SIZES = 5 };
+
+/* the number that the library has just laid: the setting of next is compared by itself */
+static uint64_t laid(const struct job *j) { return j->library == library_count ? out[0] + ((uint64_t)out[1] << 32) : out[0]; }
+
+static void agree(const struct job *j) {
+    uint64_t before = sink;
+    j->library();
+    expect(sink == before, j->name);
+    uint64_t wanted = laid(j);
+    j->plain();
+    if (j->place) expect(result == plain_root(j->place), j->name);
+    else if (j->library != library_next) expect(number == wanted, j->name);
+    else
+        for (int k = 0; k < 16; k++) expect(number && found[k] == out[k], j->name);
+#ifdef BUDDY
+    if (!j->buddy) return;
+    j->buddy();
+    if (j->place) expect(answer == diagrams[j->place], "BuDDy");
+    else expect(number == wanted, "BuDDy");
+#endif
+}
+
+static double times[JOBS][SIZES], plains[JOBS][SIZES], checks[SIZES], sums[SIZES];
+#ifdef BUDDY
+static double buddies[JOBS][SIZES];
+#endif
+static uint32_t in_use[SIZES];
+
+static void summing(void) { sum_words(words, length); }
+
+static void measure(uint8_t size, size_t capacity, int column) {
+    in_use[column] = fill(size, capacity, &at);
+    expect(!lampgrotto_constant(words, length, CONSTANT, 7), "constant");
+    for (int k = 0; k < 16; k++) setting[k] = (5 * k + 3) % size;
+    expect(table_is_sound(words, length), "the plain test");
+    plain_load(words);
+    sums[column] = best(summing);
+    checks[column] = best(checking);
+#ifdef BUDDY
+    buddy_load();
+    double reset = best(buddy_reset);
+#endif
+    for (int j = 0; j < JOBS; j++) {
+        agree(&jobs[j]);
+        times[j][column] = best(jobs[j].library);
+        plains[j][column] = best(jobs[j].plain);
+#ifdef BUDDY
+        if (jobs[j].buddy) buddies[j][column] = best(jobs[j].buddy) - (jobs[j].library == library_look_up ? 0 : reset);
+#endif
+    }
+#ifdef BUDDY
+    bdd_done();
+#endif
+}
+
+static void heading(const char *what) {
+    printf("\n%s\n\n| nodes in use |", what);
+    for (int c = 0; c < SIZES; c++) printf(" %u |", in_use[c]);
+    printf("\n|---|---|---|---|---|---|\n");
+}
+
+/* a row of times, each over another: of one unit in each column, and of one in each cell, where these are not null */
+static void row(const char *name, const double *time, const double *column, const double *cell) {
+    printf("| %s |", name);
+    for (int c = 0; c < SIZES; c++) {
+        double unit = (column ? column[c] : 0) + (cell ? cell[c] : 0), x = time[c] / (unit > 0 ? unit : 1000);
+        printf(x < 100 ? " %.1f |" : " %.0f |", x);
+    }
+    printf("\n");
+}
+
+static void tables(void) {
+    heading("Microseconds for one call:");
+    for (int j = 0; j < JOBS; j++) row(jobs[j].name, times[j], NULL, NULL);
+    row("the table's test, in C", checks, NULL, NULL);
+    heading("Times the sum of the table's words:");
+    for (int j = 0; j < JOBS; j++) row(jobs[j].name, times[j], sums, NULL);
+    row("the table's test, in C", checks, sums, NULL);
+    heading("Times the plain C program with the table's test:");
+    for (int j = 0; j < JOBS; j++) row(jobs[j].name, times[j], checks, plains[j]);
+    heading("Times the plain C program without any test:");
+    for (int j = 0; j < JOBS; j++) row(jobs[j].name, times[j], NULL, plains[j]);
+#ifdef BUDDY
+    heading("Times BuDDy, which tests nothing either:");
+    for (int j = 0; j < JOBS; j++)
+        if (jobs[j].buddy) row(jobs[j].name, times[j], NULL, buddies[j]);
+#endif
+}
+
+int main(void) {
+    static const size_t capacities[SIZES] = {16, 64, 256, 1024, 4096};
+        for (int c = 0; c < SIZES; c++) measure(SIZE, capacities[c], c);
+    tables();
+    return 0;
+}

@@ -1,0 +1,31 @@
+/* Look up and constant of a rule table, empty and full, against a loop that sums the same words. */
+#include "filling.h"
+#include "lampgrotto.h"
+#include "timing.h"
+#include <stdio.h>
+
+static const uint8_t setting[16] = {1, 7, 3, 0, 2, 5, 6, 4, 1, 0, 3, 2, 7, 5, 6, 1};
+static uint32_t turn;
+
+static void summing(void) { sum_words(words, length); }
+
+static void looking(void) {
+    uint32_t out[1];
+    sink += lampgrotto_rule_look_up(words, length, turn++ % 32, setting, 16, out, 1);
+}
+
+static void writing(void) { sink += lampgrotto_constant(words, length, 31, turn++ % 65536); }
+
+int main(void) {
+    static const size_t capacities[] = {16, 256, 4096};
+    printf("| capacity | nodes | words | sum ns | look up ns | ratio | constant ns | ratio |\n|---|---|---|---|---|---|---|---|\n");
+    for (int c = 0; c < 3; c++)
+        for (int full = 0; full < 2; full++) {
+            uint32_t nodes = fill_up(8, capacities[c]);
+            if (!full && lampgrotto_open(words, length, features, 16, capacities[c])) return 1;
+            double s = best(summing), l = best(looking), k = best(writing);
+            printf("| %zu | %u | %zu | %.0f | %.0f | %.1f | %.0f | %.1f |\n", capacities[c], full ? nodes : 0, length, s, l, l / s, k, k / s);
+            fflush(stdout);
+        }
+    return 0;
+}

@@ -1,0 +1,117 @@
+#include "filling.h"
+#include "lampgrotto.h"
+#include <stdio.h>
+#include <stdlib.h>
+#include <string.h>
+
+uint32_t words[139264], scratch[SCRATCH];
+size_t length, scratch_length;
+uint8_t features[16];
+static uint32_t before[139264];
+static uint32_t seed;
+
+static uint32_t chance(uint32_t n) {
+    seed ^= seed << 13;
+    seed ^= seed >> 17;
+    seed ^= seed << 5;
+    return seed % n;
+}
+
+uint32_t nodes_in_use(void) {
+    uint32_t out[1];
+    if (lampgrotto_tally(words, length, out, 1)) abort();
+    return out[0];
+}
+
+static void save(void) { memcpy(before, words, length * sizeof *words); }
+static void restore(void) { memcpy(words, before, length * sizeof *words); }
+
+/* a place joined with a literal, and with another place */
+static void random_call(size_t first, size_t count) {
+    uint32_t out[1], all = (1u << features[0]) - 1;
+    size_t place = first + chance(count);
+    lampgrotto_literal(words, length, 30, chance(16), 1 + chance(all - 1), out, 1);
+    lampgrotto_apply(words, length, scratch, scratch_length, place, 1 + chance(2), first + chance(count), 30);
+    lampgrotto_apply(words, length, scratch, scratch_length, place, DIFFER, place, chance(2) ? 30 : first + chance(count));
+}
+
+/* random rules in some places until the nodes in use are between two numbers, or the turns are over */
+static void grow(size_t first, size_t count, uint32_t least, uint32_t most) {
+    for (int turn = 0; turn < 3000 && nodes_in_use() < least; turn++) {
+        save();
+        random_call(first, count);
+        if (nodes_in_use() > most) restore();
+    }
+}
+
+static void open_table(uint8_t size, size_t capacity) {
+    seed = 12345;
+    length = LAMPGROTTO_WORDS(capacity);
+    scratch_length = 16 * capacity < SCRATCH ? 16 * capacity : SCRATCH;
+    memset(features, size, sizeof features);
+    if (lampgrotto_open(words, length, features, 16, capacity)) abort();
+}
+
+uint32_t fill_up(uint8_t size, size_t capacity) {
+    open_table(size, capacity);
+    grow(0, 30, capacity - capacity / 64, capacity);
+    return nodes_in_use();
+}
+
+/* how many nodes the rule of a place has: those below the root word b, with marks */
+static uint32_t below(uint32_t b, uint8_t *seen) {
+    if (b < 65536 || seen[b - 65536]) return 0;
+    const uint32_t *r = words + 8192 + 16 * (size_t)(b - 65536);
+    uint32_t n = 1;
+    seen[b - 65536] = 1;
+    for (uint32_t v = 0; v < features[r[0]]; v++) n += below(r[1 + v], seen);
+    return n;
+}
+
+static uint32_t nodes_of(size_t place) {
+    static uint8_t seen[4096];
+    memset(seen, 0, sizeof seen);
+    return below(words[32 + place], seen);
+}
+
+static uint32_t call(int which, size_t a, size_t b) {
+    uint32_t branches[2] = {(uint32_t)a, (uint32_t)b};
+    if (which == APPLIED) return lampgrotto_apply(words, length, scratch, scratch_length, APPLIED, DIFFER, a, b);
+    if (which == CHOSEN) return lampgrotto_case(words, length, scratch, scratch_length, CHOSEN, SELECTOR, branches, 2);
+    if (which == FORGOTTEN) return lampgrotto_forget(words, length, scratch, scratch_length, FORGOTTEN, a, b);
+    return lampgrotto_restrict(words, length, RESTRICTED, a, b, 1);
+}
+
+/* makes the call whose result has the most nodes, of those that there is room for */
+static void largest_call(int which, size_t *a, size_t *b) {
+    size_t others = which == FORGOTTEN || which == RESTRICTED ? 16 : 10;
+    uint32_t most = 0;
+    save();
+    for (size_t x = 0; x < 10; x++)
+        for (size_t y = 0; y < others; y++) {
+            if (others == 10 && x == y) continue;
+            if (!call(which, x, y) && nodes_of(which) >= most) {
+                most = nodes_of(which);
+                *a = x;
+                *b = y;
+            }
+            restore();
+        }
+    if (call(which, *a, *b)) abort();
+}
+
+uint32_t fill(uint8_t size, size_t capacity, struct calls *c) {
+    uint32_t out[1];
+    open_table(size, capacity);
+    memset(c, 0, sizeof *c);
+    lampgrotto_literal(words, length, SELECTOR, 7, 2, out, 1);
+    grow(0, 10, capacity / 4, capacity / 3);
+    largest_call(RESTRICTED, &c->restrict_, &c->restrict_f);
+    largest_call(FORGOTTEN, &c->forget, &c->forget_f);
+    largest_call(CHOSEN, &c->case_a, &c->case_b);
+    largest_call(APPLIED, &c->apply_a, &c->apply_b);
+    grow(10, 13, capacity - capacity / 32, capacity);
+    for (size_t p = 0; p < 28; p++)
+        if (nodes_of(p) > nodes_of(c->largest)) c->largest = p;
+    return nodes_in_use();
+}

@@ -1,0 +1,147 @@
+/* The phone's lookup in a sheet of several sizes: how it grows, how it compares with C that does the same with and without the
+   sheet's check, and how much stack it takes. */
+#include "check.h"
+#include "lampgrotto.h"
+#include "plain.h"
+#include "timing.h"
+#include <pthread.h>
+#include <stdio.h>
+#include <stdlib.h>
+#include <string.h>
+
+/* ---- a sheet of exactly so many nodes: features of size 8, all different above the last one, which has some nodes again and again */
+static uint32_t nodes[4096][9]; /* the feature, then a word for each branch: a phrase, or 65,536 + a node */
+static uint32_t node_count, seed;
+static uint8_t sheet[110000];
+static size_t length;
+static int features;
+
+static uint32_t made(const uint32_t *node) {
+    for (uint32_t i = 0; i < node_count; i++)
+        if (!memcmp(nodes[i], node, sizeof *nodes)) return 65536 + i;
+    memcpy(nodes[node_count], node, sizeof *nodes);
+    return 65536 + node_count++;
+}
+
+static uint32_t build(int k, uint32_t *index, uint32_t leaves) {
+    uint32_t node[9] = {(uint32_t)k};
+    if (k + 1 < features) {
+        for (int v = 0; v < 8; v++) node[1 + v] = build(k + 1, index, leaves);
+        return made(node);
+    }
+    seed = seed * 1103515245u + 12345u;
+    uint32_t x = 1 + (*index < leaves ? *index : (seed >> 8) % leaves);
+    ++*index;
+    for (int v = 0; v < 8; v++) node[1 + v] = v == 0 ? x : v == 1 ? x >> 3 : 5;
+    return made(node);
+}
+
+static void put(uint32_t n, int bytes) {
+    while (bytes--) sheet[length++] = (uint8_t)(n >> 8 * bytes);
+}
+
+static void write_sheet(uint32_t root) {
+    length = 0;
+    put(1, 2);
+    put(1, 1);
+    put((uint32_t)features, 2);
+    for (int k = 0; k < features; k++) put(8, 1);
+    put(node_count, 2);
+    for (uint32_t i = 0; i < node_count; i++) {
+        put(nodes[i][0], 1);
+        for (int v = 0; v < 8; v++) put(nodes[i][1 + v], 3);
+    }
+    put(1, 2);
+    put(root, 3);
+}
+
+static void make_sheet(int count, uint32_t leaves) {
+    uint32_t index = 0;
+    features = count;
+    node_count = 0;
+    seed = 1;
+    write_sheet(build(0, &index, leaves));
+}
+
+/* sixteen features, one below the other: the walk goes as deep as it can */
+static void make_deep_sheet(void) {
+    features = 16;
+    for (node_count = 0; node_count < 16; node_count++)
+        for (uint32_t v = 0; v < 9; v++) nodes[node_count][v] = v == 0 ? 15 - node_count : v > 1 && node_count ? 65535 + node_count : v;
+    write_sheet(65536 + 15);
+}
+
+/* ---- the times */
+static const uint8_t setting[16] = {6, 3, 2, 1, 0};
+static size_t lent; /* as many bytes as the lookup is told of */
+
+static void looking(void) { sink += lampgrotto_look_up(sheet, lent, setting, (size_t)features); }
+static void plain(void) { sink += plain_sheet_look_up(sheet, setting); }
+static void checked(void) { sink += sheet_is_good(sheet, length) ? plain_sheet_look_up(sheet, setting) : 0; }
+static void passing(void) {
+    uint64_t sum = 0;
+    for (size_t p = 0; p < length; p++) sum += sheet[p];
+    sink += sum;
+}
+
+static void sizes(void) {
+    static const int counts[5] = {3, 3, 4, 5, 5};
+    static const uint32_t leaves[5] = {7, 55, 183, 439, 3511};
+    printf("| nodes | bytes | sum of the bytes us | look up us | times the sum | times C with the check | times C without |\n");
+    printf("|---|---|---|---|---|---|---|\n");
+    for (int c = 0; c < 5; c++) {
+        make_sheet(counts[c], leaves[c]);
+        lent = length;
+        if (lampgrotto_look_up(sheet, length, setting, (size_t)features) != plain_sheet_look_up(sheet, setting) || !sheet_is_good(sheet, length))
+            exit(1);
+        double l = best(looking), p = best(plain), k = best(checked), s = best(passing);
+        printf("| %u | %zu | %.1f | %.1f | %.1f | %.1f | %.0f |\n", node_count, length, s / 1000, l / 1000, l / s, l / k, l / p);
+    }
+}
+
+/* how far the check goes is told by what is spoiled */
+static void phases(void) {
+    static const char *upto[4] = {"where each node begins", "and each node", "and twins", "and the walk and the lookup"};
+    uint8_t *root = sheet + length - 3, kept[3];
+    double s = best(passing);
+    memcpy(kept, root, 3);
+    printf("\n| the largest sheet, up to | times the sum |\n|---|---|\n");
+    for (int phase = 0; phase < 4; phase++) {
+        lent = length + (phase == 0);
+        if (phase == 1) root[0] = 2;
+        if (phase == 2) root[1] = root[2] = 0;
+        printf("| %s | %.1f |\n", upto[phase], best(looking) / s);
+        memcpy(root, kept, 3);
+    }
+}
+
+/* ---- the stack: how far below its caller's frame a look up touches a thread's painted stack */
+enum { STACK = 1 << 20, PAINT = 0xa5 };
+static uint8_t stack[STACK] __attribute__((aligned(4096)));
+
+static void *look(void *frame) {
+    *(uint8_t **)frame = __builtin_frame_address(0);
+    looking();
+    return NULL;
+}
+
+static size_t stack_taken(void) {
+    pthread_attr_t attributes;
+    pthread_t thread;
+    uint8_t *frame, *low = stack;
+    memset(stack, PAINT, sizeof stack);
+    if (pthread_attr_init(&attributes) || pthread_attr_setstack(&attributes, stack, sizeof stack)) exit(1);
+    if (pthread_create(&thread, &attributes, look, &frame) || pthread_join(thread, NULL)) exit(1);
+    while (*low == PAINT) low++;
+    return (size_t)(frame - low);
+}
+
+int main(void) {
+    sizes();
+    phases();
+    make_deep_sheet();
+    lent = length;
+    if (!sheet_is_good(sheet, length) || lampgrotto_look_up(sheet, lent, setting, 16) > 65535) return 1;
+    printf("\nstack of a look up: %zu bytes\n", stack_taken());
+    return 0;
+}

@@ -1,0 +1,105 @@
+// The calls for C that write a table.
+use crate::results::put;
+use settings::outcome_number;
+ghost use Rattle.lampgrotto.specs.Calls.{Opened, Wrote, Spelled};
+ghost use Rattle.rules.specs.Writing.{Constant, Copies};
+ghost use Rattle.operations.specs.Joining.{Operates, Chooses, Forgets};
+ghost use Rattle.operations.specs.Restricting.{Restricts};
+
+// Opens a rule table over the feature list in the words t, with room for capacity nodes.
+#[no_mangle]
+pub extern "C" fn lampgrotto_open(t: &mut [u32], features: &[u8], capacity: usize) -> u32
+    ensures { λ r. ⌜ Opened (now (features .entry)) capacity (now (t .entry)) (now (t .exit)) r ⌝ }
+{
+    outcome_number(rules::open(t, features, capacity))
+}
+
+// The rule of the place becomes the constant number.
+#[no_mangle]
+pub extern "C" fn lampgrotto_constant(t: &mut [u32], place: usize, number: u32) -> u32
+    ensures { λ r. ⌜ Wrote (Constant place number (now (t .entry)) (now (t .exit))) r ⌝ }
+{
+    outcome_number(rules::constant(t, place, number))
+}
+
+// The rule of the place becomes that of another.
+#[no_mangle]
+pub extern "C" fn lampgrotto_copy(t: &mut [u32], place: usize, from: usize) -> u32
+    ensures { λ r. ⌜ Wrote (Copies place from (now (t .entry)) (now (t .exit))) r ⌝ }
+{
+    outcome_number(rules::copy(t, place, from))
+}
+
+// The rule of the place becomes 1 where the feature's value is in the set of bits, else 0; the result is how many values the set has.
+#[no_mangle]
+pub extern "C" fn lampgrotto_literal(
+    t: &mut [u32],
+    place: usize,
+    feature: usize,
+    bits: u32,
+    out: &mut [u32],
+) -> u32
+    ensures { λ r. ⌜ Spelled place feature bits (now (t .entry)) (now (t .exit)) (now (out .entry)) (now (out .exit)) r ⌝ }
+{
+    let r = operations::literal(t, place, feature, bits);
+    put(out, r.size);
+    let o = r.outcome;
+    outcome_number(o)
+}
+
+// The rule of the place becomes, at each setting, that of the branches whose index is the selector's number.
+#[no_mangle]
+pub extern "C" fn lampgrotto_case(
+    t: &mut [u32],
+    scratch: &mut [u32],
+    place: usize,
+    selector: usize,
+    branches: &[u32],
+) -> u32
+    ensures { λ r. ⌜ Wrote (Chooses place selector (now (branches .entry)) (now (t .entry)) (now (t .exit))) r ⌝ }
+{
+    outcome_number(operations::case(t, scratch, place, selector, branches))
+}
+
+// The rule of the place becomes the operator of two others: 1 smaller, 2 larger, 3 equal, 4 less, 5 differ.
+#[no_mangle]
+pub extern "C" fn lampgrotto_apply(
+    t: &mut [u32],
+    scratch: &mut [u32],
+    place: usize,
+    operator: u32,
+    a: usize,
+    b: usize,
+) -> u32
+    ensures { λ r. ⌜ Wrote (Operates place operator a b (now (t .entry)) (now (t .exit))) r ⌝ }
+{
+    outcome_number(operations::apply(t, scratch, place, operator, a, b))
+}
+
+// The rule of the place becomes another with the feature held at the value.
+#[no_mangle]
+pub extern "C" fn lampgrotto_restrict(
+    t: &mut [u32],
+    place: usize,
+    from: usize,
+    feature: usize,
+    value: usize,
+) -> u32
+    ensures { λ r. ⌜ Wrote (Restricts place from feature value (now (t .entry)) (now (t .exit))) r ⌝ }
+{
+    outcome_number(operations::restrict(t, place, from, feature, value))
+}
+
+// The rule of the place becomes another with a feature removed: the largest number over its values.
+#[no_mangle]
+pub extern "C" fn lampgrotto_forget(
+    t: &mut [u32],
+    scratch: &mut [u32],
+    place: usize,
+    from: usize,
+    feature: usize,
+) -> u32
+    ensures { λ r. ⌜ Wrote (Forgets place from feature (now (t .entry)) (now (t .exit))) r ⌝ }
+{
+    outcome_number(operations::forget(t, scratch, place, from, feature))
+}
