@@ -1,87 +1,12 @@
-/* Looks settings up in sheets through the proved function. The sheets come from a writer of its own, which stores
-   all settings; then bytes are spoiled, one at a time: what is still taken must be what that writer writes for it. */
+/* Looks settings up in sheets through the proved function, and holds each answer against the test's own reader: document
+   01's sheets, sheets that are wrong in one point, every cut and every single-byte change of one, random ones, large ones. */
 #include "lampgrotto.h"
+#include "sheet.h"
 #include <stdio.h>
 #include <string.h>
 
-enum { FEATURES = 16, NODES = 8192, SETTINGS = 1 << 20, BYTES = 200000 };
-
-/* ---- the writer: a rule is the table of its numbers, in order of the settings */
-struct list {
-    int count;
-    int size[FEATURES];
-};
-
-struct sheet {
-    size_t length;
-    uint8_t bytes[BYTES];
-};
-
-static uint32_t nodes[NODES][9]; /* the feature, then a word for each branch: a phrase, or 65,536 + a node */
-static int node_count;
-
-static size_t settings_of(const struct list *f) {
-    size_t all = 1;
-    for (int k = 0; k < f->count; k++) all *= f->size[k];
-    return all;
-}
-
-static void setting_at(const struct list *f, size_t index, uint8_t *setting) {
-    for (int k = f->count - 1; k >= 0; k--) {
-        setting[k] = index % f->size[k];
-        index /= f->size[k];
-    }
-}
-
-/* the branch for features k and up, whose numbers are the given ones */
-static uint32_t build(const struct list *f, int k, const uint16_t *numbers, size_t count) {
-    if (k == f->count) return numbers[0];
-    uint32_t node[9] = {k};
-    size_t step = count / f->size[k];
-    int alike = 1;
-    for (int v = 0; v < f->size[k]; v++) {
-        node[1 + v] = build(f, k + 1, numbers + v * step, step);
-        if (node[1 + v] != node[1]) alike = 0;
-    }
-    if (alike) return node[1];
-    for (int i = 0; i < node_count; i++)
-        if (!memcmp(nodes[i], node, sizeof node)) return 65536 + i;
-    memcpy(nodes[node_count], node, sizeof node);
-    return 65536 + node_count++;
-}
-
-static void put(struct sheet *s, int byte) { s->bytes[s->length++] = byte; }
-
-static void put_two(struct sheet *s, int n) {
-    put(s, n >> 8);
-    put(s, n & 255);
-}
-
-static void put_branch(struct sheet *s, uint32_t word) {
-    put(s, word >> 16);
-    put_two(s, word & 65535);
-}
-
-static void write_sheet(const struct list *f, const uint16_t *numbers, struct sheet *s) {
-    node_count = 0;
-    uint32_t root = build(f, 0, numbers, settings_of(f));
-    s->length = 0;
-    put_two(s, 1);
-    put(s, 1);
-    put_two(s, f->count);
-    for (int k = 0; k < f->count; k++) put(s, f->size[k]);
-    put_two(s, node_count);
-    for (int i = 0; i < node_count; i++) {
-        put(s, nodes[i][0]);
-        for (int v = 0; v < f->size[nodes[i][0]]; v++) put_branch(s, nodes[i][1 + v]);
-    }
-    put_two(s, 1);
-    put_branch(s, root);
-}
-
-/* ---- the tests */
-static uint16_t numbers[SETTINGS], again[SETTINGS];
-static struct sheet good, other;
+static uint16_t numbers[SETTINGS];
+static struct sheet sheet;
 static uint32_t seed = 1;
 
 static uint32_t chance(uint32_t n) {
@@ -91,10 +16,157 @@ static uint32_t chance(uint32_t n) {
     return seed % n;
 }
 
-static uint32_t look(const struct sheet *s, const uint8_t *setting, int count) {
-    return lampgrotto_look_up(s->bytes, s->length, setting, count);
+/* ---- answers so far, and how many were not the reader's */
+static struct {
+    long looked, wrong, taken, newer, bad_sheet, bad_argument;
+} tally;
+
+static uint32_t look(const uint8_t *bytes, size_t length, const uint8_t *setting, int count) {
+    uint32_t answer = lampgrotto_look_up(bytes, length, setting, count);
+    tally.looked++;
+    if (answer != expected(bytes, length, setting, count)) tally.wrong++;
+    if (answer < 65536) tally.taken++;
+    if (answer == 65536 + LAMPGROTTO_NEWER) tally.newer++;
+    if (answer == 65536 + LAMPGROTTO_BAD_SHEET) tally.bad_sheet++;
+    if (answer == 65536 + LAMPGROTTO_BAD_ARGUMENT) tally.bad_argument++;
+    return answer;
 }
 
+static void report(const char *name) {
+    printf("%s: %ld lookups, %ld wrong; %ld taken, %ld newer, %ld bad sheet, %ld bad argument\n", name, tally.looked, tally.wrong,
+           tally.taken, tally.newer, tally.bad_sheet, tally.bad_argument);
+    memset(&tally, 0, sizeof tally);
+}
+
+/* every setting of the list, where the sheet is taken at all */
+static void look_all(const struct sheet *s, const struct list *f) {
+    uint8_t setting[FEATURES] = {0};
+    if (look(s->bytes, s->length, setting, f->count) >= 65536) return;
+    for (size_t i = 1; i < settings_of(f); i++) {
+        setting_at(f, i, setting);
+        look(s->bytes, s->length, setting, f->count);
+    }
+}
+
+/* ---- document 01's two whole sheets */
+static const uint8_t example[20] = {0, 1, 1, 0, 1, 2, 0, 1, 0, 0, 0, 7, 0, 0, 9, 0, 1, 1, 0, 0};
+static const uint8_t constant[13] = {0, 1, 1, 0, 1, 2, 0, 0, 0, 1, 0, 0, 5};
+
+static void documents_sheets(void) {
+    static const uint8_t values[4] = {0, 1, 2, 0};
+    printf("example: %u %u\n", look(example, 20, values, 1), look(example, 20, values + 1, 1));
+    printf("constant: %u %u\n", look(constant, 13, values, 1), look(constant, 13, values + 1, 1));
+    printf("bad argument: %u %u %u\n", look(example, 20, values + 2, 1), look(example, 20, values, 0),
+           look(constant, 13, values, 2));
+    printf("nothing: %u\n", look(example, 0, values, 1));
+    const struct list f = {1, {2}};
+    const uint16_t seven_nine[2] = {7, 9}, fives[2] = {5, 5};
+    write_sheet(&f, seven_nine, &sheet);
+    int same = sheet.length == 20 && !memcmp(sheet.bytes, example, 20);
+    write_sheet(&f, fives, &sheet);
+    printf("written the same: %d %d\n", same, sheet.length == 13 && !memcmp(sheet.bytes, constant, 13));
+    report("the document's");
+}
+
+static void newer_sheets(void) {
+    uint8_t bytes[20];
+    memcpy(bytes, example, 20);
+    for (int edition = 0; edition < 256; edition++) {
+        bytes[2] = edition;
+        for (int length = 2; length <= 4; length++) look(bytes, length, bytes, 1);
+    }
+    report("editions");
+}
+
+/* ---- sheets that are wrong in one point: a node of a good sheet of five nodes is another */
+static void set_node(int i, uint32_t feature, uint32_t a, uint32_t b) {
+    memset(nodes[i], 0, sizeof nodes[i]);
+    nodes[i][0] = feature;
+    nodes[i][1] = a;
+    nodes[i][2] = b;
+}
+
+static const struct list three = {3, {2, 2, 2}};
+enum { NODE = 65536, OTHER_KIND = 131072 };
+
+static void good_nodes(void) {
+    node_count = 5;
+    set_node(0, 2, 7, 9);
+    set_node(1, 1, NODE + 0, 5);
+    set_node(2, 2, 9, 7);
+    set_node(3, 1, NODE + 2, NODE + 0);
+    set_node(4, 0, NODE + 1, NODE + 3);
+}
+
+static void one_point(const char *name, int i, uint32_t feature, uint32_t a, uint32_t b) {
+    good_nodes();
+    set_node(i, feature, a, b);
+    lay_out(&three, NODE + 4, &sheet);
+    static const uint8_t zeros[3] = {0};
+    printf("%s: %u\n", name, look(sheet.bytes, sheet.length, zeros, 3));
+}
+
+static void other_root(const char *name, uint32_t root) {
+    good_nodes();
+    lay_out(&three, root, &sheet);
+    static const uint8_t ones[3] = {1, 1, 1};
+    printf("%s: %u\n", name, look(sheet.bytes, sheet.length, ones, 3));
+}
+
+static void wrong_points(void) {
+    one_point("a good one", 2, 2, 9, 7);
+    one_point("equal branches", 2, 2, 7, 7);
+    one_point("equal branches to a node", 3, 1, NODE + 2, NODE + 2);
+    one_point("twins", 2, 2, 7, 9);
+    one_point("a node unreached", 3, 1, NODE + 0, 9);
+    one_point("wrong order", 4, 0, NODE + 3, NODE + 1);
+    one_point("a branch to the same feature", 3, 2, NODE + 2, NODE + 0);
+    one_point("a branch to a lower feature", 3, 2, NODE + 1, NODE + 2);
+    one_point("a branch to itself", 1, 1, NODE + 1, NODE + 0);
+    one_point("a branch to a later node", 1, 1, NODE + 0, NODE + 2);
+    one_point("a branch to no node", 1, 1, NODE + 0, NODE + 5);
+    one_point("a branch of a third kind", 1, 1, NODE + 0, OTHER_KIND);
+    other_root("the root", NODE + 4);
+    other_root("a root that is not the last", NODE + 3);
+    other_root("a root that is a phrase", 7);
+    other_root("a root that is no node", NODE + 5);
+    report("points");
+}
+
+/* ---- one sheet, cut at every length, with every byte changed to every other value, with every byte added */
+static void every_change(const struct list *f, const uint16_t *rule) {
+    static struct sheet good;
+    write_sheet(f, rule, &good);
+    look_all(&good, f);
+    for (size_t length = 0; length < good.length; length++) {
+        sheet = good;
+        sheet.length = length;
+        look_all(&sheet, f);
+    }
+    for (size_t p = 0; p < good.length; p++) {
+        sheet = good;
+        for (int change = 1; change < 256; change++) {
+            sheet.bytes[p] = good.bytes[p] ^ change;
+            look_all(&sheet, f);
+        }
+    }
+    sheet = good;
+    sheet.length++;
+    for (int more = 0; more < 256; more++) {
+        sheet.bytes[good.length] = more;
+        look_all(&sheet, f);
+    }
+}
+
+static void changed_sheets(void) {
+    const struct list f = {3, {2, 3, 2}};
+    static const uint16_t rule[12] = {7, 9, 9, 7, 9, 7, 7, 9, 300, 300, 1, 7};
+    every_change(&f, rule);
+    printf("changed: %d nodes, %zu bytes\n", node_count, sheet.length - 1);
+    report("every cut and change");
+}
+
+/* ---- random rules, each byte of their sheets with one bit changed */
 static void random_rule(struct list *f) {
     f->count = 1 + chance(4);
     for (int k = 0; k < f->count; k++) f->size[k] = 2 + chance(4);
@@ -102,88 +174,58 @@ static void random_rule(struct list *f) {
     for (size_t i = 0; i < settings_of(f); i++) numbers[i] = chance(phrases == 4 ? 65536 : phrases);
 }
 
-/* the list and all numbers of a sheet that was taken, written again: whether the bytes are the same */
-static int written_again(const struct sheet *s) {
-    struct list f = {.count = s->bytes[4]};
-    for (int k = 0; k < f.count; k++) f.size[k] = s->bytes[5 + k];
-    if (settings_of(&f) > SETTINGS) return 0;
-    for (size_t i = 0; i < settings_of(&f); i++) {
-        uint8_t setting[FEATURES];
-        setting_at(&f, i, setting);
-        again[i] = look(s, setting, f.count);
-    }
-    write_sheet(&f, again, &other);
-    return other.length == s->length && !memcmp(other.bytes, s->bytes, s->length);
-}
-
-static void document_example(void) {
-    static const uint8_t bytes[20] = {0, 1, 1, 0, 1, 2, 0, 1, 0, 0, 0, 7, 0, 0, 9, 0, 1, 1, 0, 0};
-    static const uint8_t later[3] = {0, 1, 2};
-    static const uint8_t setting[3] = {0, 1, 2};
-    printf("example: %u %u\n", lampgrotto_look_up(bytes, 20, setting, 1), lampgrotto_look_up(bytes, 20, setting + 1, 1));
-    printf("bad argument: %u %u %u\n", lampgrotto_look_up(bytes, 20, setting + 2, 1), lampgrotto_look_up(bytes, 20, setting, 0),
-           lampgrotto_look_up(bytes, 20, setting, 2));
-    printf("cut short: %u %u %u\n", lampgrotto_look_up(bytes, 19, setting, 1), lampgrotto_look_up(later, 2, setting, 1),
-           lampgrotto_look_up(later, 0, setting, 0));
-    printf("newer: %u\n", lampgrotto_look_up(later, 3, setting, 1));
-}
-
 static void random_sheets(void) {
-    long looked = 0, wrong = 0, spoiled = 0, taken = 0, same = 0, newer = 0;
     for (int round = 0; round < 60; round++) {
         struct list f;
         random_rule(&f);
-        write_sheet(&f, numbers, &good);
+        write_sheet(&f, numbers, &sheet);
         for (size_t i = 0; i < settings_of(&f); i++) {
             uint8_t setting[FEATURES];
             setting_at(&f, i, setting);
-            looked++;
-            if (look(&good, setting, f.count) != numbers[i]) wrong++;
+            if (look(sheet.bytes, sheet.length, setting, f.count) != numbers[i]) tally.wrong++;
         }
-        uint8_t zeros[FEATURES] = {0};
-        for (size_t p = 0; p < good.length; p++) {
-            uint8_t old = good.bytes[p];
-            good.bytes[p] = old ^ 1 << chance(8);
-            uint32_t r = look(&good, zeros, good.bytes[4] <= FEATURES ? good.bytes[4] : 0);
-            spoiled++;
-            if (r == 65536 + LAMPGROTTO_NEWER) newer++;
-            if (r < 65536) {
-                taken++;
-                same += written_again(&good);
-            }
-            good.bytes[p] = old;
+        static const uint8_t zeros[FEATURES] = {0};
+        for (size_t p = 0; p < sheet.length; p++) {
+            uint8_t old = sheet.bytes[p];
+            sheet.bytes[p] = old ^ 1 << chance(8);
+            look(sheet.bytes, sheet.length, zeros, sheet.bytes[4] <= FEATURES ? sheet.bytes[4] : 0);
+            sheet.bytes[p] = old;
         }
     }
-    printf("looked up %ld, wrong %ld\n", looked, wrong);
-    printf("spoiled %ld: newer %ld, taken %ld, of these written again the same %ld\n", spoiled, newer, taken, same);
+    report("random");
 }
 
-/* five features of size 8, 3,511 different nodes of the last: how far the check goes is told by what is spoiled */
-static void large_sheet(void) {
+/* ---- five features of size 8, 3,511 different nodes of the last and 585 above them; with one more it is no sheet */
+static void large_sheet(int one_more) {
     struct list f = {5, {8, 8, 8, 8, 8}};
     for (size_t i = 0; i < 4096; i++) {
         uint16_t x = i % 3511 + 1;
         for (int v = 0; v < 8; v++) numbers[i * 8 + v] = v == 0 ? x : v == 1 ? x >> 3 : 5;
     }
-    write_sheet(&f, numbers, &good);
-    printf("large: %d nodes, %zu bytes\n", node_count, good.length);
-    static const uint8_t setting[5] = {6, 3, 2, 1, 0};
-    static const char *upto[4] = {"places", "and each node", "and twins", "and the walk and the lookup"};
-    static uint8_t *last;
-    last = good.bytes + good.length - 3;
-    for (int phase = 0; phase < 4; phase++) {
-        uint8_t root[3];
-        memcpy(root, last, 3);
-        if (phase == 1) last[0] = 2;
-        if (phase == 2) last[1] = last[2] = 0;
-        printf("%s: %u\n", upto[phase], lampgrotto_look_up(good.bytes, good.length + (phase == 0), setting, 5));
-        memcpy(last, root, 3);
+    if (one_more) numbers[32767] = 60000;
+    write_sheet(&f, numbers, &sheet);
+    printf("large: %d nodes, %zu bytes\n", node_count, sheet.length);
+    for (int i = 0; i < 12; i++) {
+        size_t rank = chance(32768);
+        uint8_t setting[FEATURES];
+        setting_at(&f, rank, setting);
+        if (look(sheet.bytes, sheet.length, setting, 5) != (one_more ? 65536 + LAMPGROTTO_BAD_SHEET : numbers[rank])) tally.wrong++;
+        size_t p = chance(sheet.length);
+        uint8_t old = sheet.bytes[p];
+        sheet.bytes[p] ^= 1 << chance(8);
+        look(sheet.bytes, sheet.length, setting, 5);
+        sheet.bytes[p] = old;
     }
+    report("large");
 }
 
 int main(void) {
-    document_example();
+    documents_sheets();
+    newer_sheets();
+    wrong_points();
+    changed_sheets();
     random_sheets();
-    large_sheet();
+    large_sheet(0);
+    large_sheet(1);
     return 0;
 }

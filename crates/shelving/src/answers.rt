@@ -62,6 +62,11 @@ impl Answer {
         self.number(wider(x))
     }
 
+    // One number more, a length.
+    pub fn size(self, x: usize) -> Answer {
+        self.number(x as u64)
+    }
+
     // One number more: 1 for yes, 0 for no.
     pub fn flag(self, yes: bool) -> Answer {
         if yes {

@@ -15,7 +15,7 @@ fn wide(x: u32) -> u64
 }
 
 // `scratch LENGTH WORD`: from now on so many scratch words are lent, each this word before each call.
-pub fn scratch(n: &[u64], desk: Desk) -> Turn {
+fn scratch(n: &[u64], desk: Desk) -> Turn {
     if n.len() != 2 {
         return desk.says(Answer::unknown());
     }
@@ -35,7 +35,7 @@ pub fn scratch(n: &[u64], desk: Desk) -> Turn {
 }
 
 // `lend LENGTH`: from now on only so many words of the table are lent.
-pub fn lend(n: &[u64], desk: Desk) -> Turn {
+fn lend(n: &[u64], desk: Desk) -> Turn {
     if n.len() != 1 {
         return desk.says(Answer::unknown());
     }
@@ -96,6 +96,17 @@ fn sum(n: &[u64], table: &[u32]) -> Answer {
         return Answer::unknown();
     }
     Answer::of(Outcome::Taken).number(checksum(table))
+}
+
+// The command of this name that changes the desk, if there is one.
+pub fn arrange(name: &[u8], n: &[u64], desk: Desk) -> Turn {
+    if check::same(name, b"scratch") {
+        return scratch(n, desk);
+    }
+    if check::same(name, b"lend") {
+        return lend(n, desk);
+    }
+    desk.says(Answer::unknown())
 }
 
 // The command of this name on the table buffer, if there is one.

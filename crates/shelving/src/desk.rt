@@ -11,10 +11,17 @@ pub struct Desk {
     pub features: usize,
 }
 
-// What a line leaves: the desk, and the answer.
+// What follows the numbers of an answer: nothing, or the first so many bytes of the sheet buffer.
+pub enum Tail {
+    Nothing,
+    Bytes(usize),
+}
+
+// What a line leaves: the desk, the answer, and what follows it.
 pub struct Turn {
     pub desk: Desk,
     pub answer: Answer,
+    pub tail: Tail,
 }
 
 // How many of the words are lent: so many, or all where there are no more.
@@ -40,6 +47,15 @@ impl Desk {
 
     // An answer that leaves the desk as it is.
     pub fn says(self, answer: Answer) -> Turn {
-        Turn { desk: self, answer }
+        self.shows(answer, Tail::Nothing)
+    }
+
+    // An answer with something after it.
+    pub fn shows(self, answer: Answer, tail: Tail) -> Turn {
+        Turn {
+            desk: self,
+            answer,
+            tail,
+        }
     }
 }

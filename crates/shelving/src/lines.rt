@@ -1,8 +1,7 @@
 // Which command a line is, and the lines of standard input in turn.
 use crate::answers::Answer;
+use crate::buffers::arrange;
 use crate::buffers::handle;
-use crate::buffers::lend;
-use crate::buffers::scratch as lend_scratch;
 use crate::changes::change;
 use crate::changes::open;
 use crate::desk::Desk;
@@ -11,11 +10,14 @@ use crate::desk::lent;
 use crate::output::flush;
 use crate::output::put_answer;
 use crate::questions::ask;
+use crate::sheeting::read;
+use crate::sheeting::write;
 use crate::stepping::step;
 use crate::words::first_word;
 use crate::words::numbers_after;
 use crate::workings::work;
 use libc::STDIN_FILENO;
+ghost use Rattle.io.specs.Counts.{Counts};
 
 // A call on the lent words: each family of commands in turn, and the first that knows the line answers.
 fn call(name: &[u8], n: &[u64], desk: Desk, table: &mut [u32], scratch: &mut [u32]) -> Answer {
@@ -38,27 +40,68 @@ fn call(name: &[u8], n: &[u64], desk: Desk, table: &mut [u32], scratch: &mut [u3
     ask(name, n, &table[..size], desk.features)
 }
 
-// A command of numbers alone: those that change the desk, those on the whole table buffer, then the calls.
-fn command(name: &[u8], n: &[u64], desk: Desk, table: &mut [u32], scratch: &mut [u32]) -> Turn {
-    if check::same(name, b"scratch") {
-        return lend_scratch(n, desk);
-    }
-    if check::same(name, b"lend") {
-        return lend(n, desk);
-    }
-    if check::same(name, b"open") {
-        let words = lent(table, desk.table);
-        return open(n, desk, &mut table[..words]);
-    }
+// A command that leaves the desk as it is: on the whole table buffer, or a call on the lent words.
+fn answer_of(name: &[u8], n: &[u64], desk: Desk, table: &mut [u32], scratch: &mut [u32]) -> Answer {
     let handled = handle(name, n, table);
     if handled.known {
-        return desk.says(handled);
+        return handled;
     }
-    desk.says(call(name, n, desk, table, scratch))
+    call(name, n, desk, table, scratch)
+}
+
+// A command of numbers alone: `open` and `write`, those that change the desk, those on the whole table buffer, then
+// the calls.
+fn command(
+    name: &[u8],
+    n: &[u64],
+    desk: Desk,
+    table: &mut [u32],
+    scratch: &mut [u32],
+    sheet: &mut [u8],
+) -> Turn {
+    let words = lent(table, desk.table);
+    if check::same(name, b"open") {
+        return open(n, desk, &mut table[..words]);
+    }
+    if check::same(name, b"write") {
+        return write(n, desk, &table[..words], sheet);
+    }
+    let arranged = arrange(name, n, desk);
+    let answer = arranged.answer;
+    if answer.known {
+        return arranged;
+    }
+    desk.says(answer_of(name, n, desk, table, scratch))
+}
+
+// A line of a name, which ends at `end`, and numbers.
+fn numbered(
+    line: &[u8],
+    end: usize,
+    desk: Desk,
+    table: &mut [u32],
+    scratch: &mut [u32],
+    sheet: &mut [u8],
+) -> Turn
+    requires { ⌜ Counts end (now line) ⌝ }
+{
+    let mut list = [0u64; 66];
+    let listed = numbers_after(line, end, &mut list);
+    if !listed.known {
+        return desk.says(Answer::unknown());
+    }
+    let n = listed.count;
+    command(&line[..end], &list[..n], desk, table, scratch, sheet)
 }
 
 // A line: an empty one is answered by an empty one; commands with a word that is no number come first.
-fn respond(line: &[u8], desk: Desk, table: &mut [u32], scratch: &mut [u32]) -> Turn {
+fn respond(
+    line: &[u8],
+    desk: Desk,
+    table: &mut [u32],
+    scratch: &mut [u32],
+    sheet: &mut [u8],
+) -> Turn {
     if line.len() == 0 {
         return desk.says(Answer::empty());
     }
@@ -67,27 +110,30 @@ fn respond(line: &[u8], desk: Desk, table: &mut [u32], scratch: &mut [u32]) -> T
     if check::same(name, b"step") {
         return desk.says(step(line, end));
     }
-    // `write P LENGTH` and `read P HEX` go here, over the crate sheets: until then both are no command.
-    // For `write` a Turn then also says how many bytes of a buffer follow its answer as HEX.
-    let mut list = [0u64; 66];
-    let listed = numbers_after(line, end, &mut list);
-    if !listed.known {
-        return desk.says(Answer::unknown());
+    if check::same(name, b"read") {
+        let words = lent(table, desk.table);
+        return desk.says(read(line, end, &mut table[..words], sheet));
     }
-    let n = listed.count;
-    command(name, &list[..n], desk, table, scratch)
+    numbered(line, end, desk, table, scratch, sheet)
 }
 
 // Each line of the input in turn, answered by a line.
-fn answer_all(input: &[u8], table: &mut [u32], scratch: &mut [u32], out: &mut [u8]) {
+fn answer_all(
+    input: &[u8],
+    table: &mut [u32],
+    scratch: &mut [u32],
+    sheet: &mut [u8],
+    out: &mut [u8],
+) {
     let mut desk = Desk::new();
     let mut at: usize = 0;
     let mut from: usize = 0;
     while from < input.len() {
         let end = bytes::scan::find(input, from, input.len(), b'\n');
-        let turn = respond(&input[from..end], desk, table, scratch);
+        let turn = respond(&input[from..end], desk, table, scratch, sheet);
         desk = turn.desk;
-        at = put_answer(turn.answer, out, at);
+        let tail = turn.tail;
+        at = put_answer(turn.answer, tail, sheet, out, at);
         if end == input.len() {
             flush(out, at);
             return;
@@ -103,6 +149,7 @@ pub fn run() {
     let n = io::read_full(STDIN_FILENO, &mut input);
     let mut table = [0u32; 16384];
     let mut scratch = [0u32; 16384];
+    let mut sheet = io::large_buffer();
     let mut out = io::large_buffer();
-    answer_all(&input[..n], &mut table, &mut scratch, &mut out);
+    answer_all(&input[..n], &mut table, &mut scratch, &mut sheet, &mut out);
 }

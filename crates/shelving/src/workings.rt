@@ -48,16 +48,14 @@ fn forget(n: &[u64], table: &mut [u32], scratch: &mut [u32]) -> Answer {
 
 // The command of this name that is lent scratch, each word of it set before the call, if there is one.
 pub fn work(name: &[u8], n: &[u64], table: &mut [u32], scratch: &mut [u32], word: u32) -> Answer {
+    fill(scratch, word);
     if check::same(name, b"case") {
-        fill(scratch, word);
         return case(n, table, scratch);
     }
     if check::same(name, b"apply") {
-        fill(scratch, word);
         return apply(n, table, scratch);
     }
     if check::same(name, b"forget") {
-        fill(scratch, word);
         return forget(n, table, scratch);
     }
     Answer::unknown()

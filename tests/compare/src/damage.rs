@@ -1,17 +1,15 @@
 //! Damage: every change of one word of a small sound table is either refused as DAMAGED by every call, or gives another
 //! sound table with the rules that its words say.
 
-use crate::desk::{Desk, BUFFER};
+use crate::desk::BUFFER;
 use crate::model::Table;
+use crate::parts::Parts;
 use crate::picture;
 use crate::shape::Shape;
 use crate::sound;
 
-/// A script is cut here; the lines of one word come after it.
-const FULL: usize = 64_000;
-
 /// The calls, in turn, on words that are not sound: each must answer DAMAGED, bad arguments or not.
-const CALLS: [&str; 16] = [
+const CALLS: [&str; 20] = [
     "look 0 0 0",
     "same 0 1",
     "constant 0 1",
@@ -28,6 +26,10 @@ const CALLS: [&str; 16] = [
     "count 0 1",
     "next 0 1 0 0",
     "literal 32 9 9",
+    "write 0 40",
+    "write 32 2",
+    "read 0 0001010002020300000001000007",
+    "read 32 000102",
 ];
 /// How many of them need no operations.
 const WITHOUT_OPERATIONS: usize = 8;
@@ -57,46 +59,21 @@ fn bases() -> Vec<Table> {
     vec![one, two, three]
 }
 
-struct Part {
-    base: Vec<String>,
+struct Damage {
     words: Vec<u32>,
     operations: bool,
-    scripts: Vec<Vec<String>>,
-    lines: Vec<String>,
-    bytes: usize,
+    parts: Parts,
 }
 
-impl Part {
-    /// The table is poked into a fresh one, word by word.
-    fn new(table: &Table, operations: bool) -> Part {
-        let open = format!("open {} 2 3", table.capacity);
-        let mut desk = Desk::new();
-        desk.answer(&open);
-        let mut words = desk.words().to_vec();
-        let mut base = vec![open];
-        for (i, &word) in picture::words(table).iter().enumerate() {
-            if words[i] != word {
-                base.push(format!("poke {i} {word}"));
-                words[i] = word;
-            }
-        }
-        Part { base, words, operations, scripts: Vec::new(), lines: Vec::new(), bytes: 0 }
+impl Damage {
+    fn new(table: &Table, operations: bool) -> Damage {
+        let mut words = picture::words(table);
+        words.resize(BUFFER, 0);
+        Damage { words, operations, parts: Parts::on(table) }
     }
 
     fn say(&mut self, line: String) {
-        self.bytes += line.len() + 1;
-        self.lines.push(line);
-    }
-
-    /// The lines so far are a script of their own, with the same sum at both ends.
-    fn cut(&mut self) {
-        let sum = || "sum".to_string();
-        let mut script = self.base.clone();
-        script.push(sum());
-        script.append(&mut self.lines);
-        script.push(sum());
-        self.scripts.push(script);
-        self.bytes = 0;
+        self.parts.say(line);
     }
 
     /// One changed word: calls that find it, or the answers of the other sound table.
@@ -124,18 +101,15 @@ impl Part {
                 turn += 1;
             }
             self.say(format!("poke {i} {}", self.words[i]));
-            if self.bytes > FULL - 1000 {
-                self.cut();
-            }
+            self.parts.rest();
         }
-        self.cut();
-        self.scripts
+        self.parts.done()
     }
 }
 
 /// The scripts of every change of one word of each small table.
 pub fn scripts(operations: bool) -> Vec<Vec<String>> {
-    let all = |t: Table| Part::new(&t, operations).all(picture::bound(t.capacity));
+    let all = |t: Table| Damage::new(&t, operations).all(picture::bound(t.capacity));
     bases().into_iter().flat_map(all).collect()
 }
 

@@ -1,5 +1,6 @@
 //! What `shelf` must answer: each line of a script, read as shared/SHELF.md says, against the model.
 
+use crate::hex;
 use crate::model::{Table, Told, BAD_ARGUMENT, BAD_OPENING, DAMAGED};
 use crate::picture::{self, bound};
 use crate::shape::Shape;
@@ -9,6 +10,9 @@ use crate::sound;
 pub const BUFFER: usize = 16384;
 /// The longest list after a command.
 const LIST: usize = 64;
+/// The longest output of `write`, and what its bytes are before.
+const OUTPUT: i64 = 8192;
+const BEFORE: u8 = 170;
 
 /// A foretold answer: a line, or the checksum of these words.
 #[derive(Debug)]
@@ -161,9 +165,33 @@ impl Desk {
             ("same", &[p, q]) => valued(self.lent().and_then(|t| t.same(p, q))),
             ("count", &[p, x]) => valued(self.lent().and_then(|t| t.count(p, x))),
             ("next", [p, x, values @ ..]) if values.len() <= LIST => self.next(*p, *x, values),
+            ("write", &[p, length]) => self.sheet(p, length)?,
             ("tally", []) => valued(self.lent().map(|t| t.tally())),
             _ => return None,
         })
+    }
+
+    /// `write P LENGTH`: the whole output, the sheet at its front.
+    fn sheet(&self, p: i64, length: i64) -> Option<String> {
+        if !(0..=OUTPUT).contains(&length) {
+            return None;
+        }
+        let mut output = vec![BEFORE; length as usize];
+        let told = self.lent().and_then(|t| t.write(p, output.len()));
+        let count = told.as_ref().map_or(0, |sheet| sheet.len());
+        let ending = *told.as_ref().err().unwrap_or(&0);
+        output[..count].copy_from_slice(&told.unwrap_or_default());
+        Some(format!("{ending} {count} {}", hex::written(&output)))
+    }
+
+    /// `read P HEX` after its first word.
+    fn read(&mut self, words: &[&str]) -> Option<String> {
+        if words.len() != 2 {
+            return None;
+        }
+        let p = number(words[0])?;
+        let bytes = hex::read(words[1])?;
+        Some(plain(self.change(|t| t.read(p, &bytes))))
     }
 
     /// The commands on the buffers. Scratch has no part in any answer.
@@ -201,10 +229,10 @@ impl Desk {
             return Expected::Sum(self.words().to_vec());
         }
         let words: Vec<&str> = line.split(' ').collect();
-        let answer = if words[0] == "step" {
-            step(&words[1..])
-        } else {
-            numbers(words[1..].iter().copied()).and_then(|n| self.command(words[0], &n))
+        let answer = match words[0] {
+            "step" => step(&words[1..]),
+            "read" => self.read(&words[1..]),
+            name => numbers(words[1..].iter().copied()).and_then(|n| self.command(name, &n)),
         };
         Expected::Line(answer.unwrap_or_else(|| "?".to_string()))
     }
@@ -257,6 +285,22 @@ mod tests {
         assert_eq!(says(&mut desk, "tally"), "0 1");
         assert_eq!(says(&mut desk, "poke 40 9"), "0");
         assert_eq!(says(&mut desk, "look 8 0 0"), "0 9");
+    }
+
+    #[test]
+    fn sheets() {
+        let mut desk = Desk::new();
+        assert_eq!(says(&mut desk, "write 0 2"), "1 0 aaaa");
+        says(&mut desk, "open 1 2");
+        assert_eq!(says(&mut desk, "write 0 0"), "10 0 -");
+        assert_eq!(says(&mut desk, "write 0 14"), "0 13 00010100010200000001000000aa");
+        assert_eq!(says(&mut desk, "write 0 8193"), "?");
+        assert_eq!(says(&mut desk, "write 0 -1"), "?");
+        assert_eq!(says(&mut desk, "read 1 0001010001020001000000070000090001010000"), "0");
+        assert_eq!(says(&mut desk, "look 1 1"), "0 9");
+        assert_eq!(says(&mut desk, "read 1 -"), "4");
+        assert_eq!(says(&mut desk, "read 1 000"), "?");
+        assert_eq!(says(&mut desk, "read 1"), "?");
     }
 
     #[test]

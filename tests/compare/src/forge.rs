@@ -13,7 +13,7 @@ const IN_A_SCRIPT: usize = 40;
 const LISTS: [&[usize]; 5] = [&[2, 3], &[2, 2, 2], &[3, 2, 2], &[8], &[2, 2, 3, 2]];
 
 /// A branch word: a phrase, or any node of the first n, one too many with them.
-fn branch(rng: &mut Rng, n: usize) -> u32 {
+pub fn branch(rng: &mut Rng, n: usize) -> u32 {
     if rng.once_in(2) {
         return rng.below(3) as u32;
     }
@@ -27,7 +27,7 @@ fn add(diagram: &mut Diagram, node: Node) {
 }
 
 /// Two nodes side by side change their numbers.
-fn swap(diagram: &mut Diagram, i: usize) {
+pub fn swap(diagram: &mut Diagram, i: usize) {
     let (a, b) = (NODE + i as u32, NODE + i as u32 + 1);
     diagram.nodes.swap(i, i + 1);
     let branches = diagram.nodes.iter_mut().flat_map(|n| n.branches.iter_mut());
@@ -68,7 +68,7 @@ fn fault(rng: &mut Rng, shape: &Shape, diagram: &mut Diagram) {
 /// The words of a forged table.
 fn forged(rng: &mut Rng, shape: &Shape) -> Vec<u32> {
     let room = rng.within(1, CAPACITY - 1);
-    let mut diagram = picture::diagram(&script::table(rng.next(), shape, room));
+    let mut diagram = picture::diagram(shape, &script::table(rng.next(), shape, room).rules);
     // the last place keeps its root for nodes to come
     if diagram.roots[31] < NODE {
         diagram.roots[31] = 0;

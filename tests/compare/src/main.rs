@@ -8,16 +8,22 @@ mod args;
 mod damage;
 mod desk;
 mod examples;
+mod exchange;
 mod forge;
+mod hex;
+mod junk;
 mod model;
+mod parts;
 mod picture;
 mod rests;
 mod rng;
 mod script;
 mod shape;
+mod sheet;
 mod shelf;
 mod shrink;
 mod sound;
+mod spoil;
 mod style;
 
 use shelf::Shelf;
@@ -26,6 +32,7 @@ use std::process::ExitCode;
 const SEED: u64 = 1000;
 const SCRIPTS: u64 = 300;
 const FORGED: u64 = 12;
+const EXCHANGES: u64 = 20;
 
 /// Runs a script; where it fails, prints the shortest script that still does.
 fn agrees(shelf: &Shelf, name: &str, script: Vec<String>) -> bool {
@@ -76,8 +83,11 @@ fn all_agree(shelf: &Shelf, seed: u64, scripts: u64, operations: bool) -> bool {
     let random = (seed..seed + scripts).map(|s| (format!("seed {s}"), script::script(s, operations)));
     let forged = forge::scripts(seed, FORGED).into_iter().map(|s| (format!("forged tables of seed {seed}"), s));
     let damage = damage::scripts(operations).into_iter().map(|s| ("damage".to_string(), s));
+    let sheets = exchange::scripts(seed, if operations { EXCHANGES } else { 0 });
+    let sheets = sheets.map(|s| (format!("sheets of seed {seed}"), s)).filter(|_| operations);
     examples_agree(shelf, operations)
         && part(shelf, "random calls", random)
+        && part(shelf, "sheets", sheets)
         && part(shelf, "forged tables", forged)
         && part(shelf, "damage", damage)
 }

@@ -3,15 +3,20 @@
 
 use crate::rests;
 use crate::shape::Shape;
+use crate::sheet;
 
 pub const PLACES: usize = 32;
 pub const MOST_NUMBER: i64 = 65535;
 
 pub const DAMAGED: u32 = 1;
 pub const BAD_PLACE: u32 = 2;
+pub const NEWER: u32 = 3;
+pub const BAD_SHEET: u32 = 4;
+pub const OTHER_FEATURES: u32 = 5;
 pub const BAD_ARGUMENT: u32 = 6;
 pub const BAD_SELECTOR: u32 = 7;
 pub const NO_ROOM: u32 = 9;
+pub const NO_SPACE: u32 = 10;
 pub const NONE: u32 = 11;
 pub const BAD_OPENING: u32 = 12;
 
@@ -187,6 +192,25 @@ impl Table {
         let from = self.setting(values)?;
         let found = (from..self.shape.settings()).find(|&i| self.rules[p][i] == x);
         found.map(|i| self.shape.setting(i)).ok_or(NONE)
+    }
+
+    /// The sheet of the place, where so many bytes are enough.
+    pub fn write(&self, p: i64, length: usize) -> Told<Vec<u8>> {
+        let p = place(p)?;
+        let bytes = sheet::written(&self.shape, &self.rules[p]);
+        if length < bytes.len() {
+            return Err(NO_SPACE);
+        }
+        Ok(bytes)
+    }
+
+    pub fn read(&mut self, p: i64, bytes: &[u8]) -> Told<()> {
+        let p = place(p)?;
+        let (shape, rule) = sheet::read(bytes)?;
+        if shape != self.shape {
+            return Err(OTHER_FEATURES);
+        }
+        self.put(p, rule)
     }
 
     pub fn tally(&self) -> u64 {

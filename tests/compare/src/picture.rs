@@ -1,7 +1,7 @@
 //! The words of a table, laid out from its rules alone: one node for each rest, as a walk from the roots in turn
 //! finishes them, branch 0 first. A sound table has just these words, so `word` and `sum` lines can be foretold.
 
-use crate::model::Table;
+use crate::model::{Rule, Table};
 use crate::shape::Shape;
 use std::collections::HashMap;
 
@@ -34,7 +34,7 @@ pub struct Node {
     pub branches: Vec<u32>,
 }
 
-/// Nodes in order, and the root words of the 32 places.
+/// Nodes in order, and the root words: of the 32 places, or of one rule.
 #[derive(Clone)]
 pub struct Diagram {
     pub nodes: Vec<Node>,
@@ -78,10 +78,10 @@ fn lay(words: &mut [u32], i: usize, node: &Node) {
     words[HEADS + h] = i as u32 + 1;
 }
 
-/// The diagram of a table's rules.
-pub fn diagram(table: &Table) -> Diagram {
-    let mut layout = Layout { shape: &table.shape, nodes: Vec::new(), known: HashMap::new() };
-    let roots = table.rules.iter().map(|r| layout.branch(0, r)).collect();
+/// The diagram of the rules.
+pub fn diagram(shape: &Shape, rules: &[Rule]) -> Diagram {
+    let mut layout = Layout { shape, nodes: Vec::new(), known: HashMap::new() };
+    let roots = rules.iter().map(|r| layout.branch(0, r)).collect();
     Diagram { nodes: layout.nodes, roots }
 }
 
@@ -104,5 +104,5 @@ pub fn lay_out(shape: &Shape, capacity: usize, diagram: &Diagram) -> Vec<u32> {
 
 /// The words of the table, up to its bound.
 pub fn words(table: &Table) -> Vec<u32> {
-    lay_out(&table.shape, table.capacity, &diagram(table))
+    lay_out(&table.shape, table.capacity, &diagram(&table.shape, &table.rules))
 }

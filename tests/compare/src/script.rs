@@ -2,10 +2,15 @@
 
 use crate::args::{line, Args};
 use crate::desk::{Desk, Expected, BUFFER};
-use crate::model::Table;
+use crate::exchange::any_rule;
+use crate::hex;
+use crate::junk::JUNK;
+use crate::model::{Rule, Table};
 use crate::picture::{self, bound, HEADS, RECORDS};
 use crate::rng::Rng;
 use crate::shape::Shape;
+use crate::sheet;
+use crate::spoil;
 use crate::style::{Style, COMMANDS};
 use std::collections::HashSet;
 
@@ -15,41 +20,11 @@ pub const CALLS: usize = 100;
 const FULL: usize = 60_000;
 
 /// The commands that the stand-in for the operations does not know.
-const OPERATIONS: [usize; 7] = [2, 3, 4, 5, 6, 9, 10];
+const OPERATIONS: [usize; 9] = [2, 3, 4, 5, 6, 9, 10, 20, 21];
+/// The longest sheet of a `read` line.
+const SHEET: usize = 500;
 
 const SCRATCH: [i64; 8] = [0, 1, 10, 11, 12, 1000, 4096, 16384];
-const JUNK: [&str; 30] = [
-    "",
-    "tally ",
-    " tally",
-    "tally 0",
-    "Tally",
-    "look",
-    "constant 1",
-    "constant 1 2 3",
-    "apply 1 2 3",
-    "literal 0 0",
-    "restrict 0 0 0",
-    "case 1",
-    "next 1",
-    "copy 1  2",
-    "copy +1 2",
-    "copy 1 0x2",
-    "copy 1 2.0",
-    "copy 1 -",
-    "copy 1 9223372036854775808",
-    "copy 1 -9223372036854775809",
-    "constant 0 00000000000000000000000000007",
-    "constant -0 3",
-    "same 1",
-    "sum 0",
-    "word",
-    "poke 1",
-    "step",
-    "step 2,3",
-    "step 2,,3 0 0",
-    "open",
-];
 
 pub struct Maker {
     args: Args,
@@ -57,7 +32,7 @@ pub struct Maker {
     lines: Vec<String>,
     bytes: usize,
     style: Style,
-    weights: [usize; 20],
+    weights: [usize; 22],
 }
 
 fn opening(shape: &Shape, capacity: usize) -> String {
@@ -95,7 +70,7 @@ impl Maker {
             Expected::Line(answer) => !answer.starts_with('0'),
             Expected::Sum(_) => false,
         };
-        let reads = ["look", "same", "count", "next", "tally"].iter().any(|r| line.starts_with(r));
+        let reads = ["look", "same", "count", "next", "tally", "write"].iter().any(|r| line.starts_with(r));
         let sums = (refused && self.args.rng.once_in(2)) || (reads && self.args.rng.once_in(8));
         if sums {
             self.push("sum".to_string());
@@ -266,6 +241,56 @@ impl Maker {
         self.say(text);
     }
 
+    /// The sheet of a place, into an output of any kind of length.
+    fn write_sheet(&mut self) {
+        let p = self.rich();
+        let rule = self.desk.table().and_then(|t| t.rules.get(p as usize));
+        let length = rule.map_or(20, |r| sheet::written(&self.args.shape, r).len());
+        let any = self.args.rng.below(length);
+        let space = self.args.rng.pick(&[0, any, length - 1, length, length, length + 1, length + 30, 8192]);
+        self.say(format!("write {p} {space}"));
+    }
+
+    /// A rule whose sheet may be read: of a place, another over the list, or over another list.
+    fn sheet_rule(&mut self) -> (Shape, Rule) {
+        let mut shape = self.args.shape.clone();
+        let p = self.rich() as usize;
+        if let (Some(table), true) = (self.desk.table(), self.args.rng.once_in(2)) {
+            if let Some(rule) = table.rules.get(p) {
+                return (shape, rule.clone());
+            }
+        }
+        if self.args.rng.once_in(6) {
+            shape.sizes.rotate_left(1);
+        }
+        if self.args.rng.once_in(6) {
+            shape.sizes.truncate(2);
+        }
+        let rule = any_rule(&mut self.args.rng, &shape);
+        (shape, rule)
+    }
+
+    /// A sheet is read, once in three times with a fault; one that is too long for a line gives way to a constant's.
+    fn read_sheet(&mut self) {
+        let p = self.poor();
+        let (shape, mut rule) = self.sheet_rule();
+        if sheet::written(&shape, &rule).len() > SHEET {
+            rule.fill(7);
+        }
+        let diagram = picture::diagram(&shape, std::slice::from_ref(&rule));
+        let good = sheet::lay_out(&shape, &diagram);
+        let rng = &mut self.args.rng;
+        let i = rng.below(good.len());
+        let bytes = match rng.below(12) {
+            0 => spoil::faulty(rng, &shape, &diagram),
+            1 => spoil::changed(&good, i, rng.next() as u8),
+            2 => good[..i].to_vec(),
+            3 => [&good[..], &[0]].concat(),
+            _ => good,
+        };
+        self.say(format!("read {p} {}", hex::written(&bytes)));
+    }
+
     /// One random command; one that holds others only where they may be nested.
     fn command(&mut self, nests: bool) {
         let name = COMMANDS[self.args.rng.weighted(&self.weights)];
@@ -287,6 +312,8 @@ impl Maker {
                 let text = self.args.rng.pick(&JUNK);
                 self.say(text.to_string());
             }
+            "write" => self.write_sheet(),
+            "read" => self.read_sheet(),
             "look" | "same" | "count" | "next" | "tally" => self.ask(name),
             _ => self.write(name),
         }

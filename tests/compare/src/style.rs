@@ -3,14 +3,14 @@
 use crate::rng::Rng;
 use crate::shape::Shape;
 
-pub const COMMANDS: [&str; 20] = [
+pub const COMMANDS: [&str; 22] = [
     "constant", "copy", "literal", "case", "apply", "restrict", "forget", "look", "same", "count", "next", "tally",
-    "step", "scratch", "lend", "word", "poke", "sum", "junk", "open",
+    "step", "scratch", "lend", "word", "poke", "sum", "junk", "open", "write", "read",
 ];
 /// How often each command comes: in a mixed script, where places are filled and replaced, and where rules grow.
-const MIXED: [usize; 20] = [8, 5, 18, 18, 20, 7, 6, 7, 4, 4, 6, 4, 3, 3, 1, 3, 2, 2, 2, 1];
-const FILLING: [usize; 20] = [14, 4, 30, 16, 26, 5, 4, 3, 1, 1, 1, 6, 0, 3, 0, 2, 0, 3, 0, 0];
-const GROWING: [usize; 20] = [2, 2, 10, 32, 28, 9, 8, 5, 2, 3, 4, 4, 0, 3, 0, 2, 0, 3, 0, 0];
+const MIXED: [usize; 22] = [8, 5, 18, 18, 20, 7, 6, 7, 4, 4, 6, 4, 3, 3, 1, 3, 2, 2, 2, 1, 5, 8];
+const FILLING: [usize; 22] = [14, 4, 30, 16, 26, 5, 4, 3, 1, 1, 1, 6, 0, 3, 0, 2, 0, 3, 0, 0, 2, 10];
+const GROWING: [usize; 22] = [2, 2, 10, 32, 28, 9, 8, 5, 2, 3, 4, 4, 0, 3, 0, 2, 0, 3, 0, 0, 3, 4];
 
 /// How seldom a list has 16 features: their 65,536 settings take the model some seconds.
 const ONCE_IN: usize = 300;
@@ -46,7 +46,7 @@ impl Style {
         }
     }
 
-    pub fn weights(self) -> [usize; 20] {
+    pub fn weights(self) -> [usize; 22] {
         match self {
             Style::Mixed => MIXED,
             Style::Filling => FILLING,

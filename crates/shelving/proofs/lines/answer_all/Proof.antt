@@ -8,10 +8,10 @@ use Rattle.shelving.proofs.lines.answer_all.Statement.{statement}
 use Rattle.shelving.proofs.lines.answer_all.Tie as tie
 
 abbrev Inv-loop : tie.InvT-loop
-Inv-loop input table₀ scratch₀ out₀ desk₀ at₀ from₀ table scratch out desk at from = (from ≤ length input) × (length table ≡ length table₀) × (length scratch ≡ length scratch₀) × (length out ≡ length out₀)
+Inv-loop input table₀ scratch₀ sheet₀ out₀ desk₀ at₀ from₀ table scratch sheet out desk at from = (from ≤ length input) × (length table ≡ length table₀) × (length scratch ≡ length scratch₀) × (length sheet ≡ length sheet₀) × (length out ≡ length out₀)
 
 abbrev μ-loop : tie.MeasureT-loop
-μ-loop input table₀ scratch₀ out₀ desk₀ at₀ from₀ table scratch out desk at from = length input - from
+μ-loop input table₀ scratch₀ sheet₀ out₀ desk₀ at₀ from₀ table scratch sheet out desk at from = length input - from
 
 new-requires : tie.Need-new-requires Inv-loop μ-loop
 new-requires c κs = search needs
@@ -49,11 +49,14 @@ same-length-2 c = search needs
 same-length-3 : tie.Need-same-length-3 Inv-loop μ-loop
 same-length-3 c = search needs
 
+same-length-4 : tie.Need-same-length-4 Inv-loop μ-loop
+same-length-4 c = search needs
+
 returns : tie.Need-returns Inv-loop μ-loop
 returns c = search needs
 
 add-from : tie.Need-add-from Inv-loop μ-loop
-add-from c = omega (arith, (c .before .before .before .before .before .before .before .before .before .before .before .before .before .before .before .before .before .before .before .before .before .before) .good .0 .0)
+add-from c = omega (arith, (c .before .before .before .before .before .before .before .before .before .before .before .before .before .before .before .before .before .before .before .before .before .before .before .before .before .before .before) .good .0 .0)
 
 loop-less : tie.Need-loop-less Inv-loop μ-loop
 loop-less c = search needs
@@ -64,14 +67,17 @@ loop-again c = search needs
 flush-requires-2 : tie.Need-flush-requires-2 Inv-loop μ-loop
 flush-requires-2 c κs = search needs
 
-same-length-4 : tie.Need-same-length-4 Inv-loop μ-loop
-same-length-4 c = search needs
-
 same-length-5 : tie.Need-same-length-5 Inv-loop μ-loop
 same-length-5 c = search needs
 
 same-length-6 : tie.Need-same-length-6 Inv-loop μ-loop
 same-length-6 c = search needs
+
+same-length-7 : tie.Need-same-length-7 Inv-loop μ-loop
+same-length-7 c = search needs
+
+same-length-8 : tie.Need-same-length-8 Inv-loop μ-loop
+same-length-8 c = search needs
 
 returns-2 : tie.Need-returns-2 Inv-loop μ-loop
 returns-2 c = search needs
@@ -94,12 +100,14 @@ answer-all-spec =
     same-length
     same-length-2
     same-length-3
+    same-length-4
     returns
     add-from
     loop-less
     loop-again
     flush-requires-2
-    same-length-4
     same-length-5
     same-length-6
+    same-length-7
+    same-length-8
     returns-2)

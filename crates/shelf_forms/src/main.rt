@@ -1,4 +1,0 @@
-// The program `shelf`: a rule table driven from standard input.
-fn main() {
-    shelving::run();
-}
