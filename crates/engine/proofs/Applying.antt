@@ -4,29 +4,28 @@ use mathlib.Core.List.{List}
 use Prim.Native.Nat.{ℕ, _+_, _-_, _≤_, _<_}
 use native.Mathlib.Omega.{arith}
 use lib.ListN.{length, drop, set, length-drop}
-use lib.Seq.{getD-drop, ext-getD, set-out}
+use lib.Seq.{getD-drop, ext-getD}
 use borrow.Author.Tests.{le-ltb}
 use Rattle.theory.specs.Functions.{Agree}
 use Rattle.theory.specs.Rules.{says, number}
 use Rattle.theory.specs.Settings.{Valid}
-use Rattle.theory.proofs.Ranges.{valid-length}
 use Rattle.words.specs.Tab.{tab}
 use Rattle.words.specs.Words.{features, sizes, listed}
 use Rattle.words.proofs.Tab.{length-tab, getD-tab, tab-ext}
-use Rattle.words.proofs.Words.{length-sizes}
 use Rattle.rule_words.specs.Words.{decode, nodes}
 use Rattle.engine.specs.Operators.{pairOf, caseOf, forgottenOf}
 use Rattle.engine.specs.Joint.{spread, joint}
 use Rattle.engine.proofs.Operating.{op-pair, op-case, op-forget}
+use Rattle.engine.proofs.Joining.{spread-none}
 
 -- at the root each operand has the forgotten feature at its own index
 spread-root : (f j : ℕ) (s : List ℕ) → spread f 0 j s ≡ set s f j
 unfolding spread
 spread-root f j s = let z : f - 0 ≡ f = omega arith in rw (le-ltb f 0 (omega arith), z) refl
 
--- a feature past the last is none: nothing is forgotten
-spread-none : (w : List ℕ) (f j : ℕ) (s : List ℕ) → features w ≤ f → Valid (sizes w) s → spread f 0 j s ≡ s
-spread-none w f j s h v = spread-root f j s ∙ set-out s f j (omega (arith, valid-length (sizes w) s v, length-sizes w))
+-- nothing is forgotten
+unspread : (w : List ℕ) (f j : ℕ) (s : List ℕ) → features w ≤ f → Valid (sizes w) s → spread f 0 j s ≡ s
+unspread w f j s h v = spread-none w f 0 j s h (omega arith) v
 
 -- the number that the branch word b gives a setting
 abbrev at-root : List ℕ → ℕ → List ℕ → ℕ
@@ -38,7 +37,7 @@ pub joint-apply : (w : List ℕ) (o f : ℕ) (l : List ℕ) → o < 6 → featur
 unfolding joint
 joint-apply w o f l h none s v =
     ap says (op-pair o 2 (λ j. at-root w (listed l j) (spread f 0 j s)) (omega arith) h
-    ∙ ap₂ (pairOf o) (ap (at-root w (listed l 0)) (spread-none w f 0 s none v)) (ap (at-root w (listed l 1)) (spread-none w f 1 s none v)))
+    ∙ ap₂ (pairOf o) (ap (at-root w (listed l 0)) (unspread w f 0 s none v)) (ap (at-root w (listed l 1)) (unspread w f 1 s none v)))
 
 -- a list without its first
 tab-rest : (f : ℕ → ℕ) (m : ℕ) → drop 1 (tab f (m + 1)) ≡ tab (λ j. f (1 + j)) m
@@ -55,8 +54,8 @@ unfolding joint
 joint-case w f m l none s v =
     let F : ℕ → ℕ = λ j. at-root w (listed l j) (spread f 0 j s) in
     ap says (op-case 6 (m + 1) F (omega arith) refl
-    ∙ ap₂ caseOf (ap (at-root w (listed l 0)) (spread-none w f 0 s none v))
-    (tab-rest F m ∙ tab-ext _ _ m (λ j h. ap (at-root w (listed l (1 + j))) (spread-none w f (1 + j) s none v))))
+    ∙ ap₂ caseOf (ap (at-root w (listed l 0)) (unspread w f 0 s none v))
+    (tab-rest F m ∙ tab-ext _ _ m (λ j h. ap (at-root w (listed l (1 + j))) (unspread w f (1 + j) s none v))))
 
 -- forget: the operands are one branch, once for each value of feature f; its numbers at f = 0, 1, .., n - 1
 pub joint-forgotten : (w : List ℕ) (f n b : ℕ) (l : List ℕ) → ((j : ℕ) → j < n → listed l j ≡ b)

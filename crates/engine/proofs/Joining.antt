@@ -1,33 +1,39 @@
--- The walk over several operands: one step, a feature that no operand tests, the forgotten feature, all operands phrases. Assumes nothing.
+-- The walk over several operands: one step, a feature that no operand tests, the forgotten feature, all operands phrases, a shortcut. Assumes nothing.
 use mathlib.Core.Path.{_≡_, refl, sym, ap, _∙_}
 use mathlib.Core.Logic.{⊎-elim}
 use mathlib.Core.List.{List, _∷_}
 use Prim.Native.Nat.{ℕ, suc, _+_, _-_, _≤_, _<_}
 use native.Mathlib.Numerals.{add-one}
 use native.Mathlib.Omega.{arith}
+use lib.ListN.{drop, length-drop}
+use lib.Seq.{set-out}
 use borrow.Author.Tests.{lt-ltb, le-ltb, eq-eqb, ne-eqb}
 use Rattle.theory.specs.Build.{Ext}
 use Rattle.theory.specs.Diagrams.{next, value}
 use Rattle.theory.specs.Functions.{held}
-use Rattle.theory.specs.Rules.{Branch, Node, Rule, says}
+use Rattle.theory.specs.Rules.{Branch, Node, Rule, says, number}
+use Rattle.theory.specs.Settings.{Valid}
 use Rattle.theory.proofs.Growing.{ext-refl}
+use Rattle.theory.proofs.Ranges.{valid-length}
 use Rattle.theory.proofs.Rules.{numbers, value-phrase}
 use Rattle.theory.proofs.Values.{value-next, value-ext, next-ext, next-ok}
 use Rattle.theory.proofs.WellFormed.{ok-ext}
 use Rattle.words.specs.Tab.{tab}
 use Rattle.words.specs.Words.{features, size, sizes, listed}
 use Rattle.words.proofs.Tab.{split, same, tab-ext}
-use Rattle.words.proofs.Words.{kept-features, kept-size}
+use Rattle.words.proofs.Words.{length-sizes, kept-features, kept-size}
 use Rattle.rule_words.specs.Words.{decode, nodes}
 use Rattle.rule_words.proofs.Reading.{decode-phrase}
-use Rattle.rule_nodes.specs.Nodes.{Result, Place, Filling}
+use Rattle.rule_nodes.specs.Nodes.{Result, Good, Place, Filling}
 use Rattle.rule_nodes.specs.declared.Answer.{Answer}
 use Rattle.rule_nodes.specs.declared.Answer.the-variants.{Is}
 use Rattle.rule_nodes.proofs.Reading.{good-small}
 use Rattle.rule_nodes.proofs.Stepping.{good-top, top-node, top-good, child-skip}
-use Rattle.rule_nodes.proofs.Filling.{gives-eq, result-there, built-skip, built-there, filling-ext}
+use Rattle.rule_nodes.proofs.Filling.{gives-eq, result-there, built-skip, built-there, mean-result, filling-ext}
 use Rattle.engine.specs.Operators.{opOf}
+use Rattle.engine.specs.Shortcuts.{Standing, Short}
 use Rattle.engine.specs.Joint.{spread, turn, joint, Operands, Next, Lowest}
+use Rattle.engine.proofs.Operating.{op-any}
 
 -- ---- one step
 spread-past : (f k j v : ℕ) (s : List ℕ) → f < k → spread f k j (v ∷ s) ≡ turn f k j v ∷ spread f (k + 1) j s
@@ -139,19 +145,46 @@ joint-forget w t o f n k l r a p e hk q y =
     (record { each = λ j b. q .each j b ∙ ap (next (nodes w) k (decode (listed l j))) (rw (eq-eqb f k e) refl) }) s)) y
 
 -- all operands are phrases
-pub phrases : (w : List ℕ) (f n k m : ℕ) (l : List ℕ) → Operands w f n k l → Lowest w n l m → features w ≤ m → (j : ℕ) → j < n → listed l j < 65536
+phrases : (w : List ℕ) (f n k m : ℕ) (l : List ℕ) → Operands w f n k l → Lowest w n l m → features w ≤ m → (j : ℕ) → j < n → listed l j < 65536
 phrases w f n k m l p q h j a = ⊎-elim
     (λ s. s)
     (λ s. let b = good-small w k (listed l j) (p .each j a) in
     absurd (omega (arith, q .each j a, top-node w (listed l j) s, p .holds .laid .laid .tests (listed l j - 65536) (omega arith))))
     (split (listed l j) 65536)
 
-pub joint-phrases : (w : List ℕ) (o f n k m x : ℕ) (l : List ℕ) → Operands w f n k l → Lowest w n l m → features w ≤ m → x ≡ opOf o (tab (listed l) n) → x < 65536 →
+pub joint-phrases : (w : List ℕ) (o f n k m x : ℕ) (l : List ℕ) → Operands w f n k l → Lowest w n l m → features w ≤ m → x ≡ opOf o (tab (listed l) n) →
     Result w w k (joint w o f n k l) (Is x)
 unfolding joint
-joint-phrases w o f n k m x l p q h e small =
+joint-phrases w o f n k m x l p q h e =
+    let each = phrases w f n k m l p q h in
+    let small : x < 65536 = rw e (op-any (λ b. b < 65536) o n (listed l) (omega arith) (omega arith) each) in
     result-there w k x (joint w o f n k l) (p .holds)
     (built-there w k x (joint w o f n k l) (p .holds) (rw (decode-phrase x small) tt)
     (λ s. rw (decode-phrase x small) (value-phrase (nodes w) k x s ∙ ap says (e
-    ∙ ap (opOf o) (tab-ext _ _ n (λ j a. sym (numbers (ap (λ (c : Branch). value (nodes w) k c (spread f k j s)) (decode-phrase (listed l j) (phrases w f n k m l p q h j a))
+    ∙ ap (opOf o) (tab-ext _ _ n (λ j a. sym (numbers (ap (λ (c : Branch). value (nodes w) k c (spread f k j s)) (decode-phrase (listed l j) (each j a))
     ∙ value-phrase (nodes w) k (listed l j) (spread f k j s)))))))))
+
+-- a feature past the last is none: nothing is forgotten
+pub spread-none : (w : List ℕ) (f k j : ℕ) (s : List ℕ) → features w ≤ f → k ≤ features w → Valid (drop k (sizes w)) s → spread f k j s ≡ s
+unfolding spread
+spread-none w f k j s h u v =
+    rw (le-ltb f k (omega arith)) (set-out s (f - k) j (omega (arith, valid-length (drop k (sizes w)) s v, length-drop k (sizes w), length-sizes w)))
+
+-- the operator of the words is the result's word
+pub joint-short : (w : List ℕ) (o f n k x : ℕ) (l : List ℕ) → Operands w f n k l → Short o f (listed l 0) (listed l 1) → x ≡ opOf o (tab (listed l) n) → Result w w k (joint w o f n k l) (Is x)
+unfolding joint
+joint-short w o f n k x l p q e = mean-result w k (joint w o f n k l) x (p .holds) (record { ok = good; says = right })
+  where
+    phrase-good : (b : ℕ) → b < 65536 → Good w k b
+    phrase-good b h = rw (decode-phrase b h) tt
+
+    good : Good w k x
+    good = rw e (op-any (λ b. Good w k b) o n (listed l) (phrase-good 0 (omega arith)) (phrase-good 1 (omega arith)) (p .each))
+
+    right : (s : List ℕ) → Valid (drop k (sizes w)) s → value (nodes w) k (decode x) s ≡ joint w o f n k l s
+    right s v =
+        let F : ℕ → ℕ = λ b. number (nodes w) k (decode b) s in
+        let st : Standing F = record { itself = λ b h. numbers (ap (λ (c : Branch). value (nodes w) k c s) (decode-phrase b h) ∙ value-phrase (nodes w) k b s) } in
+        let few : features w ≤ f = omega (arith, q .none, p .holds .laid .laid .few) in
+        ap says (ap F e ∙ q .says l refl refl n (p .two) F st
+        ∙ ap (opOf o) (tab-ext _ _ n (λ j h. ap (number (nodes w) k (decode (listed l j))) (sym (spread-none w f k j s few (p .upTo) v)))))

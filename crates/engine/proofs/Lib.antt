@@ -1,4 +1,5 @@
 pub mod Operating
+pub mod Shortening
 pub mod Joining
 pub mod Recalling
 pub mod Applying

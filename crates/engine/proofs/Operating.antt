@@ -13,7 +13,7 @@ use borrow.Author.Tests.{lt-ltb, le-ltb, eq-eqb, ne-eqb}
 use Rattle.words.specs.Tab.{tab}
 use Rattle.words.specs.Words.{pick}
 use Rattle.words.proofs.Tab.{split, length-tab, getD-tab}
-use Rattle.engine.specs.Operators.{largerOf, truthOf, pairOf, caseOf, forgottenOf, opOf}
+use Rattle.engine.specs.Operators.{largerOf, pairOf, caseOf, forgottenOf, opOf}
 
 -- ---- which operator
 pub op-pair : (o n : ℕ) (f : ℕ → ℕ) → 2 ≤ n → o < 6 → opOf o (tab f n) ≡ pairOf o (f 0) (f 1)
@@ -50,43 +50,36 @@ forgotten-more f n i j b e h q =
     ap₂ largerOf (sym (getD-tab f n i 0 h)) (q ∙ ap (λ (m : ℕ). forgottenOf (drop m (tab f n))) (sym e ∙ add-one i))
     ∙ sym (ap forgottenOf (drop-cons (tab f n) i 0 (omega (arith, length-tab f n))))
 
--- ---- numbers stay phrase numbers
-pick-small : (t : Bool) (x y b : ℕ) → x < b → y < b → pick t x y < b
-pick-small true x y b hx hy = hx
-pick-small false x y b hx hy = hy
+-- ---- what holds of 0, of 1 and of the numbers holds of the operator's
+pick-any : (P : ℕ → Type 0) (t : Bool) (x y : ℕ) → P x → P y → P (pick t x y)
+pick-any P true x y hx hy = hx
+pick-any P false x y hx hy = hy
 
-pub pair-small : (o x y : ℕ) → x < 65536 → y < 65536 → pairOf o x y < 65536
+pair-any : (P : ℕ → Type 0) (o x y : ℕ) → P 0 → P 1 → P x → P y → P (pairOf o x y)
 unfolding pairOf
-pair-small o x y hx hy =
-    pick-small (eqb o 1) _ _ 65536 (pick-small (ltb x y) x y 65536 hx hy)
-    (pick-small (eqb o 2) _ _ 65536 (pick-small (ltb x y) y x 65536 hy hx)
-    (pick-small (eqb o 3) _ _ 65536 (truth-small (eqb x y))
-    (pick-small (eqb o 4) _ _ 65536 (truth-small (ltb x y)) (truth-small (not (eqb x y))))))
-  where
-    truth-small : (t : Bool) → truthOf t < 65536
-    truth-small t = pick-small t 1 0 65536 (omega arith) (omega arith)
+pair-any P o x y h0 h1 hx hy =
+    pick-any P (eqb o 1) _ _ (pick-any P (ltb x y) x y hx hy)
+    (pick-any P (eqb o 2) _ _ (pick-any P (ltb x y) y x hy hx)
+    (pick-any P (eqb o 3) _ _ (pick-any P (eqb x y) 1 0 h1 h0)
+    (pick-any P (eqb o 4) _ _ (pick-any P (ltb x y) 1 0 h1 h0) (pick-any P (not (eqb x y)) 1 0 h1 h0))))
 
-pub case-small : (i : ℕ) (l : List ℕ) → ((j : ℕ) → getD l j 0 < 65536) → caseOf i l < 65536
+case-any : (P : ℕ → Type 0) (i : ℕ) (l : List ℕ) → ((j : ℕ) → P (getD l j 0)) → P (caseOf i l)
 unfolding caseOf
-case-small i l h = h i
+case-any P i l h = h i
 
-pub forgotten-small : (l : List ℕ) → ((j : ℕ) → getD l j 0 < 65536) → forgottenOf l < 65536
+forgotten-any : (P : ℕ → Type 0) (l : List ℕ) → P 0 → ((j : ℕ) → P (getD l j 0)) → P (forgottenOf l)
 unfolding forgottenOf
-forgotten-small [] h = omega arith
-forgotten-small (x ∷ l) h = pick-small (ltb x (forgottenOf l)) (forgottenOf l) x 65536 (forgotten-small l (λ j. h (suc j))) (h 0)
+forgotten-any P [] h0 h = h0
+forgotten-any P (x ∷ l) h0 h = pick-any P (ltb x (forgottenOf l)) (forgottenOf l) x (forgotten-any P l h0 (λ j. h (suc j))) (h 0)
 
-pub op-small : (o : ℕ) (l : List ℕ) → ((j : ℕ) → getD l j 0 < 65536) → opOf o l < 65536
+op-list : (P : ℕ → Type 0) (o : ℕ) (l : List ℕ) → P 0 → P 1 → ((j : ℕ) → P (getD l j 0)) → P (opOf o l)
 unfolding opOf
-op-small o l h =
-    pick-small (ltb o 6) _ _ 65536 (pair-small o (getD l 0 0) (getD l 1 0) (h 0) (h 1))
-    (pick-small (eqb o 6) _ _ 65536 (case-small (getD l 0 0) (drop 1 l) (λ j. rw (getD-drop 1 l j 0) (h (1 + j)))) (forgotten-small l h))
+op-list P o l h0 h1 h =
+    pick-any P (ltb o 6) _ _ (pair-any P o (getD l 0 0) (getD l 1 0) h0 h1 (h 0) (h 1))
+    (pick-any P (eqb o 6) _ _ (case-any P (getD l 0 0) (drop 1 l) (λ j. rw (getD-drop 1 l j 0) (h (1 + j)))) (forgotten-any P l h0 h))
 
--- what an operator made of n phrase numbers
-pub combined : (o n x : ℕ) (f : ℕ → ℕ) → ((j : ℕ) → j < n → f j < 65536) → x ≡ opOf o (tab f n) → (x ≡ opOf o (tab f n)) × (x < 65536)
-combined o n x f h e = (
-  e,
-  rw e (op-small o (tab f n) (λ j. ⊎-elim
-      (λ l. rw (getD-tab f n j 0 l) (h j l))
-      (λ l. let z : getD (tab f n) j 0 ≡ 0 = List·getD-eq-default (tab f n) 0 (omega (arith, length-tab f n)) in omega arith)
-      (split j n))),
-)
+pub op-any : (P : ℕ → Type 0) (o n : ℕ) (f : ℕ → ℕ) → P 0 → P 1 → ((j : ℕ) → j < n → P (f j)) → P (opOf o (tab f n))
+op-any P o n f h0 h1 h = op-list P o (tab f n) h0 h1 (λ j. ⊎-elim
+    (λ l. rw (getD-tab f n j 0 l) (h j l))
+    (λ l. let z : getD (tab f n) j 0 ≡ 0 = List·getD-eq-default (tab f n) 0 (omega (arith, length-tab f n)) in rw z h0)
+    (split j n))

@@ -1,3 +1,4 @@
 pub mod Operators
+pub mod Shortcuts
 pub mod Joint
 pub mod Memory

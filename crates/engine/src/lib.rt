@@ -2,6 +2,7 @@
 mod memory; // memory.rt: what the scratch words remember
 mod operands; // operands.rt: the operands at a feature
 mod operators; // operators.rt: the operators on phrase numbers
+mod shortcuts; // shortcuts.rt: where nothing is walked
 
 use memory::Memo;
 use memory::clear;
@@ -12,6 +13,7 @@ use operands::operands_at;
 use operators::combine;
 use rule_nodes::Answer;
 use rule_nodes::make;
+use shortcuts::shortcut;
 use words::head_word;
 use words::wide;
 ghost use Prim.Native.Nat.{_<_};
@@ -39,6 +41,9 @@ fn rest_result(
     requires { ⌜ (Operands (now t) f n k ops) × (Remembers (now t) o f n (now s)) ⌝ }
     ensures { λ r. ⌜ (Result (now (t .entry)) (now (t .exit)) k (joint (now (t .entry)) o f n k ops) r) × (Still (now (t .exit)) o f n (now (s .exit)) r) ⌝ }
 {
+    if shortcut(o, f, ops[0], ops[1]) {
+        return Answer::Is(combine(o, ops, n));
+    }
     let m = lowest(t, ops, n);
     if wide(head_word(t, 2)) <= m {
         return Answer::Is(combine(o, ops, n));

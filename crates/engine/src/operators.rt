@@ -1,14 +1,14 @@
 // The operators on phrase numbers: apply's five, CASE and forget.
 use words::wide;
 ghost use mathlib.Core.Path.{_≡_};
-ghost use Prim.Native.Nat.{ℕ, _≤_, _<_};
-ghost use lib.ListN.{getD, drop};
+ghost use Prim.Native.Nat.{_≤_};
+ghost use lib.ListN.{drop};
 ghost use Rattle.words.specs.Tab.{tab};
 ghost use Rattle.words.specs.Words.{listed};
 ghost use Rattle.engine.specs.Operators.{smallerOf, largerOf, truthOf, pairOf, caseOf, forgottenOf, opOf};
 
 // The smaller of two numbers.
-fn smaller(x: u32, y: u32) -> u32
+pub fn smaller(x: u32, y: u32) -> u32
     ensures { λ r. ⌜ r ≡ smallerOf x y ⌝ }
 {
     if x < y { x } else { y }
@@ -66,8 +66,8 @@ fn forgotten(vals: [u32; 9], n: usize) -> u32
 
 // The operator o on the first n numbers.
 pub fn combine(o: u32, vals: [u32; 9], n: usize) -> u32
-    requires { ⌜ (2 ≤ n) × (n ≤ 9) × ((j : ℕ) → j < n → getD vals j 0 < 65536) ⌝ }
-    ensures { λ r. ⌜ (r ≡ opOf o (tab (listed vals) n)) × (r < 65536) ⌝ }
+    requires { ⌜ (2 ≤ n) × (n ≤ 9) ⌝ }
+    ensures { λ r. ⌜ r ≡ opOf o (tab (listed vals) n) ⌝ }
 {
     if o < 6 {
         return pair_op(o, vals[0], vals[1]);

@@ -1,6 +1,6 @@
 -- `engine::rest_result` and `fill_branches` meet their contracts: the remaining features fall; the first v branches are filled, and the memory is right for the table so far. Assumes nothing.
 use Rattle.engine.proofs.Recalling.{hit, result-recalled, remembers-stored, remembers-made, still, still-if}
-use Rattle.engine.proofs.Joining.{joint-held, operands-next, operands-skip, operands-ext, joint-skip, joint-forget, phrases, joint-phrases, still-left}
+use Rattle.engine.proofs.Joining.{joint-held, operands-next, operands-skip, operands-ext, joint-skip, joint-forget, joint-phrases, joint-short, still-left}
 use Rattle.engine.specs.Memory.{Remembers}
 use Rattle.engine.specs.Joint.{joint}
 use Rattle.rule_nodes.proofs.Filling.{gives-is, gives-none, fill-start, fill-more, fill-stop, stop-result, fill-listed, fill-make, filled, not-filled, filling-ext}
@@ -28,6 +28,7 @@ use Rattle.engine.proofs.memory.remember.Reads as remember-reads
 use Rattle.engine.proofs.operands.lowest.Reads as lowest-reads
 use Rattle.engine.proofs.operands.operands_at.Reads as operands-at-reads
 use Rattle.engine.proofs.operators.combine.Reads as combine-reads
+use Rattle.engine.proofs.shortcuts.shortcut.Reads as shortcut-reads
 use Rattle.rule_nodes.proofs.make.Reads as make-reads
 use Rattle.words.proofs.head_word.Reads as head-word-reads
 use Rattle.words.proofs.wide.Reads as wide-reads
@@ -70,7 +71,7 @@ abbrev fill-branches-claims : ℕ → fill-branches-lts.Claims
 fill-branches-claims t = (head-word-reads.Asked, head-word-reads.Learnt, wide-reads.Asked, wide-reads.Learnt, operands-at-reads.Asked, operands-at-reads.Learnt, rest-result-below t, rest-result.Post)
 
 abbrev rest-result-claims : ℕ → rest-result-lts.Claims
-rest-result-claims t = (lowest-reads.Asked, lowest-reads.Learnt, head-word-reads.Asked, head-word-reads.Learnt, wide-reads.Asked, wide-reads.Learnt, combine-reads.Asked, combine-reads.Learnt, rest-result-below t, rest-result.Post, operands-at-reads.Asked, operands-at-reads.Learnt, recall-reads.Asked, recall-reads.Learnt, fill-branches-below t, fill-branches.Post, make-reads.Asked, make-reads.Learnt, remember-reads.Asked, remember-reads.Learnt)
+rest-result-claims t = (shortcut-reads.Asked, shortcut-reads.Learnt, combine-reads.Asked, combine-reads.Learnt, lowest-reads.Asked, lowest-reads.Learnt, head-word-reads.Asked, head-word-reads.Learnt, wide-reads.Asked, wide-reads.Learnt, rest-result-below t, rest-result.Post, operands-at-reads.Asked, operands-at-reads.Learnt, recall-reads.Asked, recall-reads.Learnt, fill-branches-below t, fill-branches.Post, make-reads.Asked, make-reads.Learnt, remember-reads.Asked, remember-reads.Learnt)
 
 fill-branches-add-head-word : (t : ℕ) → fill-branches-lts.Need-add-head-word (fill-branches-claims t) (fill-branches-at t) fill-branches.Post fill-branches-Inv-loop fill-branches-μ-loop
 fill-branches-add-head-word t c = search needs
@@ -167,8 +168,24 @@ fill-branches-returns-2 t c = let a = (c .before .before .before .before .before
     let e : l .v ≡ size (a .args .t .now) (a .args .k) = omega (arith, l .inv .0, l .inv .1, (c .loop-test)) in
     (rw e at (l .inv .2), l .inv .3)
 
+rest-result-array-read-shortcut : (t : ℕ) → rest-result-lts.Need-array-read-shortcut (rest-result-claims t) (rest-result-at t) rest-result.Post
+rest-result-array-read-shortcut t c = search needs
+
+rest-result-array-read-shortcut-2 : (t : ℕ) → rest-result-lts.Need-array-read-shortcut-2 (rest-result-claims t) (rest-result-at t) rest-result.Post
+rest-result-array-read-shortcut-2 t c = search needs
+
+rest-result-shortcut-requires : (t : ℕ) → rest-result-lts.Need-shortcut-requires (rest-result-claims t) (rest-result-at t) rest-result.Post
+rest-result-shortcut-requires t c κs = search needs
+
+rest-result-combine-requires : (t : ℕ) → rest-result-lts.Need-combine-requires (rest-result-claims t) (rest-result-at t) rest-result.Post
+rest-result-combine-requires t c κs = let a = (c .before .before .before .before) in (a .pre .1 .0 .two, a .pre .1 .0 .nine)
+
+rest-result-returns : (t : ℕ) → rest-result-lts.Need-returns (rest-result-claims t) (rest-result-at t) rest-result.Post
+rest-result-returns t c = let a = (c .before .before .before .before .before) in
+    (joint-short _ _ _ _ (a .args .k) _ (a .args .t7) (a .pre .1 .0) ((c .before .before .shortcut) .ensures ((c .before .if1) .taken)) ((c .combine) .ensures), a .pre .1 .1)
+
 rest-result-lowest-requires : (t : ℕ) → rest-result-lts.Need-lowest-requires (rest-result-claims t) (rest-result-at t) rest-result.Post
-rest-result-lowest-requires t c κs = let a = (c .before .before .before) in (a .pre .1 .0 .holds .laid .laid, a .pre .1 .0 .nine, λ j h. good-small _ _ _ (a .pre .1 .0 .each j h))
+rest-result-lowest-requires t c κs = let a = (c .before .before .before .before .before) in (a .pre .1 .0 .holds .laid .laid, a .pre .1 .0 .nine, λ j h. good-small _ _ _ (a .pre .1 .0 .each j h))
 
 rest-result-head-word-requires : (t : ℕ) → rest-result-lts.Need-head-word-requires (rest-result-claims t) (rest-result-at t) rest-result.Post
 rest-result-head-word-requires t c κs = search needs
@@ -176,26 +193,26 @@ rest-result-head-word-requires t c κs = search needs
 rest-result-wide-requires : (t : ℕ) → rest-result-lts.Need-wide-requires (rest-result-claims t) (rest-result-at t) rest-result.Post
 rest-result-wide-requires t c κs = search needs
 
-rest-result-combine-requires : (t : ℕ) → rest-result-lts.Need-combine-requires (rest-result-claims t) (rest-result-at t) rest-result.Post
-rest-result-combine-requires t c κs = let a = (c .before .before .before .before .before .before .before .before) in
+rest-result-combine-requires-2 : (t : ℕ) → rest-result-lts.Need-combine-requires-2 (rest-result-claims t) (rest-result-at t) rest-result.Post
+rest-result-combine-requires-2 t c κs = let a = (c .before .before .before .before .before .before .before .before .before .before) in
     let e : (c .before .wide) .result ≡ features (a .args .t .now) = (c .before .wide) .ensures .0 ∙ (c .before .before .head-word) .ensures in
-    (a .pre .1 .0 .two, a .pre .1 .0 .nine, phrases _ _ _ (a .args .k) ((c .before .before .before .before .lowest) .result) (a .args .ops) (a .pre .1 .0) ((c .before .before .before .before .lowest) .ensures) (omega arith))
+    (a .pre .1 .0 .two, a .pre .1 .0 .nine)
 
 rest-result-same-length : (t : ℕ) → rest-result-lts.Need-same-length (rest-result-claims t) (rest-result-at t) rest-result.Post
 rest-result-same-length t c = search needs
 
-rest-result-returns : (t : ℕ) → rest-result-lts.Need-returns (rest-result-claims t) (rest-result-at t) rest-result.Post
-rest-result-returns t c = let a = (c .before .before .before .before .before .before .before .before .before) in
+rest-result-returns-2 : (t : ℕ) → rest-result-lts.Need-returns-2 (rest-result-claims t) (rest-result-at t) rest-result.Post
+rest-result-returns-2 t c = let a = (c .before .before .before .before .before .before .before .before .before .before .before) in
     let e : (c .before .before .wide) .result ≡ features (a .args .t .now) = (c .before .before .wide) .ensures .0 ∙ (c .before .before .before .head-word) .ensures in
-    (joint-phrases _ _ _ _ (a .args .k) ((c .before .before .before .before .before .lowest) .result) _ (a .args .ops) (a .pre .1 .0) ((c .before .before .before .before .before .lowest) .ensures) (omega arith) ((c .combine) .ensures .0) ((c .combine) .ensures .1), a .pre .1 .1)
+    (joint-phrases _ _ _ _ (a .args .k) ((c .before .before .before .before .before .lowest) .result) _ (a .args .t7) (a .pre .1 .0) ((c .before .before .before .before .before .lowest) .ensures) (omega arith) ((c .combine2) .ensures), a .pre .1 .1)
 
 rest-result-add-rest-result : (t : ℕ) → rest-result-lts.Need-add-rest-result (rest-result-claims t) (rest-result-at t) rest-result.Post
 rest-result-add-rest-result t c = search needs
 
 rest-result-rest-result-requires : (t : ℕ) → rest-result-lts.Need-rest-result-requires (rest-result-claims t) (rest-result-at t) rest-result.Post
-rest-result-rest-result-requires t c κs = let a = (c .before .before .before .before .before .before .before .before .before .before .before) in
+rest-result-rest-result-requires t c κs = let a = (c .before .before .before .before .before .before .before .before .before .before .before .before .before) in
     let q = (c .before .before .before .before .before .before .before .lowest) .ensures .most in
-    (omega arith, (operands-skip _ _ _ (a .args .k) ((c .before .before .before .before .before .before .before .lowest) .result) (a .args .ops) (a .pre .1 .0) ((c .before .before .before .before .before .before .before .lowest) .ensures) (omega arith), a .pre .1 .1))
+    (omega arith, (operands-skip _ _ _ (a .args .k) ((c .before .before .before .before .before .before .before .lowest) .result) (a .args .t7) (a .pre .1 .0) ((c .before .before .before .before .before .before .before .lowest) .ensures) (omega arith), a .pre .1 .1))
 
 rest-result-same-length-2 : (t : ℕ) → rest-result-lts.Need-same-length-2 (rest-result-claims t) (rest-result-at t) rest-result.Post
 rest-result-same-length-2 t c = search needs
@@ -203,22 +220,22 @@ rest-result-same-length-2 t c = search needs
 rest-result-same-length-3 : (t : ℕ) → rest-result-lts.Need-same-length-3 (rest-result-claims t) (rest-result-at t) rest-result.Post
 rest-result-same-length-3 t c = search needs
 
-rest-result-returns-2 : (t : ℕ) → rest-result-lts.Need-returns-2 (rest-result-claims t) (rest-result-at t) rest-result.Post
-rest-result-returns-2 t c = let a = (c .before .before .before .before .before .before .before .before .before .before .before .before .before .before .before .before) in
-    (joint-skip _ _ _ _ _ (a .args .k) ((c .before .before .before .before .before .before .before .before .before .before .before .before .lowest) .result) (a .args .ops) _ (a .pre .1 .0) ((c .before .before .before .before .before .before .before .before .before .before .before .before .lowest) .ensures) (omega (arith, (c .before .before .before .before .before .before .before .if2))) ((c .before .before .before .before .rest-result) .ensures .0), (c .before .before .before .before .rest-result) .ensures .1)
+rest-result-returns-3 : (t : ℕ) → rest-result-lts.Need-returns-3 (rest-result-claims t) (rest-result-at t) rest-result.Post
+rest-result-returns-3 t c = let a = (c .before .before .before .before .before .before .before .before .before .before .before .before .before .before .before .before .before .before) in
+    (joint-skip _ _ _ _ _ (a .args .k) ((c .before .before .before .before .before .before .before .before .before .before .before .before .lowest) .result) (a .args .t7) _ (a .pre .1 .0) ((c .before .before .before .before .before .before .before .before .before .before .before .before .lowest) .ensures) (omega (arith, (c .before .before .before .before .before .before .before .if3))) ((c .before .before .before .before .rest-result) .ensures .0), (c .before .before .before .before .rest-result) .ensures .1)
 
 rest-result-operands-at-requires : (t : ℕ) → rest-result-lts.Need-operands-at-requires (rest-result-claims t) (rest-result-at t) rest-result.Post
-rest-result-operands-at-requires t c κs = let a = (c .before .before .before .before .before .before .before .before .before .before .before) in
-    let hk = still-left _ _ _ (a .args .k) ((c .before .before .before .before .before .before .before .lowest) .result) _ (a .args .ops) (a .pre .1 .0) ((c .before .before .before .before .before .before .before .lowest) .ensures) ((c .before .before .before .before .wide) .ensures .0 ∙ (c .before .before .before .before .before .head-word) .ensures) ((c .before .before .before .if1) .left) in
+rest-result-operands-at-requires t c κs = let a = (c .before .before .before .before .before .before .before .before .before .before .before .before .before) in
+    let hk = still-left _ _ _ (a .args .k) ((c .before .before .before .before .before .before .before .lowest) .result) _ (a .args .t7) (a .pre .1 .0) ((c .before .before .before .before .before .before .before .lowest) .ensures) ((c .before .before .before .before .wide) .ensures .0 ∙ (c .before .before .before .before .before .head-word) .ensures) ((c .before .before .before .if2) .left) in
     (a .pre .1 .0, hk, omega (arith, a .pre .1 .0 .holds .laid .laid .large (a .args .k) hk))
 
 rest-result-add-rest-result-2 : (t : ℕ) → rest-result-lts.Need-add-rest-result-2 (rest-result-claims t) (rest-result-at t) rest-result.Post
 rest-result-add-rest-result-2 t c = search needs
 
 rest-result-rest-result-requires-2 : (t : ℕ) → rest-result-lts.Need-rest-result-requires-2 (rest-result-claims t) (rest-result-at t) rest-result.Post
-rest-result-rest-result-requires-2 t c κs = let a = (c .before .before .before .before .before .before .before .before .before .before .before .before .before .before) in
-    let hk = still-left _ _ _ (a .args .k) ((c .before .before .before .before .before .before .before .before .before .before .lowest) .result) _ (a .args .ops) (a .pre .1 .0) ((c .before .before .before .before .before .before .before .before .before .before .lowest) .ensures) ((c .before .before .before .before .before .before .before .wide) .ensures .0 ∙ (c .before .before .before .before .before .before .before .before .head-word) .ensures) ((c .before .before .before .before .before .before .if1) .left) in
-    (omega arith, (operands-next _ _ _ (a .args .k) 0 (a .args .ops) _ (a .pre .1 .0) hk ((c .before .before .operands-at) .ensures), a .pre .1 .1))
+rest-result-rest-result-requires-2 t c κs = let a = (c .before .before .before .before .before .before .before .before .before .before .before .before .before .before .before .before) in
+    let hk = still-left _ _ _ (a .args .k) ((c .before .before .before .before .before .before .before .before .before .before .lowest) .result) _ (a .args .t7) (a .pre .1 .0) ((c .before .before .before .before .before .before .before .before .before .before .lowest) .ensures) ((c .before .before .before .before .before .before .before .wide) .ensures .0 ∙ (c .before .before .before .before .before .before .before .before .head-word) .ensures) ((c .before .before .before .before .before .before .if2) .left) in
+    (omega arith, (operands-next _ _ _ (a .args .k) 0 (a .args .t7) _ (a .pre .1 .0) hk ((c .before .before .operands-at) .ensures), a .pre .1 .1))
 
 rest-result-same-length-4 : (t : ℕ) → rest-result-lts.Need-same-length-4 (rest-result-claims t) (rest-result-at t) rest-result.Post
 rest-result-same-length-4 t c = search needs
@@ -226,14 +243,14 @@ rest-result-same-length-4 t c = search needs
 rest-result-same-length-5 : (t : ℕ) → rest-result-lts.Need-same-length-5 (rest-result-claims t) (rest-result-at t) rest-result.Post
 rest-result-same-length-5 t c = search needs
 
-rest-result-returns-3 : (t : ℕ) → rest-result-lts.Need-returns-3 (rest-result-claims t) (rest-result-at t) rest-result.Post
-rest-result-returns-3 t c = let a = (c .before .before .before .before .before .before .before .before .before .before .before .before .before .before .before .before .before .before .before) in
-    let hk = still-left _ _ _ (a .args .k) ((c .before .before .before .before .before .before .before .before .before .before .before .before .before .before .before .lowest) .result) _ (a .args .ops) (a .pre .1 .0) ((c .before .before .before .before .before .before .before .before .before .before .before .before .before .before .before .lowest) .ensures) ((c .before .before .before .before .before .before .before .before .before .before .before .before .wide) .ensures .0 ∙ (c .before .before .before .before .before .before .before .before .before .before .before .before .before .head-word) .ensures) ((c .before .before .before .before .before .before .before .before .before .before .before .if1) .left) in
-    (joint-forget _ _ _ _ _ (a .args .k) (a .args .ops) _ _ (a .pre .1 .0) ((c .before .before .before .before .before .before .before .before .before .if3) .taken) hk ((c .before .before .before .before .before .before .before .operands-at) .ensures) ((c .before .before .before .before .rest-result2) .ensures .0), (c .before .before .before .before .rest-result2) .ensures .1)
+rest-result-returns-4 : (t : ℕ) → rest-result-lts.Need-returns-4 (rest-result-claims t) (rest-result-at t) rest-result.Post
+rest-result-returns-4 t c = let a = (c .before .before .before .before .before .before .before .before .before .before .before .before .before .before .before .before .before .before .before .before .before) in
+    let hk = still-left _ _ _ (a .args .k) ((c .before .before .before .before .before .before .before .before .before .before .before .before .before .before .before .lowest) .result) _ (a .args .t7) (a .pre .1 .0) ((c .before .before .before .before .before .before .before .before .before .before .before .before .before .before .before .lowest) .ensures) ((c .before .before .before .before .before .before .before .before .before .before .before .before .wide) .ensures .0 ∙ (c .before .before .before .before .before .before .before .before .before .before .before .before .before .head-word) .ensures) ((c .before .before .before .before .before .before .before .before .before .before .before .if2) .left) in
+    (joint-forget _ _ _ _ _ (a .args .k) (a .args .t7) _ _ (a .pre .1 .0) ((c .before .before .before .before .before .before .before .before .before .if4) .taken) hk ((c .before .before .before .before .before .before .before .operands-at) .ensures) ((c .before .before .before .before .rest-result2) .ensures .0), (c .before .before .before .before .rest-result2) .ensures .1)
 
 rest-result-recall-requires : (t : ℕ) → rest-result-lts.Need-recall-requires (rest-result-claims t) (rest-result-at t) rest-result.Post
-rest-result-recall-requires t c κs = let a = (c .before .before .before .before .before .before .before .before .before .before .before) in
-    let hk = still-left _ _ _ (a .args .k) ((c .before .before .before .before .before .before .before .lowest) .result) _ (a .args .ops) (a .pre .1 .0) ((c .before .before .before .before .before .before .before .lowest) .ensures) ((c .before .before .before .before .wide) .ensures .0 ∙ (c .before .before .before .before .before .head-word) .ensures) ((c .before .before .before .if1) .left) in
+rest-result-recall-requires t c κs = let a = (c .before .before .before .before .before .before .before .before .before .before .before .before .before) in
+    let hk = still-left _ _ _ (a .args .k) ((c .before .before .before .before .before .before .before .lowest) .result) _ (a .args .t7) (a .pre .1 .0) ((c .before .before .before .before .before .before .before .lowest) .ensures) ((c .before .before .before .before .wide) .ensures .0 ∙ (c .before .before .before .before .before .head-word) .ensures) ((c .before .before .before .if2) .left) in
     omega (arith, a .pre .1 .0 .holds .laid .laid .few)
 
 rest-result-enum-known-memo : (t : ℕ) → rest-result-lts.Need-enum-known-memo (rest-result-claims t) (rest-result-at t) rest-result.Post
@@ -245,22 +262,22 @@ rest-result-same-length-6 t c = search needs
 rest-result-same-length-7 : (t : ℕ) → rest-result-lts.Need-same-length-7 (rest-result-claims t) (rest-result-at t) rest-result.Post
 rest-result-same-length-7 t c = search needs
 
-rest-result-returns-4 : (t : ℕ) → rest-result-lts.Need-returns-4 (rest-result-claims t) (rest-result-at t) rest-result.Post
-rest-result-returns-4 t c = let a = (c .before .before .before .before .before .before .before .before .before .before .before .before .before .before .before) in
-    (hit _ _ _ _ (a .args .k) (a .args .ops) (a .args .s .now) _ _ (a .pre .1 .0) (a .pre .1 .1) ((c .before .before .before .recall) .ensures) ((c .before .memo) .given .1), a .pre .1 .1)
+rest-result-returns-5 : (t : ℕ) → rest-result-lts.Need-returns-5 (rest-result-claims t) (rest-result-at t) rest-result.Post
+rest-result-returns-5 t c = let a = (c .before .before .before .before .before .before .before .before .before .before .before .before .before .before .before .before .before) in
+    (hit _ _ _ _ (a .args .k) (a .args .t7) (a .args .s .now) _ _ (a .pre .1 .0) (a .pre .1 .1) ((c .before .before .before .recall) .ensures) ((c .before .memo) .given .1), a .pre .1 .1)
 
 rest-result-enum-told : (t : ℕ) → rest-result-lts.Need-enum-told (rest-result-claims t) (rest-result-at t) rest-result.Post
 rest-result-enum-told t c = search needs
 
 rest-result-fill-branches-requires : (t : ℕ) → rest-result-lts.Need-fill-branches-requires (rest-result-claims t) (rest-result-at t) rest-result.Post
-rest-result-fill-branches-requires t c κs = let a = (c .before .before .before .before .before .before .before .before .before .before .before .before .before .before .before .before) in
-    let hk = still-left _ _ _ (a .args .k) ((c .before .before .before .before .before .before .before .before .before .before .before .before .lowest) .result) _ (a .args .ops) (a .pre .1 .0) ((c .before .before .before .before .before .before .before .before .before .before .before .before .lowest) .ensures) ((c .before .before .before .before .before .before .before .before .before .wide) .ensures .0 ∙ (c .before .before .before .before .before .before .before .before .before .before .head-word) .ensures) ((c .before .before .before .before .before .before .before .before .if1) .left) in
+rest-result-fill-branches-requires t c κs = let a = (c .before .before .before .before .before .before .before .before .before .before .before .before .before .before .before .before .before .before) in
+    let hk = still-left _ _ _ (a .args .k) ((c .before .before .before .before .before .before .before .before .before .before .before .before .lowest) .result) _ (a .args .t7) (a .pre .1 .0) ((c .before .before .before .before .before .before .before .before .before .before .before .before .lowest) .ensures) ((c .before .before .before .before .before .before .before .before .before .wide) .ensures .0 ∙ (c .before .before .before .before .before .before .before .before .before .before .head-word) .ensures) ((c .before .before .before .before .before .before .before .before .if2) .left) in
     (omega arith, (a .pre .1 .0, a .pre .1 .1, hk))
 
 rest-result-make-requires : (t : ℕ) → rest-result-lts.Need-make-requires (rest-result-claims t) (rest-result-at t) rest-result.Post
-rest-result-make-requires t c κs = let a = (c .before .before .before .before .before .before .before .before .before .before .before .before .before .before .before .before .before .before .before .before .before .before .before .before) in
-    let hk = still-left _ _ _ (a .args .k) ((c .before .before .before .before .before .before .before .before .before .before .before .before .before .before .before .before .before .before .before .before .lowest) .result) _ (a .args .ops) (a .pre .1 .0) ((c .before .before .before .before .before .before .before .before .before .before .before .before .before .before .before .before .before .before .before .before .lowest) .ensures) ((c .before .before .before .before .before .before .before .before .before .before .before .before .before .before .before .before .before .wide) .ensures .0 ∙ (c .before .before .before .before .before .before .before .before .before .before .before .before .before .before .before .before .before .before .head-word) .ensures) ((c .before .before .before .before .before .before .before .before .before .before .before .before .before .before .before .before .if1) .left) in
-    let fl = filled _ _ _ _ _ _ ((c .before .before .if4) .taken) ((c .before .before .before .before .before .before .before .fill-branches) .ensures .0) in
+rest-result-make-requires t c κs = let a = (c .before .before .before .before .before .before .before .before .before .before .before .before .before .before .before .before .before .before .before .before .before .before .before .before .before .before) in
+    let hk = still-left _ _ _ (a .args .k) ((c .before .before .before .before .before .before .before .before .before .before .before .before .before .before .before .before .before .before .before .before .lowest) .result) _ (a .args .t7) (a .pre .1 .0) ((c .before .before .before .before .before .before .before .before .before .before .before .before .before .before .before .before .before .before .before .before .lowest) .ensures) ((c .before .before .before .before .before .before .before .before .before .before .before .before .before .before .before .before .before .wide) .ensures .0 ∙ (c .before .before .before .before .before .before .before .before .before .before .before .before .before .before .before .before .before .before .head-word) .ensures) ((c .before .before .before .before .before .before .before .before .before .before .before .before .before .before .before .before .if2) .left) in
+    let fl = filled _ _ _ _ _ _ ((c .before .before .if5) .taken) ((c .before .before .before .before .before .before .before .fill-branches) .ensures .0) in
     (fl .filled .grown .well, omega (arith, kept-features _ _ (fl .filled .grown .kept)), fill-listed (a .args .t .now) (a .args .k) _ (a .pre .1 .0 .holds) hk _ _ fl)
 
 rest-result-enum-known-x : (t : ℕ) → rest-result-lts.Need-enum-known-x (rest-result-claims t) (rest-result-at t) rest-result.Post
@@ -275,15 +292,15 @@ rest-result-same-length-8 t c = search needs
 rest-result-same-length-9 : (t : ℕ) → rest-result-lts.Need-same-length-9 (rest-result-claims t) (rest-result-at t) rest-result.Post
 rest-result-same-length-9 t c = search needs
 
-rest-result-returns-5 : (t : ℕ) → rest-result-lts.Need-returns-5 (rest-result-claims t) (rest-result-at t) rest-result.Post
-rest-result-returns-5 t c = let a = (c .before .before .before .before .before .before .before .before .before .before .before .before .before .before .before .before .before .before .before .before .before .before .before .before .before .before .before .before .before) in
-    let hk = still-left _ _ _ (a .args .k) ((c .before .before .before .before .before .before .before .before .before .before .before .before .before .before .before .before .before .before .before .before .before .before .before .before .before .lowest) .result) _ (a .args .ops) (a .pre .1 .0) ((c .before .before .before .before .before .before .before .before .before .before .before .before .before .before .before .before .before .before .before .before .before .before .before .before .before .lowest) .ensures) ((c .before .before .before .before .before .before .before .before .before .before .before .before .before .before .before .before .before .before .before .before .before .before .wide) .ensures .0 ∙ (c .before .before .before .before .before .before .before .before .before .before .before .before .before .before .before .before .before .before .before .before .before .before .before .head-word) .ensures) ((c .before .before .before .before .before .before .before .before .before .before .before .before .before .before .before .before .before .before .before .before .before .if1) .left) in
-    let fl = filled _ _ _ _ _ _ ((c .before .before .before .before .before .before .before .if4) .taken) ((c .before .before .before .before .before .before .before .before .before .before .before .before .fill-branches) .ensures .0) in
+rest-result-returns-6 : (t : ℕ) → rest-result-lts.Need-returns-6 (rest-result-claims t) (rest-result-at t) rest-result.Post
+rest-result-returns-6 t c = let a = (c .before .before .before .before .before .before .before .before .before .before .before .before .before .before .before .before .before .before .before .before .before .before .before .before .before .before .before .before .before .before .before) in
+    let hk = still-left _ _ _ (a .args .k) ((c .before .before .before .before .before .before .before .before .before .before .before .before .before .before .before .before .before .before .before .before .before .before .before .before .before .lowest) .result) _ (a .args .t7) (a .pre .1 .0) ((c .before .before .before .before .before .before .before .before .before .before .before .before .before .before .before .before .before .before .before .before .before .before .before .before .before .lowest) .ensures) ((c .before .before .before .before .before .before .before .before .before .before .before .before .before .before .before .before .before .before .before .before .before .before .wide) .ensures .0 ∙ (c .before .before .before .before .before .before .before .before .before .before .before .before .before .before .before .before .before .before .before .before .before .before .before .head-word) .ensures) ((c .before .before .before .before .before .before .before .before .before .before .before .before .before .before .before .before .before .before .before .before .before .if2) .left) in
+    let fl = filled _ _ _ _ _ _ ((c .before .before .before .before .before .before .before .if5) .taken) ((c .before .before .before .before .before .before .before .before .before .before .before .before .fill-branches) .ensures .0) in
     (gives-none ((c .enum-told2) .given .1) (fill-make (a .args .t .now) (a .args .k) _ (a .pre .1 .0 .holds) hk _ _ _ _ fl ((c .before .before .before .before .make) .ensures)), tt)
 
 rest-result-remember-requires : (t : ℕ) → rest-result-lts.Need-remember-requires (rest-result-claims t) (rest-result-at t) rest-result.Post
-rest-result-remember-requires t c κs = let a = (c .before .before .before .before .before .before .before .before .before .before .before .before .before .before .before .before .before .before .before .before .before .before .before .before .before .before .before .before .before .before .before) in
-    let hk = still-left _ _ _ (a .args .k) ((c .before .before .before .before .before .before .before .before .before .before .before .before .before .before .before .before .before .before .before .before .before .before .before .before .before .before .before .lowest) .result) _ (a .args .ops) (a .pre .1 .0) ((c .before .before .before .before .before .before .before .before .before .before .before .before .before .before .before .before .before .before .before .before .before .before .before .before .before .before .before .lowest) .ensures) ((c .before .before .before .before .before .before .before .before .before .before .before .before .before .before .before .before .before .before .before .before .before .before .before .before .wide) .ensures .0 ∙ (c .before .before .before .before .before .before .before .before .before .before .before .before .before .before .before .before .before .before .before .before .before .before .before .before .before .head-word) .ensures) ((c .before .before .before .before .before .before .before .before .before .before .before .before .before .before .before .before .before .before .before .before .before .before .before .if1) .left) in
+rest-result-remember-requires t c κs = let a = (c .before .before .before .before .before .before .before .before .before .before .before .before .before .before .before .before .before .before .before .before .before .before .before .before .before .before .before .before .before .before .before .before .before) in
+    let hk = still-left _ _ _ (a .args .k) ((c .before .before .before .before .before .before .before .before .before .before .before .before .before .before .before .before .before .before .before .before .before .before .before .before .before .before .before .lowest) .result) _ (a .args .t7) (a .pre .1 .0) ((c .before .before .before .before .before .before .before .before .before .before .before .before .before .before .before .before .before .before .before .before .before .before .before .before .before .before .before .lowest) .ensures) ((c .before .before .before .before .before .before .before .before .before .before .before .before .before .before .before .before .before .before .before .before .before .before .before .before .wide) .ensures .0 ∙ (c .before .before .before .before .before .before .before .before .before .before .before .before .before .before .before .before .before .before .before .before .before .before .before .before .before .head-word) .ensures) ((c .before .before .before .before .before .before .before .before .before .before .before .before .before .before .before .before .before .before .before .before .before .before .before .if2) .left) in
     omega (arith, a .pre .1 .0 .holds .laid .laid .few)
 
 rest-result-same-length-10 : (t : ℕ) → rest-result-lts.Need-same-length-10 (rest-result-claims t) (rest-result-at t) rest-result.Post
@@ -292,16 +309,16 @@ rest-result-same-length-10 t c = search needs
 rest-result-same-length-11 : (t : ℕ) → rest-result-lts.Need-same-length-11 (rest-result-claims t) (rest-result-at t) rest-result.Post
 rest-result-same-length-11 t c = search needs
 
-rest-result-returns-6 : (t : ℕ) → rest-result-lts.Need-returns-6 (rest-result-claims t) (rest-result-at t) rest-result.Post
-rest-result-returns-6 t c = let a = (c .before .before .before .before .before .before .before .before .before .before .before .before .before .before .before .before .before .before .before .before .before .before .before .before .before .before .before .before .before .before .before .before .before .before) in
-    let hk = still-left _ _ _ (a .args .k) ((c .before .before .before .before .before .before .before .before .before .before .before .before .before .before .before .before .before .before .before .before .before .before .before .before .before .before .before .before .before .before .lowest) .result) _ (a .args .ops) (a .pre .1 .0) ((c .before .before .before .before .before .before .before .before .before .before .before .before .before .before .before .before .before .before .before .before .before .before .before .before .before .before .before .before .before .before .lowest) .ensures) ((c .before .before .before .before .before .before .before .before .before .before .before .before .before .before .before .before .before .before .before .before .before .before .before .before .before .before .before .wide) .ensures .0 ∙ (c .before .before .before .before .before .before .before .before .before .before .before .before .before .before .before .before .before .before .before .before .before .before .before .before .before .before .before .before .head-word) .ensures) ((c .before .before .before .before .before .before .before .before .before .before .before .before .before .before .before .before .before .before .before .before .before .before .before .before .before .before .if1) .left) in
-    let fl = filled _ _ _ _ _ _ ((c .before .before .before .before .before .before .before .before .before .before .before .before .if4) .taken) ((c .before .before .before .before .before .before .before .before .before .before .before .before .before .before .before .before .before .fill-branches) .ensures .0) in
+rest-result-returns-7 : (t : ℕ) → rest-result-lts.Need-returns-7 (rest-result-claims t) (rest-result-at t) rest-result.Post
+rest-result-returns-7 t c = let a = (c .before .before .before .before .before .before .before .before .before .before .before .before .before .before .before .before .before .before .before .before .before .before .before .before .before .before .before .before .before .before .before .before .before .before .before .before) in
+    let hk = still-left _ _ _ (a .args .k) ((c .before .before .before .before .before .before .before .before .before .before .before .before .before .before .before .before .before .before .before .before .before .before .before .before .before .before .before .before .before .before .lowest) .result) _ (a .args .t7) (a .pre .1 .0) ((c .before .before .before .before .before .before .before .before .before .before .before .before .before .before .before .before .before .before .before .before .before .before .before .before .before .before .before .before .before .before .lowest) .ensures) ((c .before .before .before .before .before .before .before .before .before .before .before .before .before .before .before .before .before .before .before .before .before .before .before .before .before .before .before .wide) .ensures .0 ∙ (c .before .before .before .before .before .before .before .before .before .before .before .before .before .before .before .before .before .before .before .before .before .before .before .before .before .before .before .before .head-word) .ensures) ((c .before .before .before .before .before .before .before .before .before .before .before .before .before .before .before .before .before .before .before .before .before .before .before .before .before .before .if2) .left) in
+    let fl = filled _ _ _ _ _ _ ((c .before .before .before .before .before .before .before .before .before .before .before .before .if5) .taken) ((c .before .before .before .before .before .before .before .before .before .before .before .before .before .before .before .before .before .fill-branches) .ensures .0) in
     let q = (c .before .before .before .before .before .x) .given .1 in
     let re = gives-is q (fill-make (a .args .t .now) (a .args .k) _ (a .pre .1 .0 .holds) hk _ _ _ _ fl ((c .before .before .before .before .before .before .before .before .before .make) .ensures)) in (
       re,
-      remembers-stored _ _ _ _ (a .args .k) (a .args .ops) _ _ _ (a .pre .1 .0 .nine)
-          (remembers-made _ _ (a .args .k) ((c .before .before .before .before .before .before .before .before .before .before .before .before .before .before .before .before .before .fill-branches) .result .list) _ ((c .before .before .before .before .before .x) .given .0 .0) _ _ _ _ (fl .filled .grown .well) ((c .before .before .before .before .before .before .before .before .before .make) .ensures) q (still-if _ _ _ _ _ _ ((c .before .before .before .before .before .before .before .before .before .before .before .before .if4) .taken) ((c .before .before .before .before .before .before .before .before .before .before .before .before .before .before .before .before .before .fill-branches) .ensures .1)))
-          ((c .before .before .remember) .ensures) (result-recalled _ _ _ _ _ (a .args .k) _ (a .args .ops) (a .pre .1 .0) re),
+      remembers-stored _ _ _ _ (a .args .k) (a .args .t7) _ _ _ (a .pre .1 .0 .nine)
+          (remembers-made _ _ (a .args .k) ((c .before .before .before .before .before .before .before .before .before .before .before .before .before .before .before .before .before .fill-branches) .result .list) _ ((c .before .before .before .before .before .x) .given .0 .0) _ _ _ _ (fl .filled .grown .well) ((c .before .before .before .before .before .before .before .before .before .make) .ensures) q (still-if _ _ _ _ _ _ ((c .before .before .before .before .before .before .before .before .before .before .before .before .if5) .taken) ((c .before .before .before .before .before .before .before .before .before .before .before .before .before .before .before .before .before .fill-branches) .ensures .1)))
+          ((c .before .before .remember) .ensures) (result-recalled _ _ _ _ _ (a .args .k) _ (a .args .t7) (a .pre .1 .0) re),
     )
 
 rest-result-same-length-12 : (t : ℕ) → rest-result-lts.Need-same-length-12 (rest-result-claims t) (rest-result-at t) rest-result.Post
@@ -310,10 +327,10 @@ rest-result-same-length-12 t c = search needs
 rest-result-same-length-13 : (t : ℕ) → rest-result-lts.Need-same-length-13 (rest-result-claims t) (rest-result-at t) rest-result.Post
 rest-result-same-length-13 t c = search needs
 
-rest-result-returns-7 : (t : ℕ) → rest-result-lts.Need-returns-7 (rest-result-claims t) (rest-result-at t) rest-result.Post
-rest-result-returns-7 t c = let a = (c .before .before .before .before .before .before .before .before .before .before .before .before .before .before .before .before .before .before .before .before .before .before) in
-    let hk = still-left _ _ _ (a .args .k) ((c .before .before .before .before .before .before .before .before .before .before .before .before .before .before .before .before .before .before .lowest) .result) _ (a .args .ops) (a .pre .1 .0) ((c .before .before .before .before .before .before .before .before .before .before .before .before .before .before .before .before .before .before .lowest) .ensures) ((c .before .before .before .before .before .before .before .before .before .before .before .before .before .before .before .wide) .ensures .0 ∙ (c .before .before .before .before .before .before .before .before .before .before .before .before .before .before .before .before .head-word) .ensures) ((c .before .before .before .before .before .before .before .before .before .before .before .before .before .before .if1) .left) in
-    (stop-result (a .args .t .now) (a .args .k) _ (a .pre .1 .0 .holds) hk _ (not-filled _ _ _ _ _ _ ((c .if4) .left) ((c .before .before .before .before .before .fill-branches) .ensures .0)), tt)
+rest-result-returns-8 : (t : ℕ) → rest-result-lts.Need-returns-8 (rest-result-claims t) (rest-result-at t) rest-result.Post
+rest-result-returns-8 t c = let a = (c .before .before .before .before .before .before .before .before .before .before .before .before .before .before .before .before .before .before .before .before .before .before .before .before) in
+    let hk = still-left _ _ _ (a .args .k) ((c .before .before .before .before .before .before .before .before .before .before .before .before .before .before .before .before .before .before .lowest) .result) _ (a .args .t7) (a .pre .1 .0) ((c .before .before .before .before .before .before .before .before .before .before .before .before .before .before .before .before .before .before .lowest) .ensures) ((c .before .before .before .before .before .before .before .before .before .before .before .before .before .before .before .wide) .ensures .0 ∙ (c .before .before .before .before .before .before .before .before .before .before .before .before .before .before .before .before .head-word) .ensures) ((c .before .before .before .before .before .before .before .before .before .before .before .before .before .before .if2) .left) in
+    (stop-result (a .args .t .now) (a .args .k) _ (a .pre .1 .0 .holds) hk _ (not-filled _ _ _ _ _ _ ((c .if5) .left) ((c .before .before .before .before .before .fill-branches) .ensures .0)), tt)
 
 pub +fill-branches+rest-result-spec : {M : Type 1} → statement M
 +fill-branches+rest-result-spec = close μ-fill-branches μ-rest-result (λ t. fill-branches-lts.spec (fill-branches-claims t)
@@ -344,28 +361,33 @@ pub +fill-branches+rest-result-spec : {M : Type 1} → statement M
     λ t. rest-result-lts.spec (rest-result-claims t)
     (rest-result-at t)
     rest-result.Post
+    (rest-result-array-read-shortcut t)
+    (rest-result-array-read-shortcut-2 t)
+    (rest-result-shortcut-requires t)
+    (rest-result-combine-requires t)
+    (rest-result-returns t)
     (rest-result-lowest-requires t)
     (rest-result-head-word-requires t)
     (rest-result-wide-requires t)
-    (rest-result-combine-requires t)
+    (rest-result-combine-requires-2 t)
     (rest-result-same-length t)
-    (rest-result-returns t)
+    (rest-result-returns-2 t)
     (rest-result-add-rest-result t)
     (rest-result-rest-result-requires t)
     (rest-result-same-length-2 t)
     (rest-result-same-length-3 t)
-    (rest-result-returns-2 t)
+    (rest-result-returns-3 t)
     (rest-result-operands-at-requires t)
     (rest-result-add-rest-result-2 t)
     (rest-result-rest-result-requires-2 t)
     (rest-result-same-length-4 t)
     (rest-result-same-length-5 t)
-    (rest-result-returns-3 t)
+    (rest-result-returns-4 t)
     (rest-result-recall-requires t)
     (rest-result-enum-known-memo t)
     (rest-result-same-length-6 t)
     (rest-result-same-length-7 t)
-    (rest-result-returns-4 t)
+    (rest-result-returns-5 t)
     (rest-result-enum-told t)
     (rest-result-fill-branches-requires t)
     (rest-result-make-requires t)
@@ -373,11 +395,11 @@ pub +fill-branches+rest-result-spec : {M : Type 1} → statement M
     (rest-result-enum-told-2 t)
     (rest-result-same-length-8 t)
     (rest-result-same-length-9 t)
-    (rest-result-returns-5 t)
+    (rest-result-returns-6 t)
     (rest-result-remember-requires t)
     (rest-result-same-length-10 t)
     (rest-result-same-length-11 t)
-    (rest-result-returns-6 t)
+    (rest-result-returns-7 t)
     (rest-result-same-length-12 t)
     (rest-result-same-length-13 t)
-    (rest-result-returns-7 t)
+    (rest-result-returns-8 t)

@@ -1,5 +1,5 @@
--- `engine::operators::combine` meets its contract: which operator it is; phrase numbers stay phrase numbers. Assumes nothing.
-use Rattle.engine.proofs.Operating.{op-pair, op-case, op-forget, combined}
+-- `engine::operators::combine` meets its contract: which operator it is. Assumes nothing.
+use Rattle.engine.proofs.Operating.{op-pair, op-case, op-forget}
 use Rattle.words.specs.Words.{listed}
 use native.Mathlib.Omega.{arith}
 use mathlib.Core.Path.{sym, _∙_}
@@ -18,21 +18,21 @@ pair-op-requires c κs = search needs
 
 returns : tie.Need-returns
 returns c = let a = (c .before .before) in
-    combined (a .args .o) (a .args .n) _ (listed (a .args .t2)) (a .pre .2) ((c .pair-op) .ensures ∙ sym (op-pair (a .args .o) (a .args .n) (listed (a .args .t2)) (a .pre .0) ((c .before .if1) .taken)))
+    (c .pair-op) .ensures ∙ sym (op-pair (a .args .o) (a .args .n) (listed (a .args .t2)) (a .pre .0) ((c .before .if1) .taken))
 
 chosen-requires : tie.Need-chosen-requires
 chosen-requires c κs = search needs
 
 returns-2 : tie.Need-returns-2
 returns-2 c = let a = (c .before .before .before) in
-    combined (a .args .o) (a .args .n) _ (listed (a .args .t2)) (a .pre .2) ((c .chosen) .ensures ∙ sym (op-case (a .args .o) (a .args .n) (listed (a .args .t2)) (omega arith) ((c .before .if2) .taken)))
+    (c .chosen) .ensures ∙ sym (op-case (a .args .o) (a .args .n) (listed (a .args .t2)) (omega arith) ((c .before .if2) .taken))
 
 forgotten-requires : tie.Need-forgotten-requires
 forgotten-requires c κs = search needs
 
 returns-3 : tie.Need-returns-3
 returns-3 c = let a = (c .before .before .before) in
-    combined (a .args .o) (a .args .n) _ (listed (a .args .t2)) (a .pre .2) ((c .forgotten) .ensures ∙ sym (op-forget (a .args .o) (a .args .n) (listed (a .args .t2)) (omega (arith, (c .before .before .if1), (c .before .if2)))))
+    (c .forgotten) .ensures ∙ sym (op-forget (a .args .o) (a .args .n) (listed (a .args .t2)) (omega (arith, (c .before .before .if1), (c .before .if2))))
 
 pub combine-spec : {M : Type 1} → statement M
 combine-spec =
