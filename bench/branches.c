@@ -1,5 +1,6 @@
-/* CASE over more and more branches, of which the first feature chooses: the branches are sums of the values with random weights,
-   modulo 3, so that no two have to do with each other. The plain C program needs only the chosen branch from there on. */
+/* CASE over more and more branches, of which a feature chooses all or two: the branches are sums of the values with random weights,
+   modulo 3, so that no two have to do with each other. Only the chosen branch matters below that feature. */
+#include "check.h"
 #include "filling.h"
 #include "lampgrotto.h"
 #include "plain.h"
@@ -8,25 +9,26 @@
 #include <stdlib.h>
 #include <string.h>
 
-enum { MODULUS = 3, BRANCHES = 6, CHOICE = 8, LITERAL = 21, NUMBER, TERM };
+enum { CAPACITY = 4096, MODULUS = 3, BRANCHES = 8, CHOICE = 8, LITERAL = 21, NUMBER, TERM, RESULT = 31 }; /* from CHOICE on places */
 
-static uint32_t out[1];
+static uint32_t out[1], lent[1 << 18];
+static size_t lent_length = 16 * CAPACITY;
 
 static void taken(uint32_t ending) {
     if (ending) exit(1);
 }
 
 static void choose(size_t place, size_t selector, const uint32_t *branches, size_t count) {
-    taken(lampgrotto_case(words, length, scratch, SCRATCH, place, selector, branches, count));
+    taken(lampgrotto_case(words, length, lent, lent_length, place, selector, branches, count));
 }
 
-/* the place gets (start + weight * the feature's value) modulo 3 */
-static void term(uint32_t place, size_t feature, uint32_t start, uint32_t weight) {
+/* the place gets (start + weight * the feature's value) modulo a number */
+static void term(uint32_t place, size_t feature, uint32_t start, uint32_t weight, uint32_t modulus) {
     const uint32_t branches[2] = {place, NUMBER};
     taken(lampgrotto_constant(words, length, place, start));
     for (uint32_t v = 1; v < 8; v++) {
         taken(lampgrotto_literal(words, length, LITERAL, feature, 1u << v, out, 1));
-        taken(lampgrotto_constant(words, length, NUMBER, (start + weight * v) % MODULUS));
+        taken(lampgrotto_constant(words, length, NUMBER, (start + weight * v) % modulus));
         choose(place, LITERAL, branches, 2);
     }
 }
@@ -38,7 +40,7 @@ static void weighted_sum(uint32_t place, uint32_t *seed) {
         *seed = *seed * 1103515245u + 12345u;
         for (uint32_t i = 0; i < MODULUS; i++) {
             terms[i] = TERM + i;
-            term(terms[i], feature, i, 1 + (*seed >> 16) % (MODULUS - 1));
+            term(terms[i], feature, i, 1 + (*seed >> 16) % (MODULUS - 1), MODULUS);
         }
         choose(place, place, terms, MODULUS);
     }
@@ -48,33 +50,36 @@ static uint32_t places[BRANCHES];
 static branch roots[BRANCHES];
 static size_t count; /* of branches */
 
+static void library(void) { choose(RESULT, CHOICE, places, count); }
 static void plain(void) { sink += plain_case(plain_root(CHOICE), roots, count); }
+static void checking(void) { sink += table_is_sound(words, length); }
 
-/* the time of one turn in microseconds: of jobs that are too long to be made again and again */
-static double once(void (*job)(void)) {
-    double start = now();
-    job();
-    return (now() - start) / 1000;
+/* the value of the feature, modulo a number, chooses, and the plain program must choose as the library does */
+static void measure(size_t feature, uint32_t chosen) {
+    term(CHOICE, feature, 0, 1, chosen);
+    library();
+    plain_load(words);
+    for (uint32_t j = 0; j < BRANCHES; j++) roots[j] = plain_root(j);
+    if (plain_case(plain_root(CHOICE), roots, count) != plain_root(RESULT)) exit(1);
+    double l = best(library) / 1000, p = best(plain) / 1000, t = best(checking) / 1000;
+    printf("| %zu | %zu | %u | %zu | %u | %.0f | %.0f | %.1f |\n", feature, count, chosen, lent_length, nodes_in_use(), l, p, l / (p + t));
+    fflush(stdout);
+    taken(lampgrotto_constant(words, length, RESULT, 0));
 }
-
-static void library(void) { choose(31, CHOICE, places, count); }
 
 int main(void) {
     uint32_t seed = 7;
-    length = LAMPGROTTO_WORDS(1024);
+    length = LAMPGROTTO_WORDS(CAPACITY);
     memset(features, 8, sizeof features);
-    taken(lampgrotto_open(words, length, features, 16, 1024));
+    taken(lampgrotto_open(words, length, features, 16, CAPACITY));
     for (uint32_t j = 0; j < BRANCHES; j++) weighted_sum(places[j] = j, &seed);
-    taken(lampgrotto_literal(words, length, CHOICE, 0, 2, out, 1));
-    plain_load(words);
-    for (uint32_t j = 0; j < BRANCHES; j++) roots[j] = plain_root(j);
-    printf("%u nodes in use.\n\n| branches | CASE us | plain C us | plain C that goes on with all branches us |\n|---|---|---|---|\n", nodes_in_use());
-    for (count = 2; count <= BRANCHES; count++) {
-        goes_on = 0;
-        double chosen_only = best(plain) / 1000;
-        goes_on = 1;
-        printf("| %zu | %.0f | %.1f | %.0f |\n", count, once(library), chosen_only, once(plain));
-        fflush(stdout);
-    }
+    printf("| feature | branches | chosen | scratch words | nodes in use | CASE us | plain C us | times plain C with the table's test |\n");
+    printf("|---|---|---|---|---|---|---|---|\n");
+    for (count = 2; count <= 8; count += 2) measure(0, (uint32_t)count);
+    for (count = 2; count <= 5; count++) measure(15, (uint32_t)count);
+    for (count = 3; count <= 6; count++) measure(15, 2);
+    lent_length *= 4;
+    count = 6;
+    measure(15, 2);
     return 0;
 }

@@ -1,5 +1,5 @@
 /* The calls of a rule table at several numbers of nodes in use: how each grows, and how it compares with the plain C program, with
-   that program and the table's test before each call, and, for yes/no features, with BuDDy. */
+   that program and the call's tests before each call (of the table, for read of the sheet too), and, for yes/no features, with BuDDy. */
 #include "check.h"
 #include "filling.h"
 #include "lampgrotto.h"
@@ -19,6 +19,8 @@ extern void bdd_operator_reset(void); /* forgets remembered results, which a lib
 static struct calls at;
 static uint32_t out[17];
 static uint8_t setting[16];
+static uint8_t sheet[102428], plain_sheet[102428]; /* of the largest rule, as each writes it */
+static size_t sheet_length;
 
 static void expect(int holds, const char *what) {
     if (holds) return;
@@ -38,6 +40,8 @@ static void library_forget(void) { sink += lampgrotto_forget(words, length, scra
 static void library_restrict(void) { sink += lampgrotto_restrict(words, length, RESTRICTED, at.restrict_, at.restrict_f, 1); }
 static void library_count(void) { sink += lampgrotto_count(words, length, at.largest, 1, out, 2); }
 static void library_next(void) { sink += lampgrotto_next(words, length, at.largest, 1, setting, 16, out, 16); }
+static void library_write(void) { sink += lampgrotto_write(words, length, at.largest, sheet, sizeof sheet, out, 1); }
+static void library_read(void) { sink += lampgrotto_read(words, length, READ, sheet, sheet_length); }
 
 /* ---- the plain program */
 static branch result;
@@ -58,7 +62,10 @@ static void plain_meeting(void) {
     memcpy(found, setting, 16);
     sink += number = plain_next(plain_root(at.largest), 1, found);
 }
+static void plain_writing(void) { sink += number = plain_write(plain_root(at.largest), plain_sheet); }
+static void plain_reading(void) { sink += result = plain_read(sheet); }
 static void checking(void) { sink += table_is_sound(words, length); }
+static void checking_sheet(void) { sink += sheet_is_good(sheet, sheet_length); }
 
 /* ---- BuDDy */
 #ifdef BUDDY
@@ -122,7 +129,6 @@ struct job {
 #define OR_BUDDY(job) NULL
 #endif
 
-/* write and read of a sheet have their rows here when the table has these calls */
 static const struct job jobs[] = {
     {"look up", library_look_up, plain_looking, OR_BUDDY(buddy_look_up), 0},
     {"constant", library_constant, plain_constant, NULL, CONSTANT},
@@ -132,6 +138,8 @@ static const struct job jobs[] = {
     {"restrict", library_restrict, plain_restricting, OR_BUDDY(buddy_restrict), RESTRICTED},
     {"count", library_count, plain_counting, OR_BUDDY(buddy_count), 0},
     {"next", library_next, plain_meeting, NULL, 0},
+    {"write", library_write, plain_writing, NULL, 0},
+    {"read", library_read, plain_reading, NULL, READ},
 };
 enum { JOBS = sizeof jobs / sizeof *jobs, SIZES = 5 };
 
@@ -148,6 +156,7 @@ static void agree(const struct job *j) {
     else if (j->library != library_next) expect(number == wanted, j->name);
     else
         for (int k = 0; k < 16; k++) expect(number && found[k] == out[k], j->name);
+    if (j->library == library_write) expect(!memcmp(sheet, plain_sheet, sheet_length), j->name);
 #ifdef BUDDY
     if (!j->buddy) return;
     j->buddy();
@@ -156,22 +165,32 @@ static void agree(const struct job *j) {
 #endif
 }
 
-static double times[JOBS][SIZES], plains[JOBS][SIZES], checks[SIZES], sums[SIZES];
+static double times[JOBS][SIZES], plains[JOBS][SIZES], tested[JOBS][SIZES], checks[SIZES], sums[SIZES];
 #ifdef BUDDY
 static double buddies[JOBS][SIZES];
 #endif
-static uint32_t in_use[SIZES];
+static uint32_t in_use[SIZES], in_sheet[SIZES];
 
 static void summing(void) { sum_words(words, length); }
+
+/* the largest rule has its sheet, and READ what is read of that: no call adds a node from here on */
+static void write_and_read(int column) {
+    expect(!lampgrotto_write(words, length, at.largest, sheet, sizeof sheet, out, 1), "write");
+    sheet_length = out[0];
+    expect(!lampgrotto_read(words, length, READ, sheet, sheet_length), "read");
+    in_sheet[column] = sheet[21] * 256u + sheet[22];
+}
 
 static void measure(uint8_t size, size_t capacity, int column) {
     in_use[column] = fill(size, capacity, &at);
     expect(!lampgrotto_constant(words, length, CONSTANT, 7), "constant");
     for (int k = 0; k < 16; k++) setting[k] = (5 * k + 3) % size;
-    expect(table_is_sound(words, length), "the plain test");
+    write_and_read(column);
+    expect(table_is_sound(words, length) && sheet_is_good(sheet, sheet_length), "the plain tests");
     plain_load(words);
     sums[column] = best(summing);
     checks[column] = best(checking);
+    double sheet_check = best(checking_sheet);
 #ifdef BUDDY
     buddy_load();
     double reset = best(buddy_reset);
@@ -180,6 +199,7 @@ static void measure(uint8_t size, size_t capacity, int column) {
         agree(&jobs[j]);
         times[j][column] = best(jobs[j].library);
         plains[j][column] = best(jobs[j].plain);
+        tested[j][column] = plains[j][column] + checks[column] + (jobs[j].library == library_read ? sheet_check : 0);
 #ifdef BUDDY
         if (jobs[j].buddy) buddies[j][column] = best(jobs[j].buddy) - (jobs[j].library == library_look_up ? 0 : reset);
 #endif
@@ -195,11 +215,11 @@ static void heading(const char *what) {
     printf("\n|---|---|---|---|---|---|\n");
 }
 
-/* a row of times, each over another: of one unit in each column, and of one in each cell, where these are not null */
-static void row(const char *name, const double *time, const double *column, const double *cell) {
+/* a row of times over those of the unit, or in microseconds where that is null */
+static void row(const char *name, const double *time, const double *unit) {
     printf("| %s |", name);
     for (int c = 0; c < SIZES; c++) {
-        double unit = (column ? column[c] : 0) + (cell ? cell[c] : 0), x = time[c] / (unit > 0 ? unit : 1000);
+        double x = time[c] / (unit ? unit[c] : 1000);
         printf(x < 100 ? " %.1f |" : " %.0f |", x);
     }
     printf("\n");
@@ -207,25 +227,28 @@ static void row(const char *name, const double *time, const double *column, cons
 
 static void tables(void) {
     heading("Microseconds for one call:");
-    for (int j = 0; j < JOBS; j++) row(jobs[j].name, times[j], NULL, NULL);
-    row("the table's test, in C", checks, NULL, NULL);
+    for (int j = 0; j < JOBS; j++) row(jobs[j].name, times[j], NULL);
+    row("the table's test, in C", checks, NULL);
     heading("Times the sum of the table's words:");
-    for (int j = 0; j < JOBS; j++) row(jobs[j].name, times[j], sums, NULL);
-    row("the table's test, in C", checks, sums, NULL);
-    heading("Times the plain C program with the table's test:");
-    for (int j = 0; j < JOBS; j++) row(jobs[j].name, times[j], checks, plains[j]);
+    for (int j = 0; j < JOBS; j++) row(jobs[j].name, times[j], sums);
+    row("the table's test, in C", checks, sums);
+    printf("\nNodes of the rule that is looked up, counted, written and read:");
+    for (int c = 0; c < SIZES; c++) printf(" %u", in_sheet[c]);
+    printf("\n");
+    heading("Times the plain C program with the call's tests:");
+    for (int j = 0; j < JOBS; j++) row(jobs[j].name, times[j], tested[j]);
     heading("Times the plain C program without any test:");
-    for (int j = 0; j < JOBS; j++) row(jobs[j].name, times[j], NULL, plains[j]);
+    for (int j = 0; j < JOBS; j++) row(jobs[j].name, times[j], plains[j]);
 #ifdef BUDDY
     heading("Times BuDDy, which tests nothing either:");
     for (int j = 0; j < JOBS; j++)
-        if (jobs[j].buddy) row(jobs[j].name, times[j], NULL, buddies[j]);
+        if (jobs[j].buddy) row(jobs[j].name, times[j], buddies[j]);
 #endif
 }
 
 int main(void) {
     static const size_t capacities[SIZES] = {16, 64, 256, 1024, 4096};
-        for (int c = 0; c < SIZES; c++) measure(SIZE, capacities[c], c);
+    for (int c = 0; c < SIZES; c++) measure(SIZE, capacities[c], c);
     tables();
     return 0;
 }

@@ -5,7 +5,7 @@
 #include <stdint.h>
 
 enum { SCRATCH = 65536, DIFFER = 5 };
-enum { SELECTOR = 23, APPLIED, CHOSEN, FORGOTTEN, RESTRICTED, CONSTANT = 31 }; /* places; 0 to 22 and 30 are for random rules */
+enum { SELECTOR = 23, APPLIED, CHOSEN, FORGOTTEN, RESTRICTED, READ, CONSTANT = 31 }; /* places; 0 to 22 and 30 are for random rules */
 
 struct calls {
     size_t apply_a, apply_b;    /* the two places whose difference is in the place APPLIED */

@@ -12,14 +12,14 @@ branch plain_root(size_t place);
 
 uint32_t plain_look_up(branch b, const uint8_t *setting);
 branch plain_apply(uint32_t op, branch a, branch b);
-/* Where the selector has become a number, only the chosen branch matters; with goes_on the walk goes on with all of them. */
-extern int goes_on;
 branch plain_case(branch selector, const branch *branches, size_t count);
 branch plain_restrict(branch b, unsigned feature, unsigned value);
 branch plain_forget(branch b, unsigned feature);
 uint64_t plain_count(branch b, uint32_t number);
 int plain_next(branch b, uint32_t number, uint8_t *setting);
 
-/* The number that a sheet which is trusted gives a setting. */
+/* The sheet of a rule, and how many bytes it has; the rule of a sheet which is trusted; the number that it gives a setting. */
+size_t plain_write(branch b, uint8_t *sheet);
+branch plain_read(const uint8_t *sheet);
 uint32_t plain_sheet_look_up(const uint8_t *sheet, const uint8_t *setting);
 #endif

@@ -1,10 +1,9 @@
-/* The phone's lookup in a sheet of several sizes: how it grows, how it compares with C that does the same with and without the
-   sheet's check, and how much stack it takes. */
+/* The phone's lookup in a sheet of several sizes: how it grows, and how it compares with C that does the same with and without the
+   sheet's check. */
 #include "check.h"
 #include "lampgrotto.h"
 #include "plain.h"
 #include "timing.h"
-#include <pthread.h>
 #include <stdio.h>
 #include <stdlib.h>
 #include <string.h>
@@ -63,16 +62,8 @@ static void make_sheet(int count, uint32_t leaves) {
     write_sheet(build(0, &index, leaves));
 }
 
-/* sixteen features, one below the other: the walk goes as deep as it can */
-static void make_deep_sheet(void) {
-    features = 16;
-    for (node_count = 0; node_count < 16; node_count++)
-        for (uint32_t v = 0; v < 9; v++) nodes[node_count][v] = v == 0 ? 15 - node_count : v > 1 && node_count ? 65535 + node_count : v;
-    write_sheet(65536 + 15);
-}
-
 /* ---- the times */
-static const uint8_t setting[16] = {6, 3, 2, 1, 0};
+static const uint8_t setting[5] = {6, 3, 2, 1, 0};
 static size_t lent; /* as many bytes as the lookup is told of */
 
 static void looking(void) { sink += lampgrotto_look_up(sheet, lent, setting, (size_t)features); }
@@ -115,33 +106,8 @@ static void phases(void) {
     }
 }
 
-/* ---- the stack: how far below its caller's frame a look up touches a thread's painted stack */
-enum { STACK = 1 << 20, PAINT = 0xa5 };
-static uint8_t stack[STACK] __attribute__((aligned(4096)));
-
-static void *look(void *frame) {
-    *(uint8_t **)frame = __builtin_frame_address(0);
-    looking();
-    return NULL;
-}
-
-static size_t stack_taken(void) {
-    pthread_attr_t attributes;
-    pthread_t thread;
-    uint8_t *frame, *low = stack;
-    memset(stack, PAINT, sizeof stack);
-    if (pthread_attr_init(&attributes) || pthread_attr_setstack(&attributes, stack, sizeof stack)) exit(1);
-    if (pthread_create(&thread, &attributes, look, &frame) || pthread_join(thread, NULL)) exit(1);
-    while (*low == PAINT) low++;
-    return (size_t)(frame - low);
-}
-
 int main(void) {
     sizes();
     phases();
-    make_deep_sheet();
-    lent = length;
-    if (!sheet_is_good(sheet, length) || lampgrotto_look_up(sheet, lent, setting, 16) > 65535) return 1;
-    printf("\nstack of a look up: %zu bytes\n", stack_taken());
     return 0;
 }

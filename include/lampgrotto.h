@@ -49,7 +49,7 @@ uint32_t lampgrotto_look_up(const uint8_t *sheet, size_t sheet_len, const uint8_
                16 for each node do well;
      place     the place that gets the result; it may be one of those that the call reads;
      out       words for results. They are laid over its front, as many as fit; a refused call lays 0s. Words past them stay.
-   Every call but open refuses DAMAGED words. */
+   Every call but open refuses DAMAGED words. A call takes up to 18 KB of stack, if its comment does not say more. */
 
 /* How many words a table of this capacity (1 to 4,096 nodes) needs. */
 #define LAMPGROTTO_WORDS(capacity) (32 * (size_t)(capacity) + 8192)
@@ -102,12 +102,12 @@ uint32_t lampgrotto_rule_look_up(const uint32_t *t, size_t t_len, size_t place, 
 uint32_t lampgrotto_same(const uint32_t *t, size_t t_len, size_t a, size_t b, uint32_t *out, size_t out_len);
 
 /* out[0] + 2^32 out[1]: how many settings the place gives the number.
-   Refuses: BAD_PLACE; BAD_ARGUMENT, a number past 65,535. */
+   Refuses: BAD_PLACE; BAD_ARGUMENT, a number past 65,535. It takes 51 KB of stack. */
 uint32_t lampgrotto_count(const uint32_t *t, size_t t_len, size_t place, uint32_t number, uint32_t *out, size_t out_len);
 
 /* out[0] to out[15]: the first setting at or after the given one to which the place gives the number, a word for each feature, and
    0 past them.
-   Refuses: BAD_PLACE; BAD_ARGUMENT, a number past 65,535 or no setting of the table's features; NONE. */
+   Refuses: BAD_PLACE; BAD_ARGUMENT, a number past 65,535 or no setting of the table's features; NONE. It takes 26 KB of stack. */
 uint32_t lampgrotto_next(const uint32_t *t, size_t t_len, size_t place, uint32_t number, const uint8_t *setting, size_t setting_len,
                          uint32_t *out, size_t out_len);
 
@@ -115,12 +115,12 @@ uint32_t lampgrotto_next(const uint32_t *t, size_t t_len, size_t place, uint32_t
 uint32_t lampgrotto_tally(const uint32_t *t, size_t t_len, uint32_t *out, size_t out_len);
 
 /* Writes the sheet of the place's rule to the front of the bytes; those after it stay. out[0]: how many bytes it has, at most 102,428.
-   Refuses: BAD_PLACE; NO_SPACE, fewer bytes than that, and then none is written. It takes about 33 KB of stack. */
+   Refuses: BAD_PLACE; NO_SPACE, fewer bytes than that, and then none is written. It takes 51 KB of stack. */
 uint32_t lampgrotto_write(const uint32_t *t, size_t t_len, size_t place, uint8_t *sheet, size_t sheet_len, uint32_t *out,
                           size_t out_len);
 
 /* The place gets the rule of a sheet.
-   Refuses: BAD_PLACE; NEWER; BAD_SHEET; OTHER_FEATURES; NO_ROOM. It takes about 51 KB of stack. */
+   Refuses: BAD_PLACE; NEWER; BAD_SHEET; OTHER_FEATURES; NO_ROOM. It takes 67 KB of stack. */
 uint32_t lampgrotto_read(uint32_t *t, size_t t_len, size_t place, const uint8_t *sheet, size_t sheet_len);
 
 /* ---- settings in dictionary order, with no table */

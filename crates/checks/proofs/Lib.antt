@@ -1,3 +1,6 @@
 pub mod Summing
 pub mod Framing
 pub mod Chaining
+pub mod Sitting
+pub mod Walking
+pub mod Pictures

@@ -1,2 +1,4 @@
 pub mod Header
 pub mod Chained
+pub mod Sits
+pub mod Walk

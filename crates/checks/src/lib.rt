@@ -1,11 +1,12 @@
-// The part of the soundness test that every kind of table shares: the header, the words that are 0, the chains.
+// The part of the soundness test that every kind of table shares: the header, the words that are 0, the chains, branch words.
 ghost use mathlib.Core.Path.{_≡_};
-ghost use Prim.Native.Nat.{_+_, _≤_, _<_};
+ghost use Prim.Native.Nat.{_+_, _*_, _≤_, _<_};
 ghost use lib.ListN.{length};
 ghost use Rattle.words.specs.Words.{features, count, Zeros};
 ghost use Rattle.settings.specs.Tells.{Tells};
 ghost use Rattle.checks.specs.Header.{Sizes, Front, Header};
 ghost use Rattle.checks.specs.Chained.{Framed, Same, Alone, Linked, Headed, Chained};
+ghost use Rattle.checks.specs.Sits.{Sits};
 use words::hash_at;
 use words::head_word;
 use words::narrow;
@@ -98,6 +99,21 @@ pub fn header_ok(t: &[u32], kind: u32) -> bool
     let m = wide(head_word(t, 19));
     let cap = wide(head_word(t, 1));
     zeros(t, 8192 + 16 * m, 8192 + 32 * cap)
+}
+
+// Whether the word b ends, or says a node below m of feature k or higher; words from `first` on say nodes.
+pub fn sits(t: &[u32], first: u32, m: usize, k: usize, b: u32) -> bool
+    requires { ⌜ (8192 + 16 * m ≤ length (now t)) × (m ≤ 4096) ⌝ }
+    ensures { λ r. ⌜ Tells r (Sits first (now (t .entry)) m k b) ⌝ }
+{
+    if b < first {
+        return true;
+    }
+    let j = wide(b - first);
+    if m <= j {
+        return false;
+    }
+    k <= wide(record_word(t, j, 0))
 }
 
 // Whether nodes i and j have the same feature and body.

@@ -174,12 +174,18 @@ fit-between B z f = (
   ℕ-le z (pos B) (omega (arith, f .top)),
 )
 
+-- one of `rise` and `fall` is 0
+pub rise-near : {B : ℕ} (z : ℤ) → rise z ≤ B + fall z → rise z ≤ B
+rise-near (pos a) h = omega arith
+rise-near (negsuc a) h = omega arith
+
+pub fall-near : {B : ℕ} (z : ℤ) → fall z ≤ B + rise z → fall z ≤ B
+fall-near (pos a) h = omega arith
+fall-near (negsuc a) h = omega arith
+
 pub between-fit : (B : ℕ) (z : ℤ) → negℤ (pos B) ≤ℤ z → z ≤ℤ pos B → Fit B z
-between-fit B z l h = go z (omega (arith, le-ℕ l, neg-rise (pos B), neg-fall (pos B))) (omega (arith, le-ℕ h))
-  where
-    go : (y : ℤ) → fall y ≤ rise y + B → rise y ≤ B + fall y → Fit B y
-    go (pos a) p q = record { top = omega arith; bottom = omega arith }
-    go (negsuc a) p q = record { top = omega arith; bottom = omega arith }
+between-fit B z l h =
+    record { top = rise-near z (omega (arith, le-ℕ h)); bottom = fall-near z (omega (arith, le-ℕ l, neg-rise (pos B), neg-fall (pos B))) }
 
 pub fit? : (B : ℕ) (z : ℤ) → Dec (Fit B z)
 fit? B z = go (decLe (rise z) B) (decLe (fall z) B)

@@ -9,7 +9,8 @@ use mir.Syntax.{w64}
 use mir.Val.{SFits, toZ}
 use mir.Facts.{toZ-ofZ}
 use Rattle.cost_laws.specs.Integers.{rise, fall, Fit, bias, int, wordFor}
-use Rattle.cost_laws.proofs.Integers.{sub-ℕ, sum-ℕ, minus-ℕ, ℕ-eq, ℕ-le, ℕ-lt, lt-test, le-test}
+use Rattle.cost_laws.specs.Operations.{largerOf, smallerOf}
+use Rattle.cost_laws.proofs.Integers.{rise-near, fall-near, sub-ℕ, sum-ℕ, minus-ℕ, ℕ-eq, ℕ-le, ℕ-lt, lt-test, le-test}
 
 -- what turns an integer of a word into facts for omega
 pub int-ℕ : (w : ℕ) → rise (int w) + bias ≡ fall (int w) + w
@@ -24,6 +25,30 @@ int-lt v w h = lt-test (int v) (int w) (ℕ-lt (int v) (int w) (omega (arith, in
 
 pub int-le : (v w : ℕ) → w ≤ v → ltZ (int v) (int w) ≡ false
 int-le v w h = le-test (int v) (int w) (ℕ-le (int w) (int v) (omega (arith, int-ℕ v, int-ℕ w)))
+
+-- the larger, the smaller of two by their words
+pub larger-second : (v w : ℕ) → v < w → largerOf (int v) (int w) ≡ int w
+unfolding largerOf
+larger-second v w h = rw (int-lt v w h)
+
+pub larger-first : (v w : ℕ) → w ≤ v → largerOf (int v) (int w) ≡ int v
+unfolding largerOf
+larger-first v w h = rw (int-le v w h)
+
+pub smaller-second : (v w : ℕ) → w < v → smallerOf (int v) (int w) ≡ int w
+unfolding smallerOf
+smaller-second v w h = rw (int-lt w v h)
+
+pub smaller-first : (v w : ℕ) → v ≤ w → smallerOf (int v) (int w) ≡ int v
+unfolding smallerOf
+smaller-first v w h = rw (int-le w v h)
+
+-- the words of the integers within ±B
+pub words-fit : (B w : ℕ) → bias ≤ w + B → w ≤ bias + B → Fit B (int w)
+words-fit B w l h = record { top = rise-near (int w) (omega (arith, int-ℕ w)); bottom = fall-near (int w) (omega (arith, int-ℕ w)) }
+
+pub fit-words : {B : ℕ} (w : ℕ) → Fit B (int w) → (bias ≤ w + B) × (w ≤ bias + B)
+fit-words w f = let t = f .top in let u = f .bottom in (omega (arith, int-ℕ w), omega (arith, int-ℕ w))
 
 -- every integer within ±B has a word, where B is less than the bias
 pub int-word : (z : ℤ) → fall z ≤ bias → int (wordFor z) ≡ z
@@ -45,6 +70,10 @@ sum-room a b f =
       least = omega (arith, int-ℕ a, int-ℕ b, sum-ℕ (int a) (int b));
       most = omega (arith, int-ℕ a, int-ℕ b, sum-ℕ (int a) (int b));
     }
+
+-- two words' sum tells how far the sum of their integers lies from 0
+pub words-sum : (a b : ℕ) → rise (int a +ℤ int b) + 4294967296 ≡ fall (int a +ℤ int b) + (a + b)
+words-sum a b = omega (arith, int-ℕ a, int-ℕ b, sum-ℕ (int a) (int b))
 
 pub int-sum : (a b s : ℕ) → s + 2147483648 ≡ a + b → int s ≡ int a +ℤ int b
 int-sum a b s e = ℕ-eq (int s) (int a +ℤ int b) (omega (arith, int-ℕ a, int-ℕ b, int-ℕ s, sum-ℕ (int a) (int b)))

@@ -1,26 +1,18 @@
 -- A cost table is a lawful holder, and its target words are small. Assumes nothing.
 use mathlib.Core.List.{List}
-use Prim.Native.Nat.{ℕ, zero, suc, _≤_}
+use Prim.Native.Nat.{ℕ, _≤_}
 use native.Mathlib.Omega.{arith}
 use lib.ListN.{length}
-use Rattle.theory.specs.Costs.{costs}
-use Rattle.theory.specs.Diagrams.{Node}
-use Rattle.theory.specs.WellFormed.{Ok, Under}
+use Rattle.theory.specs.WellFormed.{Ok}
 use Rattle.words.specs.Holding.{Lawful}
 use Rattle.words.specs.Words.{count}
 use Rattle.records.proofs.Making as M
-use Rattle.cost_words.specs.Words.{target, branch, code, nodes}
-use Rattle.cost_words.proofs.Reading.{length-nodes}
+use Rattle.cost_words.specs.Words.{branch, code, nodes}
+use Rattle.cost_words.proofs.Reading.{length-nodes, under-word}
 use Rattle.cost_nodes.specs.Nodes.{layout}
 
 pub lawful : Lawful layout
 lawful = M.lawful code
-
--- a word whose target lies below node m is at most m
-pub under-word : (N : List (Node costs)) (m k x : ℕ) → Under N m k (target x) → x ≤ m
-unfolding target
-under-word N m k zero u = omega arith
-under-word N m k (suc i) u = u .0
 
 -- a target word of the table
 pub ok-small : (w : List ℕ) (k x a : ℕ) → Ok (nodes w) k (branch x a) → x ≤ count w

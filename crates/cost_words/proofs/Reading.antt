@@ -1,14 +1,17 @@
 -- The node list, the roots and the costs by index. Assumes nothing.
 use mathlib.Core.Path.{_≡_}
 use mathlib.Core.List.{List}
-use Prim.Native.Nat.{ℕ, _<_}
+use Prim.Native.Nat.{ℕ, zero, suc, _≤_, _<_}
+use native.Mathlib.Omega.{arith}
 use lib.ListN.{length, getD}
-use Rattle.theory.specs.Diagrams.{at, blank}
+use Rattle.theory.specs.Costs.{costs}
+use Rattle.theory.specs.Diagrams.{Node, at, blank}
 use Rattle.theory.specs.Functions.{zero-fun}
+use Rattle.theory.specs.WellFormed.{Under}
 use Rattle.words.specs.Words.{count, size, feature, body}
 use Rattle.words.proofs.Coding as C
 use Rattle.words.proofs.Tab.{length-tab, getD-tab}
-use Rattle.cost_words.specs.Words.{branch, goes, added, code, nodeAt, nodes, rootAt, roots, costOf, costsOf}
+use Rattle.cost_words.specs.Words.{target, branch, goes, added, code, nodeAt, nodes, rootAt, roots, costOf, costsOf}
 
 pub length-nodes : (w : List ℕ) → length (nodes w) ≡ count w
 length-nodes w = C.length-nodes code w
@@ -19,6 +22,12 @@ at-nodes w i h = C.at-nodes code w i h
 -- branch v of node i
 pub branch-at : (w : List ℕ) (i v : ℕ) → i < count w → v < size w (feature w i) → getD (at (nodes w) i .branches) v blank ≡ branch (goes (body w i) v) (added (body w i) v)
 branch-at w i v h hv = C.branch-at code w i v h hv
+
+-- a word whose target lies below node m is at most m
+pub under-word : (N : List (Node costs)) (m k x : ℕ) → Under N m k (target x) → x ≤ m
+unfolding target
+under-word N m k zero u = omega arith
+under-word N m k (suc i) u = u .0
 
 -- roots and costs
 pub length-roots : (w : List ℕ) → length (roots w) ≡ 16

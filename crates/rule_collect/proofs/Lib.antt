@@ -1,6 +1,2 @@
-pub mod Framing
+pub mod Forming
 pub mod Copying
-pub mod Rooting
-pub mod Bringing
-pub mod Tidying
-pub mod Finishing

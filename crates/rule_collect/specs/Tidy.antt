@@ -1,32 +1,17 @@
--- What a table is after a root was changed, and what tidying makes of it. Assumes nothing.
-use mathlib.Core.Path.{_≡_}
+-- The form of a rule table; what one is after a place was changed, and what tidying makes of it. Assumes nothing.
 use mathlib.Core.List.{List}
-use Prim.Native.Nat.{ℕ, _+_, _*_, _≤_, _<_}
-use lib.ListN.{length, getD}
-use Rattle.theory.specs.Settings.{FeatureList}
-use Rattle.theory.specs.WellFormed.{Ok, WF}
-use Rattle.words.specs.Words.{kind, capacity, features, count, sizes, bound, Zeros}
-use Rattle.rule_words.specs.Words.{decode, nodes, root, rulesOf}
-use Rattle.rule_words.specs.Picture.{Pictures, Proper}
+use Prim.Native.Nat.{ℕ}
+use Rattle.theory.specs.Rules.{rules}
+use Rattle.rule_words.specs.Words.{decode, code, root}
+use Rattle.rule_words.specs.Picture.{drawing}
+use Rattle.sweep.specs.Form.{Form}
+use Rattle.sweep.specs.Tidy as T
 
--- a rule table in whose places branches of its nodes stand; the nodes' order, which of them are reached, and the chains are free
-pub record Untidy (w : List ℕ) : Type 0 where
-  pub room : bound (capacity w) ≤ length w
-  pub some : 1 ≤ capacity w
-  pub most : capacity w ≤ 4096
-  pub kind-is : kind w ≡ 1
-  pub list : FeatureList (sizes w)
-  pub past-sizes : Zeros w (3 + features w) 19
-  pub within : count w ≤ capacity w
-  pub shares : Zeros w 20 32
-  pub middle : Zeros w 64 4096
-  pub clean : Zeros w (8192 + 16 * count w) (bound (capacity w))
-  pub wf : WF (sizes w) (nodes w)
-  pub rooted : (p : ℕ) → p < 32 → Ok (nodes w) 0 (decode (root w p))
+abbrev pub form : Form rules
+form = record { code = code; drawing = drawing; rootAt = λ w p. decode (root w p) }
 
--- w′ is the picture of the rules that w holds; the words past the table are kept
-pub record Tidied (w w′ : List ℕ) : Type 0 where
-  pub proper : Proper (capacity w) (sizes w) (rulesOf w)
-  pub pictures : Pictures (capacity w) (sizes w) (rulesOf w) w′
-  pub long : length w′ ≡ length w
-  pub past : (j : ℕ) → bound (capacity w) ≤ j → getD w′ j 0 ≡ getD w j 0
+abbrev pub Untidy : List ℕ → Type 0
+Untidy w = T.Untidy form w
+
+abbrev pub Tidied : List ℕ → List ℕ → Type 0
+Tidied w w′ = T.Tidied form w w′

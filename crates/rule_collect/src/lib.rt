@@ -11,15 +11,15 @@ ghost use Prim.Native.Nat.{_<_};
 ghost use Rattle.theory.specs.Diagrams.{meaning};
 ghost use Rattle.theory.specs.WellFormed.{Ok};
 ghost use Rattle.words.specs.Words.{count, size, feature};
-ghost use Rattle.rule_words.specs.Words.{decode, nodes};
+ghost use Rattle.rule_words.specs.Words.{decode, code, nodes};
 ghost use Rattle.rule_words.specs.Picture.{Becomes};
-ghost use Rattle.rule_collect.specs.Tidy.{Untidy, Tidied};
-ghost use Rattle.rule_collect.specs.Collecting.{Good, Loose, Ready, Moved, Moving, Rooted, Collected};
+ghost use Rattle.sweep.specs.Collecting.{Good, Loose, Ready, Moved, Moving, Rooted, Collected};
+ghost use Rattle.rule_collect.specs.Tidy.{form, Untidy, Tidied};
 
 // The copy of a branch, made where there is none.
 fn copy_branch(t: &mut [u32], b: u32) -> u32
-    requires { ⌜ (Ready (now t)) × (Good (now t) b) ⌝ }
-    ensures { λ r. ⌜ Moved (now (t .entry)) (now (t .exit)) b r ⌝ }
+    requires { ⌜ (Ready code (now t)) × (Good code (now t) (decode b .to)) ⌝ }
+    ensures { λ r. ⌜ Moved code (now (t .entry)) (now (t .exit)) (decode b .to) (decode r .to) ⌝ }
 {
     if b < 65536 {
         return b;
@@ -35,8 +35,8 @@ fn copy_branch(t: &mut [u32], b: u32) -> u32
 
 // The copies of node i's branches in turn, 0 past them.
 fn copy_list(t: &mut [u32], i: usize) -> [u32; 12]
-    requires { ⌜ (Ready (now t)) × (i < count (now t)) ⌝ }
-    ensures { λ r. ⌜ Moving (now (t .entry)) (now (t .exit)) i (size (now (t .entry)) (feature (now (t .entry)) i)) r ⌝ }
+    requires { ⌜ (Ready code (now t)) × (i < count (now t)) ⌝ }
+    ensures { λ r. ⌜ Moving code (now (t .entry)) (now (t .exit)) i (size (now (t .entry)) (feature (now (t .entry)) i)) r ⌝ }
 {
     let m = wide(head_word(t, 3 + wide(record_word(t, i, 0))));
     let mut list = [0u32; 12];
@@ -51,8 +51,8 @@ fn copy_list(t: &mut [u32], i: usize) -> [u32; 12]
 
 // Copies from each root in turn, and sets the root to the copy.
 fn copy_roots(t: &mut [u32])
-    requires { ⌜ Loose (now t) ⌝ }
-    ensures { λ _. ⌜ Rooted (now (t .entry)) (now (t .exit)) ⌝ }
+    requires { ⌜ Loose form (now t) ⌝ }
+    ensures { λ _. ⌜ Rooted form (now (t .entry)) (now (t .exit)) ⌝ }
 {
     let mut p: usize = 0;
     while p < 32 {
@@ -66,7 +66,7 @@ fn copy_roots(t: &mut [u32])
 // Only the nodes that the roots reach stay, in the order of the rules built in turn. The chain heads are 0 afterwards.
 fn collect(t: &mut [u32])
     requires { ⌜ Untidy (now t) ⌝ }
-    ensures { λ _. ⌜ Collected (now (t .entry)) (now (t .exit)) ⌝ }
+    ensures { λ _. ⌜ Collected form (now (t .entry)) (now (t .exit)) ⌝ }
 {
     clear_heads(t);
     copy_roots(t);

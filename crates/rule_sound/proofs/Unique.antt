@@ -1,17 +1,21 @@
--- Capacity, feature list and rules decide every word of a table; the words past them decide nothing. Assumes nothing.
+-- Capacity, feature list and rules decide every word of a table; the words past them decide nothing; no other kind's table is one. Assumes nothing.
 use mathlib.Core.Path.{_≡_}
 use mathlib.Core.List.{List}
 use Prim.Native.Nat.{ℕ, _≤_, _<_}
 use lib.ListN.{length, getD}
 use Rattle.theory.specs.Functions.{Agree, zero-fun}
 use Rattle.theory.specs.Rules.{Rule}
-use Rattle.words.specs.Words.{capacity, sizes, bound}
+use Rattle.words.specs.Words.{kind, capacity, sizes, bound}
 use Rattle.words.proofs.Picture as P
 use Rattle.words.proofs.Picture.{shows-ext}
 use Rattle.rule_words.specs.Words.{rulesOf}
 use Rattle.rule_words.specs.Picture.{Pictures}
 use Rattle.rule_sound.specs.Sound.{Sound}
 use Rattle.rule_sound.proofs.Pictures.{sound-pictures, sound-proper, picture-sound, picture-rules}
+
+-- THEOREM: the kind word is 1, that of a sound cost table 2
+pub sound-kind : {w : List ℕ} → Sound w → kind w ≡ 1
+sound-kind s = s .header .kind
 
 -- THEOREM: pictures of rules that agree place by place are equal, word for word
 pub one-picture : {cap : ℕ} {S : List ℕ} (gs hs : List Rule) {w w′ : List ℕ} → Pictures cap S gs w → Pictures cap S hs w′ → length gs ≡ length hs

@@ -2,17 +2,17 @@
 use mathlib.Core.Path.{_≡_}
 use mathlib.Core.List.{List}
 use mathlib.Core.Option.{some}
-use Prim.Native.Nat.{ℕ, _+_, _*_, _-_, _≤_, _<_}
+use Prim.Native.Nat.{ℕ, _+_, _*_, _<_}
 use Rattle.theory.specs.Walk.{scan, scans}
 use Rattle.words.specs.Words.{features, size, count, sizes, feature, body, Zeros}
 use Rattle.rule_words.specs.Words.{nodes, root, roots}
 use Rattle.checks.specs.Header.{Header}
 use Rattle.checks.specs.Chained.{Chained}
+use Rattle.checks.specs.Sits as S
 
 -- the word b says a phrase, or a node below m of feature k or higher
-pub record Sits (w : List ℕ) (m k b : ℕ) : Type 0 where
-  pub below : b < 65536 + m
-  pub above : 65536 ≤ b → k ≤ feature w (b - 65536)
+abbrev pub Sits : List ℕ → ℕ → ℕ → ℕ → Type 0
+Sits w m k b = S.Sits 65536 w m k b
 
 -- each branch of node i is a phrase or an earlier node of a higher feature
 pub record Lower (w : List ℕ) (i : ℕ) : Type 0 where

@@ -1,8 +1,7 @@
 // The soundness test of a rule table. It reads any slice, and writes nothing.
 ghost use mathlib.Core.Path.{_≡_};
 ghost use mathlib.Core.Option.{some};
-ghost use Prim.Native.Nat.{_+_, _*_, _≤_, _<_};
-ghost use lib.ListN.{length};
+ghost use Prim.Native.Nat.{_≤_, _<_};
 ghost use Rattle.theory.specs.Walk.{scan, scans};
 ghost use Rattle.words.specs.Words.{features, count, sizes, feature};
 ghost use Rattle.rule_words.specs.Words.{nodes, roots};
@@ -12,26 +11,12 @@ ghost use Rattle.rule_sound.specs.Sound.{Sits, Lower, Alike, NodeOk, Nod
 ghost use Rattle.rule_sound.specs.Walk.{Ordered, Visits, VisitsAll};
 use checks::chains_ok;
 use checks::header_ok;
+use checks::sits;
 use checks::zeros;
 use rule_words::root_word;
 use words::head_word;
 use words::record_word;
 use words::wide;
-
-// Whether the word b says a phrase, or a node below m of feature k or higher.
-fn sits(t: &[u32], m: usize, k: usize, b: u32) -> bool
-    requires { ⌜ (8192 + 16 * m ≤ length (now t)) × (m ≤ 4096) ⌝ }
-    ensures { λ r. ⌜ Tells r (Sits (now (t .entry)) m k b) ⌝ }
-{
-    if b < 65536 {
-        return true;
-    }
-    let j = wide(b - 65536);
-    if m <= j {
-        return false;
-    }
-    k <= wide(record_word(t, j, 0))
-}
 
 // Whether each branch of node i is a phrase or an earlier node of a higher feature.
 fn lower(t: &[u32], i: usize) -> bool
@@ -42,7 +27,7 @@ fn lower(t: &[u32], i: usize) -> bool
     let s = wide(head_word(t, 3 + k));
     let mut v: usize = 0;
     while v < s {
-        if !sits(t, i, k + 1, record_word(t, i, 1 + v)) {
+        if !sits(t, 65536, i, k + 1, record_word(t, i, 1 + v)) {
             return false;
         }
         v += 1;
@@ -114,7 +99,7 @@ fn roots_ok(t: &[u32]) -> bool
     let n = wide(head_word(t, 19));
     let mut p: usize = 0;
     while p < 32 {
-        if !sits(t, n, 0, root_word(t, p)) {
+        if !sits(t, 65536, n, 0, root_word(t, p)) {
             return false;
         }
         p += 1;

@@ -2,3 +2,9 @@ pub mod Clearing
 pub mod Writing
 pub mod Bringing
 pub mod Relinking
+pub mod Framing
+pub mod Copying
+pub mod Placing
+pub mod Collecting
+pub mod Tidying
+pub mod Finishing

@@ -82,7 +82,3 @@ relinked {w} {t} i e k =
       heads = λ h g. k .heads h g ∙ ap (lastOf (hashAt w) h) e;
       after = k .after;
     }
-
--- the hashes are kept
-pub relinked-hash : {w w′ : List ℕ} → Relinked w w′ → (i : ℕ) → i < count w → hashAt w′ i ≡ hashAt w i
-relinked-hash {w} {w′} r i h = hashAt-ext w w′ i (λ j l. r .words i j h (omega arith) (omega arith))

@@ -1,13 +1,13 @@
 -- What the stores of one copy leave. Assumes nothing.
-use mathlib.Core.Path.{_≡_, subst, _∙_}
+use mathlib.Core.Path.{_≡_, _∙_}
 use mathlib.Core.Logic.{⊎-elim}
 use mathlib.Core.List.{List}
-use Prim.Native.Nat.{ℕ, suc, _+_, _-_, _*_, _/_, _%_, _≤_, _<_}
+use Prim.Native.Nat.{ℕ, suc, _+_, _-_, _*_, _≤_, _<_}
 use native.Mathlib.Omega.{arith}
 use lib.ListN.{length, getD, set, length-set}
 use lib.Seq.{getD-set-same, getD-set-other}
 use Rattle.words.specs.Words.{word, head, capacity}
-use Rattle.words.proofs.Tab.{same, split}
+use Rattle.words.proofs.Tab.{same}
 use Rattle.sweep.specs.Marks.{done, mark}
 use Rattle.sweep.specs.Sweeping.{Spare, Put}
 
@@ -66,23 +66,6 @@ module _ (w t l : List ℕ) (base i k x y : ℕ) (eb : base ≡ 8192 + 16 * (cap
         after = λ j h. outside j (omega arith) (omega arith) ∙ rest j (omega arith) ∙ getD-set-other w base j k 0 (omega arith);
       }
 
--- ---- what one copy keeps
--- the other marks
+-- one copy keeps the other marks
 pub put-marks : {w w′ : List ℕ} {i : ℕ} {l : List ℕ} → Put w w′ i l → (n : ℕ) → n < 4096 → (n ≡ i → ⊥) → mark w′ n ≡ mark w n
 put-marks p n h q = p .low (4096 + n) (omega arith) (omega arith) (omega (arith, q))
-
--- every record before the new one
-pub put-records : {w w′ : List ℕ} {i : ℕ} {l : List ℕ} → Put w w′ i l → (n r : ℕ) → n < capacity w + done w → r < 16 → word w′ n r ≡ word w n r
-put-records {w} {w′} p n r h g = ⊎-elim
-    (λ a. p .near n r a g)
-    (λ a.
-    let e : capacity w + (n - capacity w) ≡ n = omega arith in
-    subst (λ (x : ℕ). word w′ x r ≡ word w x r) e (p .old (n - capacity w) r (omega arith) g))
-    (split n (capacity w))
-
--- every word of them
-pub put-before : {w w′ : List ℕ} {i : ℕ} {l : List ℕ} → Put w w′ i l → (j : ℕ) → 8192 ≤ j → j < 8192 + 16 * (capacity w + done w) → getD w′ j 0 ≡ getD w j 0
-unfolding word
-put-before {w} {w′} p j h g =
-    let e : 8192 + 16 * ((j - 8192) / 16) + (j - 8192) % 16 ≡ j = omega arith in
-    subst (λ (x : ℕ). getD w′ x 0 ≡ getD w x 0) e (put-records p ((j - 8192) / 16) ((j - 8192) % 16) (omega arith) (omega arith))

@@ -1,2 +1,5 @@
 pub mod Marks
 pub mod Sweeping
+pub mod Form
+pub mod Collecting
+pub mod Tidy

@@ -1,7 +1,10 @@
 -- `rule_collect::copy_branch` and `copy_list` meet their contracts: a branch word of a node says an earlier node, so the measures fall; the first v branches are copied (Moving). Assumes nothing.
-use Rattle.rule_collect.proofs.Copying.{marked-small, moved-phrase, moved-marked, moving-none, moving-more, spare-for, moved-new}
-use Rattle.rule_collect.proofs.Framing.{few, known, good-below, value-small, still-good, still-below}
-use Rattle.rule_collect.specs.Collecting.{Moving}
+use Rattle.rule_collect.proofs.Copying.{good-below, moved-phrase, moved-index, moving-none, next-below, moving-more}
+use Rattle.rule_words.specs.Words.{code}
+use Rattle.rule_words.proofs.Reading.{faithful}
+use Rattle.sweep.specs.Collecting.{Moving}
+use Rattle.sweep.proofs.Copying.{marked-small, done-small, moved-marked, spare-for, moved-new}
+use Rattle.sweep.proofs.Framing.{few, known, value-small, still-good}
 use Rattle.words.specs.Words.{size, feature}
 use lib.ListN.{length, length-set, getD-replicate}
 use native.Mathlib.Numerals.{add-one}
@@ -69,7 +72,7 @@ copy-branch-head-word-requires t c κs = let a = (c .before .before .before .bef
 copy-branch-add-result : (t : ℕ) → copy-branch-lts.Need-add-result (copy-branch-claims t) (copy-branch-at t) copy-branch.Post
 copy-branch-add-result t c = let a = (c .before .before .before .before .before .before) in
     let g = good-below (a .args .t .now) (a .args .b) (a .pre .1 .1) in
-    omega (arith, marked-small (a .pre .1 .0) ((c .before .before .before .wide) .result) ((c .before .head-word) .result) (omega arith) ((c .before .head-word) .ensures))
+    omega (arith, marked-small (a .pre .1 .0) ((c .before .before .before .wide) .result) ((c .before .head-word) .result) (omega arith) ((c .before .head-word) .ensures), done-small (a .pre .1 .0), a .pre .1 .0 .framed .within, a .pre .1 .0 .framed .most)
 
 copy-branch-same-length : (t : ℕ) → copy-branch-lts.Need-same-length (copy-branch-claims t) (copy-branch-at t) copy-branch.Post
 copy-branch-same-length t c = search needs
@@ -77,7 +80,7 @@ copy-branch-same-length t c = search needs
 copy-branch-returns-2 : (t : ℕ) → copy-branch-lts.Need-returns-2 (copy-branch-claims t) (copy-branch-at t) copy-branch.Post
 copy-branch-returns-2 t c = let a = (c .before .before .before .before .before .before) in
     let g = good-below (a .args .t .now) (a .args .b) (a .pre .1 .1) in
-    moved-marked ((c .before .before .before .wide) .result) ((c .before .head-word) .result) (a .pre .1 .0) (omega arith) (omega arith) ((c .before .head-word) .ensures) ((c .if2) .taken)
+    moved-index _ _ ((c .before .before .before .wide) .result) ((c .before .head-word) .result - 1) (omega arith) (omega arith) (moved-marked ((c .before .before .before .wide) .result) ((c .before .head-word) .result - 1) (a .pre .1 .0) (omega arith) (omega (arith, (c .before .head-word) .ensures)))
 
 copy-branch-copy-list-requires : (t : ℕ) → copy-branch-lts.Need-copy-list-requires (copy-branch-claims t) (copy-branch-at t) copy-branch.Post
 copy-branch-copy-list-requires t c κs = let a = (c .before .before .before .before .before .before .before) in
@@ -88,20 +91,20 @@ copy-branch-add-copy-requires : (t : ℕ) → copy-branch-lts.Need-add-copy-requ
 copy-branch-add-copy-requires t c κs = let a = (c .before .before .before .before .before .before .before .before .before .before .before) in
     let g = good-below (a .args .t .now) (a .args .b) (a .pre .1 .1) in
     let z : (c .before .before .before .before .before .before .head-word) .result ≡ 0 = omega arith in
-    spare-for (a .pre .1 .0) (omega arith) (sym ((c .before .before .before .before .before .before .head-word) .ensures) ∙ z) ((c .before .before .before .copy-list) .ensures)
+    spare-for faithful (a .pre .1 .0) (omega arith) (sym ((c .before .before .before .before .before .before .head-word) .ensures) ∙ z) ((c .before .before .before .copy-list) .ensures)
 
 copy-branch-narrow-requires : (t : ℕ) → copy-branch-lts.Need-narrow-requires (copy-branch-claims t) (copy-branch-at t) copy-branch.Post
 copy-branch-narrow-requires t c κs = let a = (c .before .before .before .before .before .before .before .before .before .before .before .before .before .before) in
     let g = good-below (a .args .t .now) (a .args .b) (a .pre .1 .1) in
     let z : (c .before .before .before .before .before .before .before .before .before .head-word) .result ≡ 0 = omega arith in
-    let s = spare-for (a .pre .1 .0) (omega arith) (sym ((c .before .before .before .before .before .before .before .before .before .head-word) .ensures) ∙ z) ((c .before .before .before .before .before .before .copy-list) .ensures) in
+    let s = spare-for faithful (a .pre .1 .0) (omega arith) (sym ((c .before .before .before .before .before .before .before .before .before .head-word) .ensures) ∙ z) ((c .before .before .before .before .before .before .copy-list) .ensures) in
     omega (arith, s .free, s .most, (c .before .before .add-copy) .ensures .0)
 
 copy-branch-add-result-2 : (t : ℕ) → copy-branch-lts.Need-add-result-2 (copy-branch-claims t) (copy-branch-at t) copy-branch.Post
 copy-branch-add-result-2 t c = let a = (c .before .before .before .before .before .before .before .before .before .before .before .before .before .before .before) in
     let g = good-below (a .args .t .now) (a .args .b) (a .pre .1 .1) in
     let z : (c .before .before .before .before .before .before .before .before .before .before .head-word) .result ≡ 0 = omega arith in
-    let s = spare-for (a .pre .1 .0) (omega arith) (sym ((c .before .before .before .before .before .before .before .before .before .before .head-word) .ensures) ∙ z) ((c .before .before .before .before .before .before .before .copy-list) .ensures) in
+    let s = spare-for faithful (a .pre .1 .0) (omega arith) (sym ((c .before .before .before .before .before .before .before .before .before .before .head-word) .ensures) ∙ z) ((c .before .before .before .before .before .before .before .copy-list) .ensures) in
     omega (arith, s .free, s .most, (c .before .before .before .add-copy) .ensures .0, (c .narrow) .ensures)
 
 copy-branch-same-length-2 : (t : ℕ) → copy-branch-lts.Need-same-length-2 (copy-branch-claims t) (copy-branch-at t) copy-branch.Post
@@ -111,11 +114,11 @@ copy-branch-returns-3 : (t : ℕ) → copy-branch-lts.Need-returns-3 (copy-branc
 copy-branch-returns-3 t c = let a = (c .before .before .before .before .before .before .before .before .before .before .before .before .before .before .before) in
     let g = good-below (a .args .t .now) (a .args .b) (a .pre .1 .1) in
     let z : (c .before .before .before .before .before .before .before .before .before .before .head-word) .result ≡ 0 = omega arith in
-    moved-new (a .pre .1 .0) (omega arith) (sym ((c .before .before .before .before .before .before .before .before .before .before .head-word) .ensures) ∙ z) ((c .before .before .before .before .before .before .before .copy-list) .ensures) ((c .before .before .before .add-copy) .ensures .1) _ _ (omega arith)
-    (ap (λ (n : ℕ). 65536 + n) ((c .narrow) .ensures ∙ (c .before .before .before .add-copy) .ensures .0))
+    moved-index _ _ _ _ (omega arith) (ap (λ (n : ℕ). 65536 + n) ((c .narrow) .ensures ∙ (c .before .before .before .add-copy) .ensures .0))
+    (moved-new faithful (a .pre .1 .0) (omega arith) (sym ((c .before .before .before .before .before .before .before .before .before .before .head-word) .ensures) ∙ z) ((c .before .before .before .before .before .before .before .copy-list) .ensures) ((c .before .before .before .add-copy) .ensures .1))
 
 abbrev copy-list-Inv-loop : copy-list-lts.InvT-loop
-copy-list-Inv-loop t₀ i m list₀ v₀ t list v = (m ≡ size t₀ (feature t₀ i)) × (v ≤ m) × Moving t₀ t i v list × (length list ≡ 12)
+copy-list-Inv-loop t₀ i m list₀ v₀ t list v = (m ≡ size t₀ (feature t₀ i)) × (v ≤ m) × Moving code t₀ t i v list × (length list ≡ 12)
 
 abbrev copy-list-μ-loop : copy-list-lts.MeasureT-loop
 copy-list-μ-loop t₀ i m list₀ v₀ t list v = m - v
@@ -150,15 +153,15 @@ copy-list-record-word-requires-2 : (t : ℕ) → copy-list-lts.Need-record-word-
 copy-list-record-word-requires-2 t c κs = let a = (c .before .before .before .before .before .before .before .before .before) in let l = (c .before .before .loop) in
     let f = a .pre .1 .0 .framed in
     let s : l .v < 8 = value-small f (a .args .i) (l .v) (a .pre .1 .1) (omega arith) in
-    (omega (arith, f .room, f .within, l .inv .2 .still .steady .long), omega (arith, f .most, f .within), omega arith)
+    (omega (arith, f .room, f .within, l .inv .2 .turning .still .steady .long), omega (arith, f .most, f .within), omega arith)
 
 copy-list-copy-branch-requires : (t : ℕ) → copy-list-lts.Need-copy-branch-requires (copy-list-claims t) (copy-list-at t) copy-list.Post copy-list-Inv-loop copy-list-μ-loop
 copy-list-copy-branch-requires t c κs = let a = (c .before .before .before .before .before .before .before .before .before .before .before) in let l = (c .before .before .before .before .loop) in
     let f = a .pre .1 .0 .framed in
-    let k = l .inv .2 .still .steady in
+    let k = l .inv .2 .turning .still .steady in
     let hv : l .v < size (a .args .t .now) (feature (a .args .t .now) (a .args .i)) = omega arith in (
-      omega (arith, (c .before .record-word2) .ensures, still-below f k (a .args .i) (l .v) (a .pre .1 .1) hv),
-      (l .inv .2 .still .ready, rw ((c .before .record-word2) .ensures) (still-good f k (a .args .i) (l .v) (a .pre .1 .1) hv)),
+      omega (arith, next-below _ (a .pre .1 .0) (a .pre .1 .1) hv (l .inv .3) (l .inv .2) ((c .before .record-word2) .ensures)),
+      (l .inv .2 .turning .still .ready, rw ((c .before .record-word2) .ensures) (still-good faithful f k (a .args .i) (l .v) (a .pre .1 .1) hv)),
     )
 
 copy-list-mul-list : (t : ℕ) → copy-list-lts.Need-mul-list (copy-list-claims t) (copy-list-at t) copy-list.Post copy-list-Inv-loop copy-list-μ-loop
@@ -178,7 +181,7 @@ copy-list-loop-again : (t : ℕ) → copy-list-lts.Need-loop-again (copy-list-cl
 copy-list-loop-again t c = let a = (c .before .before .before .before .before .before .before .before .before .before .before .before .before .before) in let l = (c .before .before .before .before .before .before .before .loop) in (
   l .inv .0,
   omega arith,
-  rw add-one (moving-more _ _ (a .pre .1 .0) (a .pre .1 .1) (omega arith) (l .inv .3) (l .inv .2) ((c .before .before .before .before .record-word2) .ensures) ((c .before .before .copy-branch) .ensures)),
+  rw add-one (moving-more _ (a .pre .1 .0) (a .pre .1 .1) (omega arith) (l .inv .3) (l .inv .2) ((c .before .before .before .before .record-word2) .ensures) _ ((c .before .before .copy-branch) .ensures)),
   simp length-set (l .inv .3),
 )
 

@@ -1,5 +1,6 @@
 -- `rule_collect::collect` meets its contract: cleared heads mark no node, the roots are copied, the copies stand in the nodes' place. Assumes nothing.
-use Rattle.rule_collect.proofs.Bringing.{cleared-loose, rooted-from, full-of, collected}
+use Rattle.sweep.proofs.Collecting.{cleared-loose, rooted-from, full-of, collected}
+use Rattle.rule_collect.proofs.Forming.{regular}
 use native.Mathlib.Omega.{arith}
 use borrow.Author.Needs.{needs}
 use Rattle.rule_collect.proofs.collect.Statement.{statement}
@@ -9,7 +10,7 @@ clear-heads-requires : tie.Need-clear-heads-requires
 clear-heads-requires c κs = omega (arith, (c .before .before) .pre .room)
 
 copy-roots-requires : tie.Need-copy-roots-requires
-copy-roots-requires c κs = cleared-loose ((c .before .before .before .before .before .before) .pre) ((c .before .before .before .clear-heads) .ensures)
+copy-roots-requires c κs = cleared-loose regular ((c .before .before .before .before .before .before) .pre) ((c .before .before .before .clear-heads) .ensures)
 
 bring-back-requires : tie.Need-bring-back-requires
 bring-back-requires c κs = full-of ((c .before .before .before .copy-roots) .ensures .ready)
@@ -18,7 +19,7 @@ same-length : tie.Need-same-length
 same-length c = search needs
 
 returns : tie.Need-returns
-returns c = collected ((c .before .before .before .before .before .before .before .before .before .before .before .before .before) .pre) (rooted-from ((c .before .before .before .before .before .before .before .before .before .before .before .before .before) .pre) ((c .before .before .before .before .before .before .before .before .before .before .clear-heads) .ensures) ((c .before .before .before .before .before .before .copy-roots) .ensures)) ((c .before .before .bring-back) .ensures)
+returns c = collected regular ((c .before .before .before .before .before .before .before .before .before .before .before .before .before) .pre) (rooted-from regular ((c .before .before .before .before .before .before .before .before .before .before .before .before .before) .pre) ((c .before .before .before .before .before .before .before .before .before .before .clear-heads) .ensures) ((c .before .before .before .before .before .before .copy-roots) .ensures)) ((c .before .before .bring-back) .ensures)
 
 pub collect-spec : {M : Type 1} → statement M
 collect-spec =

@@ -1,5 +1,7 @@
 -- `rule_collect::copy_roots` meets its contract: the first p roots are copied and set (Rooting). Assumes nothing.
-use Rattle.rule_collect.proofs.Rooting.{Rooting, rooting-none, rooting-more, rooting-all, rooting-good}
+use Rattle.sweep.proofs.Placing.{Rooting, rooting-none, rooting-all, rooting-good}
+use Rattle.rule_collect.specs.Tidy.{form}
+use Rattle.rule_collect.proofs.Forming.{regular, rooting-next}
 use native.Mathlib.Numerals.{add-one}
 use native.Mathlib.Omega.{arith}
 use Prim.Native.Nat.{_-_, _≤_}
@@ -9,7 +11,7 @@ use Rattle.rule_collect.proofs.copy_roots.Statement.{statement}
 use Rattle.rule_collect.proofs.copy_roots.Tie as tie
 
 abbrev Inv-loop : tie.InvT-loop
-Inv-loop t₀ p₀ t p = (p ≤ 32) × Rooting t₀ t p
+Inv-loop t₀ p₀ t p = (p ≤ 32) × Rooting form t₀ t p
 
 abbrev μ-loop : tie.MeasureT-loop
 μ-loop t₀ p₀ t p = 32 - p
@@ -24,7 +26,7 @@ head-word-requires : tie.Need-head-word-requires Inv-loop μ-loop
 head-word-requires c κs = let l = (c .before .before .loop) in omega (arith, l .inv .1 .ready .framed .room)
 
 copy-branch-requires : tie.Need-copy-branch-requires Inv-loop μ-loop
-copy-branch-requires c κs = let l = (c .before .before .before .before .loop) in (l .inv .1 .ready, rw ((c .before .head-word) .ensures) (rooting-good ((c .before .before .before .before .before .before) .pre) (l .inv .1) (omega arith)))
+copy-branch-requires c κs = let l = (c .before .before .before .before .loop) in (l .inv .1 .ready, rw ((c .before .head-word) .ensures) (rooting-good regular ((c .before .before .before .before .before .before) .pre) (l .inv .1) (omega arith)))
 
 add-t : tie.Need-add-t Inv-loop μ-loop
 add-t c = search needs
@@ -43,7 +45,7 @@ loop-less c = search needs
 
 loop-again : tie.Need-loop-again Inv-loop μ-loop
 loop-again c = let l = (c .before .before .before .before .before .before .before .loop) in
-    (omega arith, rw add-one (rooting-more _ _ ((c .before .before .before .before .before .before .before .before .before) .pre) (l .inv .1) (omega arith) ((c .before .before .before .before .head-word) .ensures) ((c .before .before .copy-branch) .ensures)))
+    (omega arith, rw add-one (rooting-next _ _ ((c .before .before .before .before .before .before .before .before .before) .pre) (l .inv .1) (omega arith) ((c .before .before .before .before .head-word) .ensures) ((c .before .before .copy-branch) .ensures)))
 
 same-length : tie.Need-same-length Inv-loop μ-loop
 same-length c = (c .before .loop) .inv .1 .steady .long

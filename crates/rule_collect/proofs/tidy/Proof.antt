@@ -1,5 +1,6 @@
 -- `rule_collect::tidy` meets its contract: what is collected has no chains, and chained anew it is the picture. Assumes nothing.
-use Rattle.rule_collect.proofs.Tidying.{bare-now, tidied}
+use Rattle.sweep.proofs.Tidying.{bare-now, tidied}
+use Rattle.rule_collect.proofs.Forming.{regular, in-range}
 use borrow.Author.Needs.{needs}
 use Rattle.rule_collect.proofs.tidy.Statement.{statement}
 use Rattle.rule_collect.proofs.tidy.Tie as tie
@@ -14,7 +15,7 @@ same-length : tie.Need-same-length
 same-length c = search needs
 
 returns : tie.Need-returns
-returns c = tidied ((c .before .before .before .before .before .before .before .before .before) .pre) ((c .before .before .before .before .before .before .collect) .ensures) ((c .before .before .relink) .ensures)
+returns c = tidied regular ((c .before .before .before .before .before .before .before .before .before) .pre) (in-range _) ((c .before .before .before .before .before .before .collect) .ensures) ((c .before .before .relink) .ensures)
 
 pub tidy-spec : {M : Type 1} → statement M
 tidy-spec = tie.close (tie.spec collect-requires relink-requires same-length returns)

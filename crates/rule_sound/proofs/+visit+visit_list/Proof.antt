@@ -1,6 +1,9 @@
 -- `rule_sound::visit` and `rule_sound::visit_list` meet their contracts: the branches passed are walked; a branch word is smaller than that of the node which has it. Assumes nothing.
-use Rattle.rule_sound.proofs.Walking.{visits-phrase, visits-done, visits-close, visits-lost, Walk, walk-none, walk-more, walk-lost, visits-all, visits-none, says-branch, sits-branch}
-use Rattle.rule_sound.specs.Walk.{scan-below}
+use Rattle.checks.specs.Walk.{scan-below}
+use Rattle.checks.proofs.Walking.{visits-end, visits-done, visits-close, visits-lost, Walk, walk-none, walk-more, walk-lost, visits-all, visits-none, says-branch}
+use Rattle.rule_sound.specs.Walk.{going}
+use Rattle.rule_sound.proofs.Sitting.{goes, ordered-wf}
+use Rattle.rule_sound.proofs.Walking.{sits-branch}
 use Rattle.words.specs.Words.{feature, size, count, body}
 use native.Mathlib.Omega.{arith}
 use Prim.Native.Nat.{ℕ, _+_, _-_, _*_, _≤_, _<_}
@@ -47,13 +50,13 @@ abbrev visit-list-claims : ℕ → visit-list-lts.Claims
 visit-list-claims t = (record-word-reads.Asked, record-word-reads.Learnt, wide-reads.Asked, wide-reads.Learnt, head-word-reads.Asked, head-word-reads.Learnt, visit-below t, visit.Post)
 
 visit-returns : (t : ℕ) → visit-lts.Need-returns (visit-claims t) (visit-at t) visit.Post
-visit-returns t c = visits-phrase ((c .if1) .taken) ((c .before .before) .pre .1 .2)
+visit-returns t c = visits-end goes _ ((c .if1) .taken) ((c .before .before) .pre .1 .2)
 
 visit-wide-requires : (t : ℕ) → visit-lts.Need-wide-requires (visit-claims t) (visit-at t) visit.Post
 visit-wide-requires t c κs = search needs
 
 visit-returns-2 : (t : ℕ) → visit-lts.Need-returns-2 (visit-claims t) (visit-at t) visit.Post
-visit-returns-2 t c = let p = (c .before .before .before .before) .pre .1 in visits-done _ _ ((c .before .wide) .result) (p .0) (omega arith) (omega (arith, p .1 .below)) ((c .if2) .taken) (p .2)
+visit-returns-2 t c = let p = (c .before .before .before .before) .pre .1 in visits-done goes _ _ _ ((c .before .wide) .result) (ordered-wf (p .0)) (omega (arith, p .0 .header .within, p .0 .header .most)) (omega arith) (omega (arith, p .1 .below)) ((c .if2) .taken) (p .2)
 
 visit-visit-list-requires : (t : ℕ) → visit-lts.Need-visit-list-requires (visit-claims t) (visit-at t) visit.Post
 visit-visit-list-requires t c κs = let p = (c .before .before .before .before) .pre .1 in (omega arith, (p .0, omega (arith, p .1 .below), p .2))
@@ -62,13 +65,13 @@ visit-add-result : (t : ℕ) → visit-lts.Need-add-result (visit-claims t) (vis
 visit-add-result t c = let p = (c .before .before .before .before .before .before) .pre .1 in omega (arith, p .1 .below, p .0 .header .within, p .0 .header .most)
 
 visit-returns-3 : (t : ℕ) → visit-lts.Need-returns-3 (visit-claims t) (visit-at t) visit.Post
-visit-returns-3 t c = let p = (c .before .before .before .before .before .before) .pre .1 in visits-close _ _ ((c .before .before .before .wide) .result) (p .0) (omega arith) (omega (arith, p .1 .below)) (omega arith) ((c .before .visit-list) .ensures) ((c .if3) .taken)
+visit-returns-3 t c = let p = (c .before .before .before .before .before .before) .pre .1 in visits-close goes _ _ _ ((c .before .before .before .wide) .result) (ordered-wf (p .0)) (omega (arith, p .0 .header .within, p .0 .header .most)) (omega arith) (omega (arith, p .1 .below)) (omega arith) ((c .before .visit-list) .ensures) ((c .if3) .taken)
 
 visit-returns-4 : (t : ℕ) → visit-lts.Need-returns-4 (visit-claims t) (visit-at t) visit.Post
-visit-returns-4 t c = let p = (c .before .before .before .before .before .before) .pre .1 in visits-lost _ _ ((c .before .before .before .wide) .result) (p .0) (omega arith) (omega (arith, p .1 .below)) (omega arith) ((c .before .visit-list) .ensures) ((c .if3) .left)
+visit-returns-4 t c = let p = (c .before .before .before .before .before .before) .pre .1 in visits-lost goes _ _ _ ((c .before .before .before .wide) .result) (ordered-wf (p .0)) (omega (arith, p .0 .header .within, p .0 .header .most)) (omega arith) (omega (arith, p .1 .below)) (omega arith) ((c .before .visit-list) .ensures) ((c .if3) .left)
 
 abbrev visit-list-Inv-loop : visit-list-lts.InvT-loop
-visit-list-Inv-loop t i c s d₀ v₀ d v = (s ≡ size t (feature t i)) × (v ≤ s) × Walk (scan-below t i) (body t i) (count t) c v d
+visit-list-Inv-loop t i c s d₀ v₀ d v = (s ≡ size t (feature t i)) × (v ≤ s) × Walk (scan-below going t i) (going .code .arm (body t i)) (count t) c v d
 
 abbrev visit-list-μ-loop : visit-list-lts.MeasureT-loop
 visit-list-μ-loop t i c s d₀ v₀ d v = s - v
@@ -105,7 +108,7 @@ visit-list-visit-requires t c κs = let p = (c .before .before .before .before .
 
 visit-list-returns : (t : ℕ) → visit-list-lts.Need-returns (visit-list-claims t) (visit-list-at t) visit-list.Post visit-list-Inv-loop visit-list-μ-loop
 visit-list-returns t c = let p = (c .before .before .before .before .before .before .before .before .before .before) .pre .1 in let l = (c .before .before .before .before .loop) in
-    visits-none (walk-lost ((c .before .visit) .result) (l .inv .2) (says-branch (p .0) _ (l .v) (p .1) (omega arith) ((c .before .before .record-word2) .ensures) ((c .before .visit) .ensures)) (omega (arith, p .0 .header .within, p .0 .header .most)) _ (omega arith) ((c .if1) .taken))
+    visits-none (walk-lost ((c .before .visit) .result) (l .inv .2) (says-branch goes _ (ordered-wf (p .0)) _ (l .v) (p .1) (omega arith) ((c .before .before .record-word2) .ensures) ((c .before .visit) .ensures)) (omega (arith, p .0 .header .within, p .0 .header .most)) _ (omega arith) ((c .if1) .taken))
 
 visit-list-add-v : (t : ℕ) → visit-list-lts.Need-add-v (visit-list-claims t) (visit-list-at t) visit-list.Post visit-list-Inv-loop visit-list-μ-loop
 visit-list-add-v t c = search needs
@@ -115,7 +118,7 @@ visit-list-loop-less t c = search needs
 
 visit-list-loop-again : (t : ℕ) → visit-list-lts.Need-loop-again (visit-list-claims t) (visit-list-at t) visit-list.Post visit-list-Inv-loop visit-list-μ-loop
 visit-list-loop-again t c = let p = (c .before .before .before .before .before .before .before .before .before .before) .pre .1 in let l = (c .before .before .before .before .loop) in
-    (l .inv .0, omega arith, walk-more ((c .before .visit) .result) (l .inv .2) (says-branch (p .0) _ (l .v) (p .1) (omega arith) ((c .before .before .record-word2) .ensures) ((c .before .visit) .ensures)) (omega (arith, p .0 .header .within, p .0 .header .most)) (omega arith))
+    (l .inv .0, omega arith, walk-more ((c .before .visit) .result) (l .inv .2) (says-branch goes _ (ordered-wf (p .0)) _ (l .v) (p .1) (omega arith) ((c .before .before .record-word2) .ensures) ((c .before .visit) .ensures)) (omega (arith, p .0 .header .within, p .0 .header .most)) (omega arith))
 
 visit-list-returns-2 : (t : ℕ) → visit-list-lts.Need-returns-2 (visit-list-claims t) (visit-list-at t) visit-list.Post visit-list-Inv-loop visit-list-μ-loop
 visit-list-returns-2 t c = let l = (c .before .loop) in visits-all (l .v) (l .inv .2) (omega arith)

@@ -1,6 +1,7 @@
 -- `rule_sound::order_ok` meets its contract: the walk from the roots passed meets its nodes in turn. Assumes nothing.
-use Rattle.rule_sound.proofs.Walking.{Walk, walk-none, walk-more, walk-lost, says-root, order-lost, order-tells}
-use Rattle.rule_words.specs.Words.{nodes, root}
+use Rattle.checks.proofs.Walking.{Walk, walk-none, walk-more, walk-lost, order-lost, order-tells}
+use Rattle.rule_sound.proofs.Walking.{says-root, roots-are}
+use Rattle.rule_words.specs.Words.{decode, nodes, root}
 use Rattle.words.specs.Words.{count, sizes}
 use Rattle.theory.specs.Walk.{scan}
 use native.Mathlib.Omega.{arith}
@@ -11,7 +12,7 @@ use Rattle.rule_sound.proofs.order_ok.Statement.{statement}
 use Rattle.rule_sound.proofs.order_ok.Tie as tie
 
 abbrev Inv-loop : tie.InvT-loop
-Inv-loop t d₀ p₀ d p = (p ≤ 32) × Walk (scan (nodes t) 0 (sizes t)) (root t) (count t) 0 p d
+Inv-loop t d₀ p₀ d p = (p ≤ 32) × Walk (scan (nodes t) 0 (sizes t)) (λ q. decode (root t q)) (count t) 0 p d
 
 abbrev μ-loop : tie.MeasureT-loop
 μ-loop t d₀ p₀ d p = 32 - p
@@ -27,7 +28,7 @@ visit-requires c κs = let q = (c .before .before .before .before) .pre in let l
 
 returns : tie.Need-returns Inv-loop μ-loop
 returns c = let q = (c .before .before .before .before .before .before) .pre in let l = (c .before .before .before .before .loop) in
-    order-lost _ (walk-lost ((c .before .visit) .result) (l .inv .1) (says-root (q .1) (l .p) (omega arith) ((c .before .before .root-word) .ensures) ((c .before .visit) .ensures)) (omega (arith, q .0 .header .within, q .0 .header .most)) 32 (omega arith) ((c .if1) .taken))
+    order-lost _ _ 32 _ _ (roots-are _) (walk-lost ((c .before .visit) .result) (l .inv .1) (says-root (q .1) (l .p) (omega arith) ((c .before .before .root-word) .ensures) ((c .before .visit) .ensures)) (omega (arith, q .0 .header .within, q .0 .header .most)) 32 (omega arith) ((c .if1) .taken))
 
 add-p : tie.Need-add-p Inv-loop μ-loop
 add-p c = search needs
@@ -46,7 +47,7 @@ wide-requires : tie.Need-wide-requires Inv-loop μ-loop
 wide-requires c κs = search needs
 
 returns-2 : tie.Need-returns-2 Inv-loop μ-loop
-returns-2 c = let l = (c .before .before .before .loop) in order-tells _ (l .d) ((c .wide) .result) (l .p) (omega arith) (l .inv .1) ((c .wide) .ensures .0 ∙ (c .before .head-word) .ensures)
+returns-2 c = let l = (c .before .before .before .loop) in order-tells _ _ 32 _ _ (l .d) ((c .wide) .result) (l .p) (roots-are _) (omega arith) (l .inv .1) ((c .wide) .ensures .0 ∙ (c .before .head-word) .ensures)
 
 pub order-ok-spec : {M : Type 1} → statement M
 order-ok-spec =

@@ -1,11 +1,11 @@
--- `rule_sound::sits` meets its contract: a phrase always sits; a node does if it is in range and its feature is high enough. Assumes nothing.
-use Rattle.rule_sound.proofs.Sitting.{tells-sits}
+-- `checks::sits` meets its contract: an end always sits; a node does if it is in range and its feature is high enough. Assumes nothing.
+use Rattle.checks.proofs.Sitting.{tells-sits}
 use Rattle.words.specs.Words.{feature}
 use native.Mathlib.Omega.{arith}
 use mathlib.Core.Path.{ap, _∙_}
 use borrow.Author.Needs.{needs}
-use Rattle.rule_sound.proofs.sits.Statement.{statement}
-use Rattle.rule_sound.proofs.sits.Tie as tie
+use Rattle.checks.proofs.sits.Statement.{statement}
+use Rattle.checks.proofs.sits.Tie as tie
 
 returns : tie.Need-returns
 returns c = search needs
@@ -23,7 +23,7 @@ wide-requires-2 : tie.Need-wide-requires-2
 wide-requires-2 c κs = search needs
 
 returns-3 : tie.Need-returns-3
-returns-3 c = let a = (c .before .before .before .before .before .before) .args in tells-sits (a .t .now) (a .m) (a .k) (a .b) ((c .wide2) .result) (omega arith) (omega arith) ((c .wide2) .ensures .0 ∙ (c .before .record-word) .ensures ∙ ap (feature (a .t .now)) ((c .before .before .before .wide) .ensures .0))
+returns-3 c = let a = (c .before .before .before .before .before .before) .args in tells-sits (a .first) (a .t .now) (a .m) (a .k) (a .b) ((c .wide2) .result) (omega arith) (omega arith) ((c .wide2) .ensures .0 ∙ (c .before .record-word) .ensures ∙ ap (feature (a .t .now)) ((c .before .before .before .wide) .ensures .0))
 
 pub sits-spec : {M : Type 1} → statement M
 sits-spec =

@@ -1,0 +1,93 @@
+/* How much stack the calls take, on rules whose nodes lie sixteen deep: how far below its caller's frame a call touches a thread's
+   painted stack. */
+#include "lampgrotto.h"
+#include <pthread.h>
+#include <stdio.h>
+#include <stdlib.h>
+#include <string.h>
+
+enum { CAPACITY = 512, WORDS = 32 * CAPACITY + 8192, SCRATCH = 8192, LENT = 1 << 20, PAINT = 0xa5 };
+enum { FIRST, SECOND, LITERAL, RESULT }; /* places */
+static uint32_t words[WORDS], scratch[SCRATCH], out[16];
+static uint8_t sheet[8192];
+static size_t sheet_length;
+static const uint8_t features[16] = {8, 8, 8, 8, 8, 8, 8, 8, 8, 8, 8, 8, 8, 8, 8, 8}, setting[16];
+static const uint32_t branches[8] = {SECOND, FIRST, SECOND, FIRST, SECOND, FIRST, SECOND, FIRST};
+
+static void expect(int holds, const char *what) {
+    if (holds) return;
+    printf("%s: wrong\n", what);
+    exit(1);
+}
+
+/* the place gets 1 where an odd number of features have values of the set */
+static void odd(size_t place, uint32_t bits) {
+    expect(!lampgrotto_constant(words, WORDS, place, 0), "constant");
+    for (size_t k = 0; k < 16; k++) {
+        expect(!lampgrotto_literal(words, WORDS, LITERAL, k, bits, out, 1), "literal");
+        expect(!lampgrotto_apply(words, WORDS, scratch, SCRATCH, place, 5, place, LITERAL), "apply");
+    }
+}
+
+/* ---- each call as all that a thread does */
+static uint8_t *frame;
+static uint32_t ending;
+#define THREAD(name, call) \
+    static void *name(void *none) { \
+        frame = __builtin_frame_address(0); \
+        ending = call; \
+        return none; \
+    }
+THREAD(phone, lampgrotto_look_up(sheet, sheet_length, setting, 16))
+THREAD(looking, lampgrotto_rule_look_up(words, WORDS, FIRST, setting, 16, out, 1))
+THREAD(constant, lampgrotto_constant(words, WORDS, RESULT, 7))
+THREAD(literal, lampgrotto_literal(words, WORDS, RESULT, 0, 5, out, 1))
+THREAD(applying, lampgrotto_apply(words, WORDS, scratch, SCRATCH, RESULT, 1, FIRST, SECOND))
+THREAD(choosing, lampgrotto_case(words, WORDS, scratch, SCRATCH, RESULT, FIRST, branches, 8))
+THREAD(forgetting, lampgrotto_forget(words, WORDS, scratch, SCRATCH, RESULT, FIRST, 15))
+THREAD(restricting, lampgrotto_restrict(words, WORDS, RESULT, FIRST, 15, 1))
+THREAD(counting, lampgrotto_count(words, WORDS, FIRST, 1, out, 2))
+THREAD(meeting, lampgrotto_next(words, WORDS, FIRST, 1, setting, 16, out, 16))
+THREAD(tallying, lampgrotto_tally(words, WORDS, out, 1))
+THREAD(writing, lampgrotto_write(words, WORDS, FIRST, sheet, sizeof sheet, out, 1))
+THREAD(reading, lampgrotto_read(words, WORDS, RESULT, sheet, sheet_length))
+
+static size_t stack_of(void *(*call)(void *)) {
+    static uint8_t stack[LENT] __attribute__((aligned(4096)));
+    pthread_attr_t attributes;
+    pthread_t thread;
+    uint8_t *low = stack;
+    memset(stack, PAINT, sizeof stack);
+    expect(!pthread_attr_init(&attributes) && !pthread_attr_setstack(&attributes, stack, sizeof stack), "stack");
+    expect(!pthread_create(&thread, &attributes, call, NULL) && !pthread_join(thread, NULL), "thread");
+    while (*low == PAINT) low++;
+    return (size_t)(frame - low);
+}
+
+static void row(const char *name, void *(*call)(void *)) {
+    size_t bytes = stack_of(call);
+    expect(ending == 0, name);
+    printf("| %s | %zu |\n", name, bytes);
+}
+
+int main(void) {
+    expect(!lampgrotto_open(words, WORDS, features, 16, CAPACITY), "open");
+    odd(FIRST, 1);
+    odd(SECOND, 2);
+    printf("| call | bytes of stack |\n|---|---|\n");
+    row("look up", looking);
+    row("constant", constant);
+    row("literal", literal);
+    row("apply", applying);
+    row("CASE", choosing);
+    row("forget", forgetting);
+    row("restrict", restricting);
+    row("count", counting);
+    row("next", meeting);
+    row("tally", tallying);
+    row("write", writing);
+    sheet_length = out[0];
+    row("read", reading);
+    row("the phone's look up", phone);
+    return 0;
+}

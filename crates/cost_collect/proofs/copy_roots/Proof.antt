@@ -1,0 +1,69 @@
+-- `cost_collect::copy_roots` meets its contract: the first p roots are copied and set (Rooting). Assumes nothing.
+use Rattle.sweep.proofs.Placing.{Rooting, rooting-none, rooting-all, rooting-good}
+use Rattle.cost_collect.specs.Tidy.{form}
+use Rattle.cost_collect.proofs.Forming.{regular, rooting-next}
+use native.Mathlib.Numerals.{add-one}
+use native.Mathlib.Omega.{arith}
+use Prim.Native.Nat.{_-_, _≤_}
+use mathlib.Core.Path.{_≡_}
+use borrow.Author.Needs.{needs}
+use Rattle.cost_collect.proofs.copy_roots.Statement.{statement}
+use Rattle.cost_collect.proofs.copy_roots.Tie as tie
+
+abbrev Inv-loop : tie.InvT-loop
+Inv-loop t₀ p₀ t p = (p ≤ 16) × Rooting form t₀ t p
+
+abbrev μ-loop : tie.MeasureT-loop
+μ-loop t₀ p₀ t p = 16 - p
+
+loop-holds : tie.Need-loop-holds Inv-loop μ-loop
+loop-holds c = (omega arith, rooting-none ((c .before) .pre))
+
+root-word-requires : tie.Need-root-word-requires Inv-loop μ-loop
+root-word-requires c κs = let l = (c .before .before .loop) in (omega (arith, l .inv .1 .ready .framed .room), omega arith)
+
+copy-target-requires : tie.Need-copy-target-requires Inv-loop μ-loop
+copy-target-requires c κs = let l = (c .before .before .before .before .loop) in (l .inv .1 .ready, rw ((c .before .root-word) .ensures) (rooting-good regular ((c .before .before .before .before .before .before) .pre) (l .inv .1) (omega arith)))
+
+add-t : tie.Need-add-t Inv-loop μ-loop
+add-t c = search needs
+
+mul-t : tie.Need-mul-t Inv-loop μ-loop
+mul-t c = search needs
+
+slice-write-t : tie.Need-slice-write-t Inv-loop μ-loop
+slice-write-t c = let m = (c .before .before .copy-target) .ensures .0 in omega (arith, m .still .ready .framed .room)
+
+add-p : tie.Need-add-p Inv-loop μ-loop
+add-p c = search needs
+
+loop-less : tie.Need-loop-less Inv-loop μ-loop
+loop-less c = search needs
+
+loop-again : tie.Need-loop-again Inv-loop μ-loop
+loop-again c = let l = (c .before .before .before .before .before .before .before .loop) in
+    (omega arith, rw add-one (rooting-next _ _ ((c .before .before .before .before .before .before .before .before .before) .pre) (l .inv .1) (omega arith) ((c .before .before .before .before .root-word) .ensures) ((c .before .before .copy-target) .ensures .0)))
+
+same-length : tie.Need-same-length Inv-loop μ-loop
+same-length c = (c .before .loop) .inv .1 .steady .long
+
+returns : tie.Need-returns Inv-loop μ-loop
+returns c = let l = (c .before .loop) in let e : l .p ≡ 16 = omega arith in rooting-all (rw e at (l .inv .1))
+
+pub copy-roots-spec : {M : Type 1} → statement M
+copy-roots-spec =
+    tie.close
+    (tie.spec
+    Inv-loop
+    μ-loop
+    loop-holds
+    root-word-requires
+    copy-target-requires
+    add-t
+    mul-t
+    slice-write-t
+    add-p
+    loop-less
+    loop-again
+    same-length
+    returns)

@@ -1,0 +1,41 @@
+-- `cost_collect::finish` meets its contract: with the place set the table is untidy, and tidied it is the picture with one cost replaced. Assumes nothing.
+use Rattle.sweep.proofs.Finishing.{finished}
+use Rattle.cost_collect.proofs.Forming.{regular, both-placed, placed-again}
+use native.Mathlib.Omega.{arith}
+use lib.ListN.{length-set}
+use mathlib.Core.Path.{_∙_}
+use borrow.Author.Needs.{needs}
+use Rattle.cost_collect.proofs.finish.Statement.{statement}
+use Rattle.cost_collect.proofs.finish.Tie as tie
+
+add-t : tie.Need-add-t
+add-t c = search needs
+
+mul-t : tie.Need-mul-t
+mul-t c = search needs
+
+slice-write-t : tie.Need-slice-write-t
+slice-write-t c = let a = (c .before) in omega (arith, a .pre .0 .untidy .room)
+
+add-t-2 : tie.Need-add-t-2
+add-t-2 c = search needs
+
+mul-t-2 : tie.Need-mul-t-2
+mul-t-2 c = search needs
+
+slice-write-t-2 : tie.Need-slice-write-t-2
+slice-write-t-2 c = let a = (c .before) in simp length-set (omega (arith, a .pre .0 .untidy .room))
+
+tidy-requires : tie.Need-tidy-requires
+tidy-requires c κs = let a = (c .before .before) in
+    placed-again (a .pre .0) (a .pre .1) (both-placed _ (a .args .p) (a .args .x) (a .args .a) (a .pre .1) (omega (arith, a .pre .0 .untidy .room))) (a .pre .2) (a .pre .3)
+
+same-length : tie.Need-same-length
+same-length c = (c .before .before .tidy) .ensures .long ∙ simp length-set
+
+returns : tie.Need-returns
+returns c = let a = (c .before .before .before .before .before) in
+    finished regular (a .pre .0 .untidy) (a .pre .1) (both-placed _ (a .args .p) (a .args .x) (a .args .a) (a .pre .1) (omega (arith, a .pre .0 .untidy .room))) _ ((c .before .before .tidy) .ensures)
+
+pub finish-spec : {M : Type 1} → statement M
+finish-spec = tie.close (tie.spec add-t mul-t slice-write-t add-t-2 mul-t-2 slice-write-t-2 tidy-requires same-length returns)

@@ -1,0 +1,151 @@
+-- `cost_sound::visit` and `cost_sound::visit_list` meet their contracts: the branches passed are walked; a target word is smaller than that of the node which has it. Assumes nothing.
+use Rattle.checks.specs.Walk.{scan-below}
+use Rattle.checks.proofs.Walking.{visits-end, visits-done, visits-close, visits-lost, Walk, walk-none, walk-more, walk-lost, visits-all, visits-none, says-branch}
+use Rattle.cost_sound.specs.Walk.{going}
+use Rattle.cost_sound.proofs.Sitting.{goes-on, ordered-wf, sits-branch}
+use Rattle.words.specs.Words.{feature, size, count, body}
+use native.Mathlib.Omega.{arith}
+use Prim.Native.Nat.{ℕ, _+_, _-_, _*_, _≤_, _<_}
+use mathlib.Core.Path.{_≡_, ap, _∙_}
+use borrow.Author.Needs.{needs}
+use borrow.Fn.Kinds.{In}
+use borrow.Fn.PlainCycle.{Measures, is, falls, and}
+use Rattle.cost_sound.proofs.visit.Reads as visit
+use Rattle.cost_sound.proofs.visit.Kinds as visit-kinds
+use Rattle.cost_sound.proofs.+visit+visit_list.Lts-visit as visit-lts
+use Rattle.cost_sound.proofs.visit_list.Reads as visit-list
+use Rattle.cost_sound.proofs.visit_list.Kinds as visit-list-kinds
+use Rattle.cost_sound.proofs.+visit+visit_list.Lts-visit_list as visit-list-lts
+use Rattle.cost_words.proofs.goes_to.Reads as goes-to-reads
+use Rattle.words.proofs.head_word.Reads as head-word-reads
+use Rattle.words.proofs.record_word.Reads as record-word-reads
+use Rattle.words.proofs.wide.Reads as wide-reads
+use Rattle.cost_sound.proofs.+visit+visit_list.{statement}
+use Rattle.cost_sound.proofs.+visit+visit_list.Tie.{close}
+
+abbrev μ-visit : Measures 1 visit-kinds.ps ℕ
+μ-visit κs a = 2 * a .1 .0 + 1
+
+abbrev μ-visit-list : Measures 1 visit-list-kinds.ps ℕ
+μ-visit-list κs a = 2 * (1 + a .1 .0)
+
+abbrev visit-at : ℕ → In 1 visit-kinds.ps
+visit-at t = and 1 visit-kinds.ps (is 1 visit-kinds.ps μ-visit t) visit.Pre
+
+abbrev visit-below : ℕ → In 1 visit-kinds.ps
+visit-below t = and 1 visit-kinds.ps (falls 1 visit-kinds.ps _<_ μ-visit t) visit.Pre
+
+abbrev visit-list-at : ℕ → In 1 visit-list-kinds.ps
+visit-list-at t =
+    and 1 visit-list-kinds.ps (is 1 visit-list-kinds.ps μ-visit-list t) visit-list.Pre
+
+abbrev visit-list-below : ℕ → In 1 visit-list-kinds.ps
+visit-list-below t =
+    and 1 visit-list-kinds.ps (falls 1 visit-list-kinds.ps _<_ μ-visit-list t) visit-list.Pre
+
+abbrev visit-claims : ℕ → visit-lts.Claims
+visit-claims t = (wide-reads.Asked, wide-reads.Learnt, visit-list-below t, visit-list.Post)
+
+abbrev visit-list-claims : ℕ → visit-list-lts.Claims
+visit-list-claims t = (record-word-reads.Asked, record-word-reads.Learnt, wide-reads.Asked, wide-reads.Learnt, head-word-reads.Asked, head-word-reads.Learnt, goes-to-reads.Asked, goes-to-reads.Learnt, visit-below t, visit.Post)
+
+visit-returns : (t : ℕ) → visit-lts.Need-returns (visit-claims t) (visit-at t) visit.Post
+visit-returns t c = visits-end goes-on _ ((c .if1) .taken) ((c .before .before) .pre .1 .2)
+
+visit-wide-requires : (t : ℕ) → visit-lts.Need-wide-requires (visit-claims t) (visit-at t) visit.Post
+visit-wide-requires t c κs = search needs
+
+visit-returns-2 : (t : ℕ) → visit-lts.Need-returns-2 (visit-claims t) (visit-at t) visit.Post
+visit-returns-2 t c = let p = (c .before .before .before .before) .pre .1 in visits-done goes-on _ _ _ ((c .before .wide) .result) (ordered-wf (p .0)) (omega (arith, p .0 .header .within, p .0 .header .most)) (omega arith) (omega (arith, p .1 .below)) ((c .if2) .taken) (p .2)
+
+visit-visit-list-requires : (t : ℕ) → visit-lts.Need-visit-list-requires (visit-claims t) (visit-at t) visit.Post
+visit-visit-list-requires t c κs = let p = (c .before .before .before .before) .pre .1 in (omega arith, (p .0, omega (arith, p .1 .below), p .2))
+
+visit-add-result : (t : ℕ) → visit-lts.Need-add-result (visit-claims t) (visit-at t) visit.Post
+visit-add-result t c = let p = (c .before .before .before .before .before .before) .pre .1 in omega (arith, p .1 .below, p .0 .header .within, p .0 .header .most)
+
+visit-returns-3 : (t : ℕ) → visit-lts.Need-returns-3 (visit-claims t) (visit-at t) visit.Post
+visit-returns-3 t c = let p = (c .before .before .before .before .before .before) .pre .1 in visits-close goes-on _ _ _ ((c .before .before .before .wide) .result) (ordered-wf (p .0)) (omega (arith, p .0 .header .within, p .0 .header .most)) (omega arith) (omega (arith, p .1 .below)) (omega arith) ((c .before .visit-list) .ensures) ((c .if3) .taken)
+
+visit-returns-4 : (t : ℕ) → visit-lts.Need-returns-4 (visit-claims t) (visit-at t) visit.Post
+visit-returns-4 t c = let p = (c .before .before .before .before .before .before) .pre .1 in visits-lost goes-on _ _ _ ((c .before .before .before .wide) .result) (ordered-wf (p .0)) (omega (arith, p .0 .header .within, p .0 .header .most)) (omega arith) (omega (arith, p .1 .below)) (omega arith) ((c .before .visit-list) .ensures) ((c .if3) .left)
+
+abbrev visit-list-Inv-loop : visit-list-lts.InvT-loop
+visit-list-Inv-loop t i c s d₀ v₀ d v = (s ≡ size t (feature t i)) × (v ≤ s) × Walk (scan-below going t i) (going .code .arm (body t i)) (count t) c v d
+
+abbrev visit-list-μ-loop : visit-list-lts.MeasureT-loop
+visit-list-μ-loop t i c s d₀ v₀ d v = s - v
+
+visit-list-record-word-requires : (t : ℕ) → visit-list-lts.Need-record-word-requires (visit-list-claims t) (visit-list-at t) visit-list.Post visit-list-Inv-loop visit-list-μ-loop
+visit-list-record-word-requires t c κs = let p = (c .before) .pre .1 in let h = p .0 .header in (omega (arith, h .room, h .within), omega (arith, h .most, h .within), omega arith)
+
+visit-list-wide-requires : (t : ℕ) → visit-list-lts.Need-wide-requires (visit-list-claims t) (visit-list-at t) visit-list.Post visit-list-Inv-loop visit-list-μ-loop
+visit-list-wide-requires t c κs = search needs
+
+visit-list-add-head-word : (t : ℕ) → visit-list-lts.Need-add-head-word (visit-list-claims t) (visit-list-at t) visit-list.Post visit-list-Inv-loop visit-list-μ-loop
+visit-list-add-head-word t c = let p = (c .before .before .before) .pre .1 in let k = p .0 .nodes-ok .each _ (p .1) .known in omega (arith, p .0 .header .few)
+
+visit-list-head-word-requires : (t : ℕ) → visit-list-lts.Need-head-word-requires (visit-list-claims t) (visit-list-at t) visit-list.Post visit-list-Inv-loop visit-list-μ-loop
+visit-list-head-word-requires t c κs = let p = (c .before .before .before) .pre .1 in let k = p .0 .nodes-ok .each _ (p .1) .known in omega (arith, p .0 .header .few, p .0 .header .room)
+
+visit-list-wide-requires-2 : (t : ℕ) → visit-list-lts.Need-wide-requires-2 (visit-list-claims t) (visit-list-at t) visit-list.Post visit-list-Inv-loop visit-list-μ-loop
+visit-list-wide-requires-2 t c κs = search needs
+
+visit-list-loop-holds : (t : ℕ) → visit-list-lts.Need-loop-holds (visit-list-claims t) (visit-list-at t) visit-list.Post visit-list-Inv-loop visit-list-μ-loop
+visit-list-loop-holds t c = let a = (c .before .before .before .before .before) in ((c .wide2) .ensures .0 ∙ (c .before .head-word) .ensures ∙ ap (size (a .args .t .now)) ((c .before .before .wide) .ensures .0 ∙ (c .before .before .before .record-word) .ensures), omega arith, walk-none _ _ _ _ (a .pre .1 .2))
+
+visit-list-goes-to-requires : (t : ℕ) → visit-list-lts.Need-goes-to-requires (visit-list-claims t) (visit-list-at t) visit-list.Post visit-list-Inv-loop visit-list-μ-loop
+visit-list-goes-to-requires t c κs = let p = (c .before .before .before .before .before .before .before) .pre .1 in let h = p .0 .header in let k = p .0 .nodes-ok .each _ (p .1) .known in
+    (omega (arith, h .room, h .within, h .fit .large _ k .1), omega (arith, h .most, h .within), omega (arith, h .fit .large _ k .1))
+
+visit-list-visit-requires : (t : ℕ) → visit-list-lts.Need-visit-requires (visit-list-claims t) (visit-list-at t) visit-list.Post visit-list-Inv-loop visit-list-μ-loop
+visit-list-visit-requires t c κs = let p = (c .before .before .before .before .before .before .before .before) .pre .1 in let l = (c .before .before .loop) in
+    let s = sits-branch (p .0) _ (l .v) (p .1) (omega arith) ((c .goes-to) .ensures) in
+    (omega (arith, s .1), (p .0, s .0, l .inv .2 .top))
+
+visit-list-returns : (t : ℕ) → visit-list-lts.Need-returns (visit-list-claims t) (visit-list-at t) visit-list.Post visit-list-Inv-loop visit-list-μ-loop
+visit-list-returns t c = let p = (c .before .before .before .before .before .before .before .before .before .before) .pre .1 in let l = (c .before .before .before .before .loop) in
+    visits-none (walk-lost ((c .before .visit) .result) (l .inv .2) (says-branch goes-on _ (ordered-wf (p .0)) _ (l .v) (p .1) (omega arith) ((c .before .before .goes-to) .ensures) ((c .before .visit) .ensures)) (omega (arith, p .0 .header .within, p .0 .header .most)) _ (omega arith) ((c .if1) .taken))
+
+visit-list-add-v : (t : ℕ) → visit-list-lts.Need-add-v (visit-list-claims t) (visit-list-at t) visit-list.Post visit-list-Inv-loop visit-list-μ-loop
+visit-list-add-v t c = search needs
+
+visit-list-loop-less : (t : ℕ) → visit-list-lts.Need-loop-less (visit-list-claims t) (visit-list-at t) visit-list.Post visit-list-Inv-loop visit-list-μ-loop
+visit-list-loop-less t c = search needs
+
+visit-list-loop-again : (t : ℕ) → visit-list-lts.Need-loop-again (visit-list-claims t) (visit-list-at t) visit-list.Post visit-list-Inv-loop visit-list-μ-loop
+visit-list-loop-again t c = let p = (c .before .before .before .before .before .before .before .before .before .before) .pre .1 in let l = (c .before .before .before .before .loop) in
+    (l .inv .0, omega arith, walk-more ((c .before .visit) .result) (l .inv .2) (says-branch goes-on _ (ordered-wf (p .0)) _ (l .v) (p .1) (omega arith) ((c .before .before .goes-to) .ensures) ((c .before .visit) .ensures)) (omega (arith, p .0 .header .within, p .0 .header .most)) (omega arith))
+
+visit-list-returns-2 : (t : ℕ) → visit-list-lts.Need-returns-2 (visit-list-claims t) (visit-list-at t) visit-list.Post visit-list-Inv-loop visit-list-μ-loop
+visit-list-returns-2 t c = let l = (c .before .loop) in visits-all (l .v) (l .inv .2) (omega arith)
+
+pub +visit+visit-list-spec : {M : Type 1} → statement M
++visit+visit-list-spec = close μ-visit μ-visit-list (λ t. visit-lts.spec (visit-claims t)
+    (visit-at t)
+    visit.Post
+    (visit-returns t)
+    (visit-wide-requires t)
+    (visit-returns-2 t)
+    (visit-visit-list-requires t)
+    (visit-add-result t)
+    (visit-returns-3 t)
+    (visit-returns-4 t))
+    λ t. visit-list-lts.spec (visit-list-claims t)
+    (visit-list-at t)
+    visit-list.Post
+    visit-list-Inv-loop
+    visit-list-μ-loop
+    (visit-list-record-word-requires t)
+    (visit-list-wide-requires t)
+    (visit-list-add-head-word t)
+    (visit-list-head-word-requires t)
+    (visit-list-wide-requires-2 t)
+    (visit-list-loop-holds t)
+    (visit-list-goes-to-requires t)
+    (visit-list-visit-requires t)
+    (visit-list-returns t)
+    (visit-list-add-v t)
+    (visit-list-loop-less t)
+    (visit-list-loop-again t)
+    (visit-list-returns-2 t)

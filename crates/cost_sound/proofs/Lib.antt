@@ -1,0 +1,6 @@
+pub mod Sitting
+pub mod Walking
+pub mod Reading
+pub mod Ranging
+pub mod Pictures
+pub mod Unique

@@ -1,0 +1,48 @@
+-- The nodes of tested words are a well-formed node list of costs. Assumes nothing.
+use mathlib.Core.Path.{_≡_, refl, ap, _∙_}
+use mathlib.Core.List.{List}
+use Prim.Native.Nat.{ℕ, _+_, _<_}
+use native.Mathlib.Omega.{arith}
+use Rattle.theory.specs.WellFormed.{WF}
+use Rattle.theory.specs.Costs.{costs}
+use Rattle.theory.specs.Diagrams.{Branch}
+use Rattle.cost_laws.specs.Integers.{int}
+use Rattle.cost_laws.proofs.Words.{int-one}
+use Rattle.words.specs.Words.{size, count, sizes, feature, body}
+use Rattle.cost_words.specs.Words.{goes, added, nodes}
+use Rattle.cost_words.proofs.Packing.{target-end, target-node, target-one, int-zero, faithful}
+use Rattle.checks.specs.Walk.{Goes}
+use Rattle.checks.proofs.Sitting.{NodeFits, nodes-wf, sits-more}
+use Rattle.cost_sound.specs.Sound.{Sits, NodeOk}
+use Rattle.cost_sound.specs.Walk.{going, Ordered}
+
+pub goes-on : Goes going
+goes-on =
+    record {
+      arms = λ f v. refl;
+      ends = λ x h. (tt, target-end x (omega arith));
+      indices = λ i. target-node (1 + i) i (omega arith);
+    }
+
+module _ {w : List ℕ} (o : Ordered w) where
+  pub node-fits : (i : ℕ) → i < count w → NodeFits going w i
+  node-fits i h =
+      let n : NodeOk w i = o .nodes-ok .each i h in
+      record {
+        known = n .known;
+        lower = n .lower .lower;
+        differ = λ a. n .differ (record {
+          targets = λ v hv. target-one (goes (body w i) v) (goes (body w i) 0) (ap (λ (b : Branch costs). b .to) (a v hv));
+          addeds = λ v hv. int-one (added (body w i) v) (added (body w i) 0) (ap (λ (b : Branch costs). b .adds) (a v hv)) ∙ n .adds .level;
+        });
+        level = ap int (n .adds .level) ∙ int-zero;
+        padded = n .padded;
+      }
+
+  pub ordered-wf : WF (sizes w) (nodes w)
+  ordered-wf = nodes-wf goes-on faithful w (o .header .fit) node-fits (o .chained)
+
+  pub sits-branch : {b : ℕ} (i v : ℕ) → i < count w → v < size w (feature w i) → b ≡ goes (body w i) v → (Sits w (count w) 0 b) × (b < 1 + i)
+  sits-branch {b} i v h hv e =
+      let s : Sits w i (feature w i + 1) (goes (body w i) v) = o .nodes-ok .each i h .lower .lower v hv in
+      (rw e (sits-more w i (count w) (feature w i + 1) 0 (goes (body w i) v) (omega arith) (omega arith) s), omega (arith, s .below))

@@ -1,0 +1,87 @@
+-- `cost_sound::lower` meets its contract: each branch passed sits below the node. Assumes nothing.
+use Rattle.cost_sound.specs.Sound.{Sits}
+use Rattle.settings.proofs.Answers.{granted, denied}
+use Rattle.cost_words.specs.Words.{goes}
+use Rattle.words.specs.Words.{feature, size, body}
+use borrow.Author.Count.{below-more}
+use native.Mathlib.Omega.{arith}
+use Prim.Native.Nat.{ℕ, _+_, _-_, _≤_, _<_}
+use mathlib.Core.Path.{_≡_, ap, _∙_}
+use borrow.Author.Needs.{needs}
+use Rattle.cost_sound.proofs.lower.Statement.{statement}
+use Rattle.cost_sound.proofs.lower.Tie as tie
+
+abbrev Inv-loop : tie.InvT-loop
+Inv-loop t i k s v₀ v = (k ≡ feature t i) × (s ≡ size t (feature t i)) × (v ≤ s) × ((x : ℕ) → x < v → Sits t i (feature t i + 1) (goes (body t i) x))
+
+abbrev μ-loop : tie.MeasureT-loop
+μ-loop t i k s v₀ v = s - v
+
+record-word-requires : tie.Need-record-word-requires Inv-loop μ-loop
+record-word-requires c κs = let p = (c .before) .pre in (omega (arith, p .0 .room, p .0 .within), omega (arith, p .0 .most, p .0 .within), omega arith)
+
+wide-requires : tie.Need-wide-requires Inv-loop μ-loop
+wide-requires c κs = search needs
+
+add-head-word : tie.Need-add-head-word Inv-loop μ-loop
+add-head-word c = search needs
+
+head-word-requires : tie.Need-head-word-requires Inv-loop μ-loop
+head-word-requires c κs = let p = (c .before .before .before) .pre in omega (arith, p .0 .room, p .0 .few)
+
+wide-requires-2 : tie.Need-wide-requires-2 Inv-loop μ-loop
+wide-requires-2 c κs = search needs
+
+loop-holds : tie.Need-loop-holds Inv-loop μ-loop
+loop-holds c = let e = (c .before .before .wide) .ensures .0 ∙ (c .before .before .before .record-word) .ensures in (e, (c .wide2) .ensures .0 ∙ (c .before .head-word) .ensures ∙ ap (size ((c .before .before .before .before .before) .args .t .now)) e, omega arith, λ x h. absurd (omega arith))
+
+add-sits : tie.Need-add-sits Inv-loop μ-loop
+add-sits c = search needs
+
+goes-to-requires : tie.Need-goes-to-requires Inv-loop μ-loop
+goes-to-requires c κs = let p = (c .before .before .before .before .before .before .before) .pre in let f = p .0 .fit .large _ (p .2) .1 in (omega (arith, p .0 .room, p .0 .within), omega (arith, p .0 .most, p .0 .within), omega arith)
+
+sits-requires : tie.Need-sits-requires Inv-loop μ-loop
+sits-requires c κs = let p = (c .before .before .before .before .before .before .before .before) .pre in (omega (arith, p .0 .room, p .0 .within), omega (arith, p .0 .most, p .0 .within))
+
+returns : tie.Need-returns Inv-loop μ-loop
+returns c = let l = (c .before .before .before .before .loop) in λ z. denied ((c .before .sits) .result) ((c .if1) .taken) ((c .before .sits) .ensures) (rw ((c .before .before .goes-to) .ensures, l .inv .0) (z .lower (l .v) (omega arith)))
+
+add-v : tie.Need-add-v Inv-loop μ-loop
+add-v c = search needs
+
+loop-less : tie.Need-loop-less Inv-loop μ-loop
+loop-less c = search needs
+
+loop-again : tie.Need-loop-again Inv-loop μ-loop
+loop-again c = let l = (c .before .before .before .before .loop) in let a = (c .before .before .before .before .before .before .before .before .before .before) .args in (
+  l .inv .0,
+  l .inv .1,
+  omega arith,
+  below-more (λ x. Sits (a .t .now) (a .i) (feature (a .t .now) (a .i) + 1) (goes (body (a .t .now) (a .i)) x)) (l .v) (l .inv .3)
+      (rw ((c .before .before .goes-to) .ensures, l .inv .0) at (granted ((c .before .sits) .result) ((c .if1) .left) ((c .before .sits) .ensures))),
+)
+
+returns-2 : tie.Need-returns-2 Inv-loop μ-loop
+returns-2 c = record { lower = λ x h. (c .before .loop) .inv .3 x (omega arith) }
+
+pub lower-spec : {M : Type 1} → statement M
+lower-spec =
+    tie.close
+    (tie.spec
+    Inv-loop
+    μ-loop
+    record-word-requires
+    wide-requires
+    add-head-word
+    head-word-requires
+    wide-requires-2
+    loop-holds
+    add-sits
+    goes-to-requires
+    sits-requires
+    returns
+    add-v
+    loop-less
+    loop-again
+    returns-2)

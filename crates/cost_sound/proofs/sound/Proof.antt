@@ -1,0 +1,83 @@
+-- `cost_sound::sound` meets its contract: each test is one field of the record, in its order. Assumes nothing.
+use Rattle.checks.proofs.Framing.{framed}
+use Rattle.settings.proofs.Answers.{granted, denied, retell}
+use borrow.Author.Needs.{needs}
+use Rattle.cost_sound.proofs.sound.Statement.{statement}
+use Rattle.cost_sound.proofs.sound.Tie as tie
+
+header-ok-requires : tie.Need-header-ok-requires
+header-ok-requires c κs = search needs
+
+returns : tie.Need-returns
+returns c = λ z. denied ((c .before .header-ok) .result) ((c .if1) .taken) ((c .before .header-ok) .ensures) (z .header)
+
+nodes-ok-requires : tie.Need-nodes-ok-requires
+nodes-ok-requires c κs = granted ((c .before .header-ok) .result) ((c .if1) .left) ((c .before .header-ok) .ensures)
+
+returns-2 : tie.Need-returns-2
+returns-2 c = λ z. denied ((c .before .nodes-ok) .result) ((c .if2) .taken) ((c .before .nodes-ok) .ensures) (z .nodes-ok)
+
+chains-ok-requires : tie.Need-chains-ok-requires
+chains-ok-requires c κs = framed (granted ((c .before .before .before .header-ok) .result) ((c .before .before .if1) .left) ((c .before .before .before .header-ok) .ensures))
+
+returns-3 : tie.Need-returns-3
+returns-3 c = λ z. denied ((c .before .chains-ok) .result) ((c .if3) .taken) ((c .before .chains-ok) .ensures) (z .chained)
+
+roots-ok-requires : tie.Need-roots-ok-requires
+roots-ok-requires c κs = granted ((c .before .before .before .before .before .header-ok) .result) ((c .before .before .before .before .if1) .left) ((c .before .before .before .before .before .header-ok) .ensures)
+
+returns-4 : tie.Need-returns-4
+returns-4 c = λ z. denied ((c .before .roots-ok) .result) ((c .if4) .taken) ((c .before .roots-ok) .ensures) (z .roots-ok)
+
+order-ok-requires : tie.Need-order-ok-requires
+order-ok-requires c κs = (
+  record {
+    header = granted ((c .before .before .before .before .before .before .before .header-ok) .result) ((c .before .before .before .before .before .before .if1) .left) ((c .before .before .before .before .before .before .before .header-ok) .ensures);
+    nodes-ok = granted ((c .before .before .before .before .before .nodes-ok) .result) ((c .before .before .before .before .if2) .left) ((c .before .before .before .before .before .nodes-ok) .ensures);
+    chained = granted ((c .before .before .before .chains-ok) .result) ((c .before .before .if3) .left) ((c .before .before .before .chains-ok) .ensures);
+  },
+  granted ((c .before .roots-ok) .result) ((c .if4) .left) ((c .before .roots-ok) .ensures),
+)
+
+returns-5 : tie.Need-returns-5
+returns-5 c = λ z. denied ((c .before .order-ok) .result) ((c .if5) .taken) ((c .before .order-ok) .ensures) (z .in-order)
+
+range-ok-requires : tie.Need-range-ok-requires
+range-ok-requires c κs = record {
+  header = granted ((c .before .before .before .before .before .before .before .before .before .header-ok) .result) ((c .before .before .before .before .before .before .before .before .if1) .left) ((c .before .before .before .before .before .before .before .before .before .header-ok) .ensures);
+  nodes-ok = granted ((c .before .before .before .before .before .before .before .nodes-ok) .result) ((c .before .before .before .before .before .before .if2) .left) ((c .before .before .before .before .before .before .before .nodes-ok) .ensures);
+  chained = granted ((c .before .before .before .before .before .chains-ok) .result) ((c .before .before .before .before .if3) .left) ((c .before .before .before .before .before .chains-ok) .ensures);
+  roots-ok = granted ((c .before .before .before .roots-ok) .result) ((c .before .before .if4) .left) ((c .before .before .before .roots-ok) .ensures);
+  in-order = granted ((c .before .order-ok) .result) ((c .if5) .left) ((c .before .order-ok) .ensures);
+}
+
+returns-6 : tie.Need-returns-6
+returns-6 c = retell ((c .range-ok) .result)
+    (λ q.
+    record {
+      header = granted ((c .before .before .before .before .before .before .before .before .before .before .header-ok) .result) ((c .before .before .before .before .before .before .before .before .before .if1) .left) ((c .before .before .before .before .before .before .before .before .before .before .header-ok) .ensures);
+      nodes-ok = granted ((c .before .before .before .before .before .before .before .before .nodes-ok) .result) ((c .before .before .before .before .before .before .before .if2) .left) ((c .before .before .before .before .before .before .before .before .nodes-ok) .ensures);
+      chained = granted ((c .before .before .before .before .before .before .chains-ok) .result) ((c .before .before .before .before .before .if3) .left) ((c .before .before .before .before .before .before .chains-ok) .ensures);
+      roots-ok = granted ((c .before .before .before .before .roots-ok) .result) ((c .before .before .before .if4) .left) ((c .before .before .before .before .roots-ok) .ensures);
+      in-order = granted ((c .before .before .order-ok) .result) ((c .before .if5) .left) ((c .before .before .order-ok) .ensures);
+      ranged = q;
+    })
+    (λ z. z .ranged)
+    ((c .range-ok) .ensures)
+
+pub sound-spec : {M : Type 1} → statement M
+sound-spec =
+    tie.close
+    (tie.spec
+    header-ok-requires
+    returns
+    nodes-ok-requires
+    returns-2
+    chains-ok-requires
+    returns-3
+    roots-ok-requires
+    returns-4
+    order-ok-requires
+    returns-5
+    range-ok-requires
+    returns-6)

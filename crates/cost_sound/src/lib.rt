@@ -1,0 +1,235 @@
+// The soundness test of a cost table. It reads any slice, and writes nothing.
+mod range; // range.rt: the costs in their range
+
+ghost use mathlib.Core.Path.{_≡_};
+ghost use mathlib.Core.Option.{some};
+ghost use Prim.Native.Nat.{_≤_, _<_};
+ghost use Rattle.theory.specs.Walk.{scan, scans};
+ghost use Rattle.words.specs.Words.{features, count, sizes, feature, body};
+ghost use Rattle.cost_words.specs.Words.{Padded, nodes, roots};
+ghost use Rattle.settings.specs.Tells.{Tells};
+ghost use Rattle.checks.specs.Header.{Header};
+ghost use Rattle.cost_sound.specs.Sound.{Sits, Lower, Adds, Alike, NodeOk, Nodes, Rooted, Sound};
+ghost use Rattle.cost_sound.specs.Walk.{Ordered, Visits, VisitsAll};
+use checks::chains_ok;
+use checks::header_ok;
+use checks::sits;
+use checks::zeros;
+use cost_words::adds_at;
+use cost_words::goes_to;
+use cost_words::root_word;
+use range::range_ok;
+use words::head_word;
+use words::record_word;
+use words::wide;
+
+// Whether each branch of node i goes to the end or to an earlier node of a higher feature.
+fn lower(t: &[u32], i: usize) -> bool
+    requires { ⌜ (Header 2 (now t)) × (i < count (now t)) × (feature (now t) i < features (now t)) ⌝ }
+    ensures { λ r. ⌜ Tells r (Lower (now (t .entry)) i) ⌝ }
+{
+    let k = wide(record_word(t, i, 0));
+    let s = wide(head_word(t, 3 + k));
+    let mut v: usize = 0;
+    while v < s {
+        if !sits(t, 1, i, k + 1, goes_to(t, i, v)) {
+            return false;
+        }
+        v += 1;
+    }
+    true
+}
+
+// Whether branch 0 of node i adds 0, and each adds an integer within ±2,000,000,000.
+fn adds_ok(t: &[u32], i: usize) -> bool
+    requires { ⌜ (Header 2 (now t)) × (i < count (now t)) × (feature (now t) i < features (now t)) ⌝ }
+    ensures { λ r. ⌜ Tells r (Adds (now (t .entry)) i) ⌝ }
+{
+    if adds_at(t, i, 0) != 2147483648 {
+        return false;
+    }
+    let s = wide(head_word(t, 3 + wide(record_word(t, i, 0))));
+    let mut v: usize = 0;
+    while v < s {
+        let a = adds_at(t, i, v);
+        if a < 147483648 {
+            return false;
+        }
+        if 4147483648 < a {
+            return false;
+        }
+        v += 1;
+    }
+    true
+}
+
+// Whether the branches of node i all go to one target and add 0.
+fn alike(t: &[u32], i: usize) -> bool
+    requires { ⌜ (Header 2 (now t)) × (i < count (now t)) × (feature (now t) i < features (now t)) ⌝ }
+    ensures { λ r. ⌜ Tells r (Alike (now (t .entry)) i) ⌝ }
+{
+    let s = wide(head_word(t, 3 + wide(record_word(t, i, 0))));
+    let first = goes_to(t, i, 0);
+    let mut v: usize = 0;
+    while v < s {
+        if goes_to(t, i, v) != first {
+            return false;
+        }
+        if adds_at(t, i, v) != 2147483648 {
+            return false;
+        }
+        v += 1;
+    }
+    true
+}
+
+// Whether the body of node i has 0 only past s values.
+fn padded_ok(t: &[u32], i: usize, s: usize) -> bool
+    requires { ⌜ (Header 2 (now t)) × (i < count (now t)) × (s ≤ 8) ⌝ }
+    ensures { λ r. ⌜ Tells r (Padded s (body (now (t .entry)) i)) ⌝ }
+{
+    let mut v = s;
+    while v < 8 {
+        if goes_to(t, i, v) != 0 {
+            return false;
+        }
+        if adds_at(t, i, v) != 0 {
+            return false;
+        }
+        v += 1;
+    }
+    true
+}
+
+// Whether node i is one, but for twins and its chain.
+fn node_ok(t: &[u32], i: usize) -> bool
+    requires { ⌜ (Header 2 (now t)) × (i < count (now t)) ⌝ }
+    ensures { λ r. ⌜ Tells r (NodeOk (now (t .entry)) i) ⌝ }
+{
+    let k = wide(record_word(t, i, 0));
+    if wide(head_word(t, 2)) <= k {
+        return false;
+    }
+    if !lower(t, i) {
+        return false;
+    }
+    if !adds_ok(t, i) {
+        return false;
+    }
+    if alike(t, i) {
+        return false;
+    }
+    if !padded_ok(t, i, wide(head_word(t, 3 + k))) {
+        return false;
+    }
+    let base = 8192 + 16 * i;
+    zeros(t, base + 14, base + 16)
+}
+
+// Whether each node in use is one.
+fn nodes_ok(t: &[u32]) -> bool
+    requires { ⌜ Header 2 (now t) ⌝ }
+    ensures { λ r. ⌜ Tells r (Nodes (now (t .entry))) ⌝ }
+{
+    let n = wide(head_word(t, 19));
+    let mut i: usize = 0;
+    while i < n {
+        if !node_ok(t, i) {
+            return false;
+        }
+        i += 1;
+    }
+    true
+}
+
+// Whether each root goes to the end or to a node in use.
+fn roots_ok(t: &[u32]) -> bool
+    requires { ⌜ Header 2 (now t) ⌝ }
+    ensures { λ r. ⌜ Tells r (Rooted (now (t .entry))) ⌝ }
+{
+    let n = wide(head_word(t, 19));
+    let mut p: usize = 0;
+    while p < 16 {
+        if !sits(t, 1, n, 0, root_word(t, p)) {
+            return false;
+        }
+        p += 1;
+    }
+    true
+}
+
+// The walk from the target b, the nodes below c done: how many are done after it, or 8192 where one is not met in its turn.
+// It calls itself over `visit_list`, each time at a higher feature: at most as deep as there are features.
+fn visit(t: &[u32], b: u32, c: usize) -> usize
+    requires { ⌜ (Ordered (now t)) × (Sits (now t) (count (now t)) 0 b) × (c ≤ count (now t)) ⌝ }
+    ensures { λ r. ⌜ Visits (now (t .entry)) b c r ⌝ }
+{
+    if b < 1 {
+        return c;
+    }
+    let i = wide(b - 1);
+    if i < c {
+        return c;
+    }
+    if visit_list(t, i, c) == i {
+        return i + 1;
+    }
+    8192
+}
+
+// The same over the branches of node i in turn. A lost walk stops at once, so each node's branches are walked once.
+fn visit_list(t: &[u32], i: usize, c: usize) -> usize
+    requires { ⌜ (Ordered (now t)) × (i < count (now t)) × (c ≤ count (now t)) ⌝ }
+    ensures { λ r. ⌜ VisitsAll (now (t .entry)) i c r ⌝ }
+{
+    let s = wide(head_word(t, 3 + wide(record_word(t, i, 0))));
+    let mut d = c;
+    let mut v: usize = 0;
+    while v < s {
+        d = visit(t, goes_to(t, i, v), d);
+        if 4096 < d {
+            return 8192;
+        }
+        v += 1;
+    }
+    d
+}
+
+// Whether the walk from the roots in turn meets every node, each in its turn.
+fn order_ok(t: &[u32]) -> bool
+    requires { ⌜ (Ordered (now t)) × (Rooted (now t)) ⌝ }
+    ensures { λ r. ⌜ Tells r (scans (scan (nodes (now (t .entry))) 0 (sizes (now (t .entry)))) (roots (now (t .entry))) 0 ≡ some (count (now (t .entry)))) ⌝ }
+{
+    let mut d: usize = 0;
+    let mut p: usize = 0;
+    while p < 16 {
+        d = visit(t, root_word(t, p), d);
+        if 4096 < d {
+            return false;
+        }
+        p += 1;
+    }
+    d == wide(head_word(t, 19))
+}
+
+// Whether the words are a sound cost table. It reads any slice.
+pub fn sound(t: &[u32]) -> bool
+    ensures { λ r. ⌜ Tells r (Sound (now (t .entry))) ⌝ }
+{
+    if !header_ok(t, 2) {
+        return false;
+    }
+    if !nodes_ok(t) {
+        return false;
+    }
+    if !chains_ok(t) {
+        return false;
+    }
+    if !roots_ok(t) {
+        return false;
+    }
+    if !order_ok(t) {
+        return false;
+    }
+    range_ok(t)
+}
