@@ -1,26 +1,37 @@
 -- A result built branch by branch (the laws of every kind), for the lists of targets and added words that the code fills. Assumes nothing.
-use mathlib.Core.Path.{_≡_, sym, ap, ap₂, subst, _∙_}
+use mathlib.Core.Bool.{Bool, true, false}
+use mathlib.Core.Path.{_≡_, refl, sym, ap, ap₂, subst, _∙_}
 use mathlib.Core.List.{List, [], _∷_, _++_}
 use Prim.Native.Nat.{ℕ, suc, _+_, _≤_, _<_}
+use native.Mathlib.Nat.{zero-add}
 use native.Mathlib.Numerals.{add-one}
 use native.Mathlib.Omega.{arith}
 use lib.IntN.{_-ℤ_}
-use lib.ListN.{length, getD, set, length-set}
-use lib.Seq.{getD-set-same, getD-set-other}
-use Rattle.theory.specs.Build.{Ext, make}
+use lib.ListN.{length, getD, drop, set, length-set}
+use lib.Seq.{getD-set-same, getD-set-other, drop-cons}
+use Rattle.theory.specs.Build.{Built, Ext, build, make}
 use Rattle.theory.specs.Costs.{costs, Cost}
 use Rattle.theory.specs.Diagrams.{Branch, blank}
-use Rattle.theory.specs.Functions.{held}
-use Rattle.theory.specs.WellFormed.{Ok}
+use Rattle.theory.specs.Functions.{held, parts}
+use Rattle.theory.specs.Settings.{Valid, zeros}
+use Rattle.theory.specs.WellFormed.{Mean, Ok}
+use Rattle.theory.proofs.Canonical.{canonical}
+use Rattle.theory.proofs.Lists.{pos-drop}
+use Rattle.theory.proofs.Meaning.{Right, Rights, build-right, each-right}
+use Rattle.theory.proofs.Ranges.{zeros-valid}
+use Rattle.theory.proofs.Values.{means-at, value-zeros}
 use Rattle.cost_laws.specs.Integers.{Fit, int}
+use Rattle.cost_laws.specs.Narrow.{Spread}
 use Rattle.cost_laws.specs.Range.{addMost}
+use Rattle.cost_laws.proofs.Relative.{offs}
 use Rattle.words.specs.Holding as H
+use Rattle.words.specs.Holding.{built as builtOf, eachTo}
 use Rattle.words.specs.Words.{features, size, sizes, listed}
 use Rattle.words.proofs.Filling as F
 use Rattle.words.proofs.Tab.{tab-none, tab-snoc, tab-ext, getD-tab}
 use Rattle.words.proofs.Words.{length-sizes, at-sizes, kept-size}
 use Rattle.cost_words.specs.Words.{branch, nodes}
-use Rattle.cost_nodes.specs.Nodes.{layout, Holds, told, Gives, Result, Makes, arms, Armed, Filling, Stopped}
+use Rattle.cost_nodes.specs.Nodes.{layout, Holds, told, Gives, Result, Makes, built, arms, Armed, Filling, Stopped, Fills}
 use Rattle.cost_nodes.specs.declared.Answer.{Answer}
 use Rattle.cost_nodes.specs.declared.Answer.the-variants.{Is, NoRoom}
 use Rattle.cost_nodes.proofs.Reading.{lawful}
@@ -89,6 +100,32 @@ module _ (w : List ℕ) (k : ℕ) (g : Cost) (ok : Holds w) (hk : k < features w
         near = λ v h. near v (omega arith);
       }
 
+  -- what branch v adds is what g has there, where the other features are 0
+  fill-adds : (t x a : List ℕ) → Filling w t k g (size w k) x a → (v : ℕ) → v < size w k → int (listed a v) ≡ g (v ∷ zeros (drop (suc k) (sizes w))) .off
+  unfolding eachTo
+  fill-adds t x a f v h =
+      let ns : List ℕ = drop (suc k) (sizes w) in
+      let n : ℕ = getD (sizes w) k 0 in
+      let hn : v < n = omega (arith, at-sizes w k hk) in
+      let q : Rights (sizes w) (suc k) ns (parts 0 n g) (nodes w) (eachTo layout w k g n) =
+      each-right (sizes w) (suc k) ns (build (suc k) ns) (build-right (sizes w) (suc k) ns refl) (parts 0 n g) (nodes w) (ok .wf) in
+      let m : Mean (eachTo layout w k g n .1) (suc k) ns (getD (eachTo layout w k g n .0) v blank) (held v g) =
+      subst (λ (u : ℕ). Mean (eachTo layout w k g n .1) (suc k) ns (getD (eachTo layout w k g n .0) v blank) (held u g)) (zero-add v) (means-at (eachTo layout w k g n .1) (suc k) ns (eachTo layout w k g n .0) 0 n g (q .means) v hn) in
+      let e : getD (eachTo layout w k g n .0) v blank ≡ branch (listed x v) (listed a v) =
+      ap (λ (bs : List (Branch costs)). getD bs v blank) (sym (full t x a f .says)) ∙ getD-tab (λ u. branch (listed x u) (listed a u)) (size w k) v blank h in
+      ap (λ (b : Branch costs). b .adds) (sym e)
+      ∙ sym (value-zeros (sizes w) (eachTo layout w k g n .1) (q .wfs) (suc k) ns (getD (eachTo layout w k g n .0) v blank) (m .ok))
+      ∙ offs (m .says (zeros ns) (zeros-valid ns (pos-drop (suc k) (sizes w) (lawful .positive w (ok .laid)))))
+
+  -- so of a cost whose amounts lie close together no two added integers lie too far apart
+  pub fill-near : (t x a : List ℕ) → Filling w t k g (size w k) x a → Spread addMost (drop k (sizes w)) g → (v : ℕ) → v < size w k → Fit addMost (int (listed a v) -ℤ int (listed a 0))
+  fill-near t x a f sp v h =
+      let ns : List ℕ = drop (suc k) (sizes w) in
+      let z : Valid ns (zeros ns) = zeros-valid ns (pos-drop (suc k) (sizes w) (lawful .positive w (ok .laid))) in
+      let l : drop k (sizes w) ≡ size w k ∷ ns = drop-cons (sizes w) k 0 hs ∙ ap (λ (n : ℕ). n ∷ ns) (at-sizes w k hk) in
+      let r : Spread addMost (size w k ∷ ns) g = subst (λ (ms : List ℕ). Spread addMost ms g) l sp in
+      subst (Fit addMost) (sym (λ i. fill-adds t x a f v h i -ℤ fill-adds t x a f 0 (omega arith) i)) (r .apart (v ∷ zeros ns) (0 ∷ zeros ns) (h, z) (omega arith, z))
+
   -- and its answer is the result
   pub fill-make : (t t′ x a : List ℕ) (o : Answer) → Filling w t k g (size w k) x a → Makes t t′ k x a o → Result w t′ k g o
   fill-make t t′ x a o f m =
@@ -99,3 +136,37 @@ module _ (w : List ℕ) (k : ℕ) (g : Cost) (ok : Holds w) (hk : k < features w
   -- meanwhile the nodes of w are as they were
   pub filling-ext : (t : List ℕ) (v : ℕ) (x a : List ℕ) → Filling w t k g v x a → Ext (nodes w) (nodes t)
   filling-ext t v x a f = F.filled-ext lawful w t k g v (arms v x a) ok (f .filled)
+
+-- ---- answers
+pub gives-is : {w t : List ℕ} {r : Built costs} {o : Answer} {x a : ℕ} → o ≡ Is x a → Gives w t r o → Gives w t r (Is x a)
+gives-is {w} {t} {r} e g = subst (λ (y : Answer). Gives w t r y) e g
+
+pub gives-none : {w t : List ℕ} {r : Built costs} {o : Answer} → o ≡ NoRoom → Gives w t r o → Gives w t r NoRoom
+gives-none {w} {t} {r} e g = subst (λ (y : Answer). Gives w t r y) e g
+
+-- the nodes of w are still the first after any answer
+pub result-ext : (w t : List ℕ) (k : ℕ) (g : Cost) (o : Answer) → Holds w → Result w t k g o → Ext (nodes w) (nodes t)
+result-ext w t k g o ok r = F.grown-ext lawful w t (built w k g .1) ok (r .grown) (F.built-ext lawful w k g)
+
+-- ---- results remembered
+-- what a result tells may be remembered
+pub result-mean : (w t : List ℕ) (k : ℕ) (g : Cost) (x a : ℕ) → Holds w → Result w t k g (Is x a) → Mean (nodes t) k (drop k (sizes w)) (branch x a) g
+unfolding builtOf
+result-mean w t k g x a ok r =
+    let q : Right (sizes w) k (drop k (sizes w)) g (nodes w) (built w k g) = build-right (sizes w) k (drop k (sizes w)) refl g (nodes w) (ok .wf) in
+    let n : nodes t ≡ built w k g .1 = F.grown-nodes lawful w t (built w k g .1) (r .grown) (r .answers .1) in
+    rw (n, r .answers .0) (q .mean)
+
+-- and what is remembered is the result
+pub mean-result : (w : List ℕ) (k : ℕ) (g : Cost) (x a : ℕ) → Holds w → Mean (nodes w) k (drop k (sizes w)) (branch x a) g → Result w w k g (Is x a)
+unfolding builtOf
+mean-result w k g x a ok m =
+    F.result-there lawful w k (branch x a) g ok
+    (canonical (sizes w) k (drop k (sizes w)) refl (pos-drop k (sizes w) (lawful .positive w (ok .laid))) (nodes w) (ok .wf) (branch x a) g m)
+
+-- what a function that fills the lists answered
+pub filled : (w t : List ℕ) (k : ℕ) (g : Cost) (r : Bool) (x a : List ℕ) → r ≡ true → Fills w t k g r x a → Filling w t k g (size w k) x a
+filled w t k g r x a e f = subst (λ (b : Bool). Fills w t k g b x a) e f
+
+pub not-filled : (w t : List ℕ) (k : ℕ) (g : Cost) (r : Bool) (x a : List ℕ) → r ≡ false → Fills w t k g r x a → Stopped w t k g
+not-filled w t k g r x a e f = subst (λ (b : Bool). Fills w t k g b x a) e f

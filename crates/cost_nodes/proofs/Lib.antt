@@ -1,3 +1,4 @@
 pub mod Reading
 pub mod Making
 pub mod Filling
+pub mod Stepping

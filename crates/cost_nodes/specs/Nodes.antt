@@ -1,23 +1,23 @@
--- A cost table as the holder of a node list: the unique search, the making of a node, and the contract of what adds nodes. Assumes nothing.
+-- A cost table as the holder of a node list: the unique search, the making of a node, steps down a diagram, and the contract of what adds nodes. Assumes nothing.
 use mathlib.Core.Bool.{Bool, true, false}
 use mathlib.Core.Path.{_≡_}
 use mathlib.Core.List.{List}
 use mathlib.Core.Option.{Option, none, some}
-use Prim.Native.Nat.{ℕ, suc, _≤_, _<_}
+use Prim.Native.Nat.{ℕ, zero, suc, _≤_, _<_}
 use lib.IntN.{_-ℤ_}
 use lib.ListN.{length, getD}
 use Rattle.theory.specs.Build.{Built, make}
 use Rattle.theory.specs.Costs.{costs, Cost}
 use Rattle.theory.specs.Diagrams.{Branch, Node}
-use Rattle.theory.specs.WellFormed.{Ok}
+use Rattle.theory.specs.WellFormed.{Ok, Under}
 use Rattle.cost_laws.specs.Integers.{Fit, int}
 use Rattle.cost_laws.specs.Range.{addMost}
 use Rattle.words.specs.Coding.{branches}
 use Rattle.words.specs.Holding as H
 use Rattle.words.specs.Tab.{tab}
-use Rattle.words.specs.Words.{size, sizes, listed}
+use Rattle.words.specs.Words.{features, size, sizes, feature, listed}
 use Rattle.records.specs.Nodes as R
-use Rattle.cost_words.specs.Words.{branch, goes, added, code, nodes, wordOf}
+use Rattle.cost_words.specs.Words.{target, branch, goes, added, code, nodes, wordOf}
 use Rattle.cost_nodes.specs.declared.Found.{Found}
 use Rattle.cost_nodes.specs.declared.Found.the-variants.{At, Missing}
 use Rattle.cost_nodes.specs.declared.Answer.{Answer}
@@ -87,6 +87,22 @@ pub record Lowered (m : ℕ) (a r : List ℕ) : Type 0 where
 -- the answer and the table are those of `make` with these branches
 abbrev pub Makes : List ℕ → List ℕ → ℕ → List ℕ → List ℕ → Answer → Type 0
 Makes w w′ k x a o = Gives w w′ (make k (arms (size w k) x a) (nodes w)) o
+
+-- ---- steps down a diagram
+-- a target word of the table that tests nothing below k
+abbrev pub Good : List ℕ → ℕ → ℕ → Type 0
+Good w k x = Under (nodes w) (length (nodes w)) k (target x)
+
+-- the feature at the top of a target; of the end, the number of features
+unfoldable pub top : List ℕ → ℕ → ℕ
+top w zero = features w
+top w (suc i) = feature w i
+
+-- a place of the diagram: the target word x, where the features from k on are left
+pub record Place (w : List ℕ) (k x : ℕ) : Type 0 where
+  pub holds : Holds w
+  pub good : Good w k x
+  pub upTo : k ≤ features w
 
 -- ---- a result built branch by branch
 -- the first v branches of the cost g at feature k are in t, and the lists say them

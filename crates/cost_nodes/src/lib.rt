@@ -1,6 +1,8 @@
-// The nodes of a cost table: the unique search and the making of a node.
+// The nodes of a cost table: the unique search, the making of a node, and steps down a diagram.
 use cost_words::Target;
+use cost_words::adds_at;
 use cost_words::difference_word;
+use cost_words::goes_to;
 use cost_words::half_of;
 use cost_words::pack;
 use cost_words::target_at;
@@ -9,14 +11,19 @@ use records::find_record;
 use records::push;
 use words::head_word;
 use words::narrow;
+use words::record_word;
 use words::wide;
+ghost use mathlib.Core.Path.{_≡_};
 ghost use Prim.Native.Nat.{ℕ, _+_, _≤_, _<_};
 ghost use lib.IntN.{_-ℤ_};
 ghost use Rattle.cost_laws.specs.Integers.{Fit, int};
 ghost use Rattle.cost_laws.specs.Range.{addMost};
-ghost use Rattle.words.specs.Words.{features, listed};
+ghost use Rattle.cost_laws.specs.Relative.{branchAt};
+ghost use Rattle.words.specs.Words.{features, size, count, listed};
+ghost use Rattle.records.specs.Laid.{Laid};
 ghost use Rattle.settings.specs.Tells.{Tells};
-ghost use Rattle.cost_nodes.specs.Nodes.{Holds, Levelled, AllSame, Finds, Armed, Lowered, Makes};
+ghost use Rattle.cost_words.specs.Words.{target, branch, nodes};
+ghost use Rattle.cost_nodes.specs.Nodes.{Holds, Levelled, AllSame, Finds, Armed, Lowered, Makes, top, Place};
 
 // The answer of the unique search: where the branch goes that is there, or that its node must be made.
 pub enum Found {
@@ -94,4 +101,41 @@ pub fn make(t: &mut [u32], k: usize, goes: [u32; 8], adds: [u32; 8]) -> Answer
         return Answer::NoRoom;
     };
     Answer::Is(target_word(x), base)
+}
+
+// A branch: the words of its target and of what it adds.
+pub struct Arm {
+    pub to: u32,
+    pub adds: u32,
+}
+
+// The feature at the top of a target; of the end, the number of features.
+pub fn top_of(t: &[u32], x: u32) -> usize
+    requires { ⌜ (Laid (now t)) × (x ≤ count (now t)) ⌝ }
+    ensures { λ r. ⌜ r ≡ top (now (t .entry)) x ⌝ }
+{
+    if x == 0 {
+        wide(head_word(t, 2))
+    } else {
+        wide(record_word(t, wide(x - 1), 0))
+    }
+}
+
+// The branch of a target for value v of feature k: a target that does not test the feature waits.
+pub fn arm_at(t: &[u32], k: usize, x: u32, v: usize) -> Arm
+    requires { ⌜ (Place (now t) k x) × (k < features (now t)) × (v < size (now t) k) ⌝ }
+    ensures { λ r. ⌜ branch (r .to) (r .adds) ≡ branchAt (nodes (now (t .entry))) k (target x) v ⌝ }
+{
+    if top_of(t, x) == k {
+        let i = wide(x - 1);
+        Arm {
+            to: goes_to(t, i, v),
+            adds: adds_at(t, i, v),
+        }
+    } else {
+        Arm {
+            to: x,
+            adds: 2147483648,
+        }
+    }
 }

@@ -1,0 +1,5 @@
+pub mod Joining
+pub mod Bounding
+pub mod Walking
+pub mod Recalling
+pub mod Operating

@@ -1,0 +1,230 @@
+-- The walk over a table: operands one feature on, one value on, in a later table; its results. Assumes nothing.
+use mathlib.Core.Path.{_≡_, refl, sym, ap, ap₂, subst, _∙_}
+use mathlib.Core.List.{List, _∷_}
+use Prim.Native.Nat.{ℕ, zero, suc, _+_, _≤_, _<_}
+use native.Mathlib.Numerals.{add-one}
+use native.Mathlib.Omega.{arith}
+use lib.IntN.{ℤ, pos, _+ℤ_}
+use lib.ListN.{drop}
+use Rattle.theory.specs.Build.{Ext}
+use Rattle.theory.specs.Costs.{Cost, amount, costs}
+use Rattle.theory.specs.Diagrams.{Branch, ending, leaf, meaning, up, value}
+use Rattle.theory.specs.Functions.{held, lift}
+use Rattle.theory.specs.Settings.{Pos, zeros}
+use Rattle.theory.specs.WellFormed.{Ok}
+use Rattle.theory.proofs.Canonical.{build-agree}
+use Rattle.theory.proofs.Lifting.{build-adds, build-lift}
+use Rattle.theory.proofs.Lists.{pos-drop}
+use Rattle.theory.proofs.Values.{value-ending}
+use Rattle.theory.proofs.WellFormed.{ok-ext}
+use Rattle.cost_laws.specs.Integers.{Fit, int}
+use Rattle.cost_laws.specs.Range.{addMost}
+use Rattle.cost_laws.specs.Relative.{bare, branchAt}
+use Rattle.cost_laws.proofs.Relative.{offs, branch-under}
+use Rattle.cost_laws.proofs.Walks.{raised}
+use Rattle.words.specs.Holding.{built as builtOf}
+use Rattle.words.specs.Words.{features, size, sizes}
+use Rattle.words.proofs.Filling as F
+use Rattle.words.proofs.Words.{length-sizes, at-sizes, kept-features, kept-sizes}
+use Rattle.cost_words.specs.Words.{target, branch, nodes}
+use Rattle.cost_words.proofs.Packing.{target-end}
+use Rattle.cost_nodes.specs.Nodes.{Holds, Good, top, Place, built, Result, Filling}
+use Rattle.cost_nodes.specs.declared.Answer.{Answer}
+use Rattle.cost_nodes.specs.declared.Answer.the-variants.{Is, NoRoom}
+use Rattle.cost_nodes.proofs.Reading.{lawful}
+use Rattle.cost_nodes.proofs.Stepping.{good-small, good-top, top-good, top-most, top-below}
+use Rattle.cost_nodes.proofs.Filling.{filling-ext}
+use Rattle.cost_engine.specs.Joint.{opOf, together, joint, jointFrom, ahead, gap, Bounded, Joinable, Operands, Branches}
+use Rattle.cost_engine.specs.declared.operators.Operator.{Operator}
+use Rattle.cost_engine.proofs.Joining.{joint-none, joint-split, joint-step, joint-wait, joint-ext, joint-end}
+use Rattle.cost_engine.proofs.Bounding.{more-fits, end-fits, bounded-wait, bounded-step, bounded-ext, whole-fits, lead-fits, bounded-start, whole-start, lead-start}
+
+-- ---- the features that are left
+pos-from : (w : List ℕ) (k : ℕ) → Holds w → Pos (drop k (sizes w))
+pos-from w k ok = pos-drop k (sizes w) (lawful .positive w (ok .laid))
+
+sizes-from : (w : List ℕ) (k : ℕ) → k < features w → drop k (sizes w) ≡ size w k ∷ drop (suc k) (sizes w)
+sizes-from w k h = F.sizes-from lawful w k (omega (arith, length-sizes w)) ∙ ap (λ (n : ℕ). n ∷ drop (suc k) (sizes w)) (at-sizes w k h)
+
+-- ---- operands
+module _ (w : List ℕ) (o : Operator) (k x y : ℕ) (d : ℤ) (p : Operands w o k x y d) where
+  pub first-place : Place w k x
+  first-place = record { holds = p .holds; good = p .first; upTo = p .upTo }
+
+  pub second-place : Place w k y
+  second-place = record { holds = p .holds; good = p .second; upTo = p .upTo }
+
+  -- the difference, and the result where both have ended, have a word
+  pub operands-more : Fit addMost d
+  operands-more = more-fits (sizes w) (nodes w) (p .holds .wf) k (target x) (target y) d (p .first) (p .second) o (drop k (sizes w)) (pos-from w k (p .holds)) (p .bounded)
+
+  pub operands-end : Fit addMost (opOf o (pos 0) d)
+  operands-end = end-fits (sizes w) (nodes w) (p .holds .wf) k (target x) (target y) d (p .first) (p .second) o (drop k (sizes w)) (pos-from w k (p .holds)) (p .bounded)
+
+  -- one of the two is a node: it tests a feature, and none below k
+  pub still-left : (x + y ≡ 0 → ⊥) → k < features w
+  still-left n = go x y (p .first) (p .second) n
+    where
+      go : (x y : ℕ) → Good w k x → Good w k y → (x + y ≡ 0 → ⊥) → k < features w
+      go zero y g h n = omega (arith, good-top w k y h (p .upTo), top-below w k y (p .holds) h (omega (arith, n)))
+      go (suc x) y g h n = omega (arith, good-top w k (suc x) g (p .upTo), top-below w k (suc x) (p .holds) g (omega arith))
+
+  listed-bounded : (hk : k < features w) → Bounded o (size w k ∷ drop (suc k) (sizes w)) (nodes w) k (target x) (target y) d
+  listed-bounded hk = subst (λ (ns : List ℕ). Bounded o ns (nodes w) k (target x) (target y) d) (sizes-from w k hk) (p .bounded)
+
+  module _ (m : ℕ) (hx : m ≤ top w x) (hy : m ≤ top w y) (h : k < m) where
+    pub skip-left : k < features w
+    skip-left = omega (arith, top-most w k x (p .holds) (p .first))
+
+    good-on : (z : ℕ) → Good w k z → m ≤ top w z → Good w (suc k) z
+    good-on z g l = top-good w (suc k) z (good-small w k z g) (omega arith)
+
+    -- neither tests feature k
+    pub operands-skip : Operands w o (k + 1) x y d
+    operands-skip =
+        rw add-one
+        (record {
+          holds = p .holds;
+          upTo = omega (arith, skip-left);
+          first = good-on x (p .first) hx;
+          second = good-on y (p .second) hy;
+          bounded = bounded-wait (nodes w) k (size w k) (drop (suc k) (sizes w)) (target x) (target y) d o (omega (arith, p .holds .laid .laid .large k skip-left)) (good-on x (p .first) hx) (good-on y (p .second) hy) (listed-bounded skip-left);
+        })
+
+    pub joint-skip : (t : List ℕ) (a : Answer) → Result w t (k + 1) (jointFrom o (nodes w) (k + 1) (target x) (target y) d) a → Result w t k (jointFrom o (nodes w) k (target x) (target y) d) a
+    joint-skip t a r =
+        F.gives-eq lawful
+        (F.built-skip lawful w k (jointFrom o (nodes w) k (target x) (target y) d) (jointFrom o (nodes w) (k + 1) (target x) (target y) d) (p .holds) (omega (arith, length-sizes w, skip-left))
+        (λ v l s. rw add-one (joint-wait o (nodes w) k (bare (target x)) (bare (target y)) d v s (good-on x (p .first) hx) (good-on y (p .second) hy)))) r
+
+  -- one value on
+  pub operands-step : (v xa a yb b : ℕ) → k < features w → v < size w k → branch xa a ≡ branchAt (nodes w) k (target x) v → branch yb b ≡ branchAt (nodes w) k (target y) v → Branches w o (k + 1) xa a yb b d
+  operands-step v xa a yb b hk hv ea eb =
+      let ns : List ℕ = drop (suc k) (sizes w) in
+      let c = listed-bounded hk in
+      let ps : Pos (size w k ∷ ns) = subst Pos (sizes-from w k hk) (pos-from w k (p .holds)) in
+      rw add-one
+      (record {
+        rest = record {
+          holds = p .holds;
+          upTo = omega arith;
+          first = subst (Ok (nodes w) (suc k)) (sym ea) (branch-under (nodes w) k (sizes w) (p .holds .wf) (target x) v (p .first));
+          second = subst (Ok (nodes w) (suc k)) (sym eb) (branch-under (nodes w) k (sizes w) (p .holds .wf) (target y) v (p .second));
+          bounded =
+              subst (λ (f : Branch costs). Bounded o ns (nodes w) (suc k) (f .to) (target yb) (gap o d (f .adds) (int b))) (sym ea)
+              (subst (λ (g : Branch costs). Bounded o ns (nodes w) (suc k) (branchAt (nodes w) k (target x) v .to) (g .to) (gap o d (branchAt (nodes w) k (target x) v .adds) (g .adds))) (sym eb)
+              (bounded-step (nodes w) k (size w k) ns (target x) (target y) d o v hv c));
+        };
+        lead =
+            subst (λ (f : Branch costs). Fit addMost (ahead o (f .adds) (int b))) (sym ea)
+            (subst (λ (g : Branch costs). Fit addMost (ahead o (branchAt (nodes w) k (target x) v .adds) (g .adds))) (sym eb)
+            (lead-fits (nodes w) k (size w k) ns (target x) (target y) d (sizes w) (p .holds .wf) ps (p .first) (p .second) v hv o c));
+        whole =
+            subst (λ (f : Branch costs). Fit addMost (joint o (nodes w) (suc k) f (branch yb b) d (zeros ns) .off)) (sym ea)
+            (subst (λ (g : Branch costs). Fit addMost (joint o (nodes w) (suc k) (branchAt (nodes w) k (target x) v) g d (zeros ns) .off)) (sym eb)
+            (whole-fits (nodes w) k (size w k) ns (target x) (target y) d (sizes w) (p .holds .wf) ps (p .first) (p .second) v hv o c));
+      })
+
+  -- the branch of the result at v is the result of the branches at v, read in any later table
+  pub joint-held : (t : List ℕ) (v xa a yb b : ℕ) → Ext (nodes w) (nodes t) → branch xa a ≡ branchAt (nodes t) k (target x) v → branch yb b ≡ branchAt (nodes t) k (target y) v → (s : List ℕ) →
+      held v (jointFrom o (nodes w) k (target x) (target y) d) s ≡ joint o (nodes t) (k + 1) (branch xa a) (branch yb b) d s
+  joint-held t v xa a yb b e ea eb s =
+      rw add-one
+      (sym (joint-ext o (nodes w) k (bare (target x)) (bare (target y)) d (sizes w) (nodes t) (p .holds .wf) e (p .first) (p .second) (v ∷ s))
+      ∙ joint-step o (nodes t) k (bare (target x)) (bare (target y)) d v s
+      ∙ ap₂ (λ (f g : Branch costs). joint o (nodes t) (suc k) f g d s) (sym ea) (sym eb))
+
+  -- in a table that holds more
+  pub operands-grown : (t : List ℕ) → Holds t → features t ≡ features w → sizes t ≡ sizes w → Ext (nodes w) (nodes t) → Operands t o k x y d
+  operands-grown t ok f z e =
+      record {
+        holds = ok;
+        upTo = omega (arith, p .upTo);
+        first = ok-ext (nodes w) (nodes t) k (bare (target x)) e (p .first);
+        second = ok-ext (nodes w) (nodes t) k (bare (target y)) e (p .second);
+        bounded = rw z (bounded-ext (sizes w) (nodes w) (nodes t) (p .holds .wf) e (drop k (sizes w)) k (target x) (target y) d (p .first) (p .second) o (p .bounded));
+      }
+
+  pub operands-ext : (t : List ℕ) (g : Cost) (v : ℕ) (xs ys : List ℕ) → Filling w t k g v xs ys → k < features w → Operands t o k x y d
+  operands-ext t g v xs ys f hk =
+      let kp = f .filled .grown .kept in
+      operands-grown t (f .filled .grown .well) (kept-features w t kp) (kept-sizes w t kp (p .holds .laid .laid .few)) (filling-ext w k g (p .holds) hk t v xs ys f)
+
+  -- both have ended
+  pub joint-ends : (e : ℕ) → x + y ≡ 0 → int e ≡ opOf o (pos 0) d → Result w w k (jointFrom o (nodes w) k (target x) (target y) d) (Is 0 e)
+  joint-ends e z q =
+      let ex : target x ≡ leaf tt = target-end x (omega arith) in
+      let ey : target y ≡ leaf tt = target-end y (omega arith) in
+      let b : branch 0 e ≡ ending (amount (opOf o (pos 0) d)) = λ i. record { adds = q i; to = target-end 0 refl i } in
+      F.result-there lawful w k (branch 0 e) (jointFrom o (nodes w) k (target x) (target y) d) (p .holds)
+      (F.built-there lawful w k (branch 0 e) (jointFrom o (nodes w) k (target x) (target y) d) (p .holds) (subst (Ok (nodes w) k) (sym b) tt)
+      (λ s. ap (λ (c : Branch costs). value (nodes w) k c s) b ∙ value-ending (nodes w) k (amount (opOf o (pos 0) d)) s
+      ∙ sym (ap₂ (λ t u. jointFrom o (nodes w) k t u d s) ex ey ∙ joint-end o (nodes w) k d s)))
+
+-- ---- two branches
+-- the difference by its word
+pub at-gap : (w t : List ℕ) (o : Operator) (k x y h : ℕ) (d : ℤ) (r : Answer) → int h ≡ d → Result w t k (jointFrom o (nodes w) k (target x) (target y) (int h)) r → Result w t k (jointFrom o (nodes w) k (target x) (target y) d) r
+at-gap w t o k x y h d r e g = subst (λ (z : ℤ). Result w t k (jointFrom o (nodes w) k (target x) (target y) z) r) e g
+
+module _ (w : List ℕ) (o : Operator) (k x a y b : ℕ) (d : ℤ) (p : Branches w o k x a y b d) where
+  abbrev G : ℤ
+  G = gap o d (int a) (int b)
+
+  abbrev L : ℤ
+  L = ahead o (int a) (int b)
+
+  abbrev R : Cost
+  R = jointFrom o (nodes w) k (target x) (target y) G
+
+  built-raised : built w k (joint o (nodes w) k (branch x a) (branch y b) d) ≡ raised L (built w k R)
+  unfolding builtOf
+  built-raised =
+      build-agree k (drop k (sizes w)) (joint o (nodes w) k (branch x a) (branch y b) d) (λ s. lift L (R s)) (λ s v. joint-split o (nodes w) k (branch x a) (branch y b) d s) (nodes w)
+      ∙ build-lift (sizes w) k (drop k (sizes w)) refl (pos-from w k (p .rest .holds)) L R (nodes w) (p .rest .holds .wf)
+
+  built-adds : built w k R .0 .adds ≡ R (zeros (drop k (sizes w))) .off
+  unfolding builtOf
+  built-adds = build-adds (sizes w) k (drop k (sizes w)) refl (pos-from w k (p .rest .holds)) R (nodes w) (p .rest .holds .wf)
+
+  -- the sum has a word
+  pub sum-fits : (t : List ℕ) (g z e : ℕ) → int g ≡ L → Result w t k R (Is z e) → Fit addMost (int g +ℤ int e)
+  sum-fits t g z e q r =
+      let i : int e ≡ R (zeros (drop k (sizes w))) .off = ap (λ (c : Branch costs). c .adds) (r .answers .0) ∙ built-adds in
+      subst (Fit addMost) (offs (joint-split o (nodes w) k (branch x a) (branch y b) d (zeros (drop k (sizes w)))) ∙ sym (λ j. q j +ℤ i j)) (p .whole)
+
+  pub joint-raised : (t : List ℕ) (g z e f : ℕ) → int g ≡ L → int f ≡ int g +ℤ int e → Result w t k R (Is z e) → Result w t k (joint o (nodes w) k (branch x a) (branch y b) d) (Is z f)
+  joint-raised t g z e f q h r =
+      F.gives-eq lawful built-raised
+      (record {
+        grown = r .grown;
+        answers = ((λ i. record { adds = (h ∙ ap (λ (c : ℤ). c +ℤ int e) q) i; to = target z }) ∙ ap (up L) (r .answers .0), r .answers .1);
+      })
+
+  pub joint-stopped : (t : List ℕ) → Result w t k R NoRoom → Result w t k (joint o (nodes w) k (branch x a) (branch y b) d) NoRoom
+  joint-stopped t r = F.gives-eq lawful built-raised (record { grown = r .grown; answers = r .answers })
+
+-- ---- at the start
+module _ (w : List ℕ) (o : Operator) (x a y b : ℕ) (p : Joinable w o (branch x a) (branch y b)) where
+  pub start : (d : ℤ) → d ≡ pos 0 → Branches w o 0 x a y b d
+  start d e =
+      let ok = p .holds in
+      rw e
+      (record {
+        rest = record {
+          holds = ok;
+          upTo = omega arith;
+          first = p .first;
+          second = p .second;
+          bounded = bounded-start (sizes w) (nodes w) (ok .wf) 0 (sizes w) (pos-from w 0 ok) (branch x a) (branch y b) (p .first) (p .second) (p .firstIn) (p .secondIn) o (p .resultIn);
+        };
+        lead = lead-start (sizes w) (nodes w) (ok .wf) 0 (sizes w) (pos-from w 0 ok) (branch x a) (branch y b) (p .first) (p .second) (p .firstIn) (p .secondIn) o (p .resultIn);
+        whole = whole-start (sizes w) (nodes w) (ok .wf) 0 (sizes w) (pos-from w 0 ok) (branch x a) (branch y b) (p .first) (p .second) (p .firstIn) (p .secondIn) o (p .resultIn);
+      })
+
+  pub joint-start : (d : ℤ) → d ≡ pos 0 → (t : List ℕ) (r : Answer) → Result w t 0 (joint o (nodes w) 0 (branch x a) (branch y b) d) r →
+      Result w t 0 (together o (meaning (nodes w) (branch x a)) (meaning (nodes w) (branch y b))) r
+  unfolding builtOf
+  joint-start d e t r g =
+      F.gives-eq lawful
+      (build-agree 0 (sizes w) (together o (meaning (nodes w) (branch x a)) (meaning (nodes w) (branch y b))) (joint o (nodes w) 0 (branch x a) (branch y b) d)
+      (λ s v. sym (ap (λ (z : ℤ). joint o (nodes w) 0 (branch x a) (branch y b) z s) e ∙ joint-none o (nodes w) 0 (branch x a) (branch y b) d s)) (nodes w)) g

@@ -1,0 +1,47 @@
+-- `cost_nodes::top_of` meets its contract: the end tests nothing, a node tests its feature. Assumes nothing.
+use Prim.Native.Nat.{suc}
+use mathlib.Core.Path.{_≡_, sym, _∙_}
+use native.Mathlib.Omega.{arith}
+use Rattle.cost_nodes.proofs.Stepping.{top-end, top-node}
+use borrow.Author.Needs.{needs}
+use Rattle.cost_nodes.proofs.top_of.Statement.{statement}
+use Rattle.cost_nodes.proofs.top_of.Tie as tie
+
+head-word-requires : tie.Need-head-word-requires
+head-word-requires c κs = search needs
+
+wide-requires : tie.Need-wide-requires
+wide-requires c κs = search needs
+
+sub-wide : tie.Need-sub-wide
+sub-wide c = search needs
+
+wide-requires-2 : tie.Need-wide-requires-2
+wide-requires-2 c κs = search needs
+
+record-word-requires : tie.Need-record-word-requires
+record-word-requires c κs = search needs
+
+wide-requires-3 : tie.Need-wide-requires-3
+wide-requires-3 c κs = search needs
+
+returns : tie.Need-returns
+returns c = (c .wide) .ensures .0 ∙ (c .before .head-word) .ensures ∙ sym (top-end ((c .before .before .before .before) .args .t .now) ((c .before .before .before .before) .args .x) (omega arith))
+
+returns-2 : tie.Need-returns-2
+returns-2 c = let a = (c .before .before .before .before .before) in
+    let e : a .args .x ≡ suc ((c .before .before .wide2) .result) = omega (arith, (c .before .before .wide2) .ensures .0) in
+    (c .wide3) .ensures .0 ∙ (c .before .record-word) .ensures ∙ sym (top-node (a .args .t .now) (a .args .x) ((c .before .before .wide2) .result) e)
+
+pub top-of-spec : {M : Type 1} → statement M
+top-of-spec =
+    tie.close
+    (tie.spec
+    head-word-requires
+    wide-requires
+    sub-wide
+    wide-requires-2
+    record-word-requires
+    wide-requires-3
+    returns
+    returns-2)
