@@ -1,0 +1,88 @@
+-- `calls::fitting::setting_fits` meets its contract: the values passed are below their sizes. Assumes nothing.
+use Rattle.words.proofs.Words.{length-sizes, at-sizes}
+use Rattle.words.specs.Words.{features, size, sizes}
+use Rattle.theory.proofs.Ranges.{valid-length, valid-at, valid-from}
+use borrow.Author.Count.{below-more}
+use lib.ListN.{length, getD}
+use native.Mathlib.Omega.{arith}
+use Prim.Native.Nat.{ℕ, _-_, _≤_, _<_}
+use mathlib.Core.Path.{_≡_, sym, _∙_}
+use borrow.Author.Needs.{needs}
+use Rattle.calls.proofs.fitting.setting_fits.Statement.{statement}
+use Rattle.calls.proofs.fitting.setting_fits.Tie as tie
+
+abbrev Inv-loop : tie.InvT-loop
+Inv-loop t setting n k₀ k = (n ≡ features t) × (length setting ≡ n) × (k ≤ n) × ((j : ℕ) → j < k → getD setting j 0 < size t j)
+
+abbrev μ-loop : tie.MeasureT-loop
+μ-loop t setting n k₀ k = n - k
+
+head-word-requires : tie.Need-head-word-requires Inv-loop μ-loop
+head-word-requires c κs = omega (arith, (c .before .before) .pre .0)
+
+wide-requires : tie.Need-wide-requires Inv-loop μ-loop
+wide-requires c κs = search needs
+
+returns : tie.Need-returns Inv-loop μ-loop
+returns c = λ v. (c .if1) .taken (valid-length (sizes ((c .before .before .before .before .before) .args .t .now)) ((c .before .before .before .before .before) .args .setting .now) v ∙ length-sizes ((c .before .before .before .before .before) .args .t .now) ∙ sym ((c .before .wide) .ensures .0 ∙ (c .before .before .head-word) .ensures))
+
+loop-holds : tie.Need-loop-holds Inv-loop μ-loop
+loop-holds c = ((c .before .wide) .ensures .0 ∙ (c .before .before .head-word) .ensures, (c .if1) .left, omega arith, (λ j h. absurd (omega arith)))
+
+add-head-word : tie.Need-add-head-word Inv-loop μ-loop
+add-head-word c = search needs
+
+head-word-requires-2 : tie.Need-head-word-requires-2 Inv-loop μ-loop
+head-word-requires-2 c κs = omega (arith, (c .before .before .before .before .before .before .before) .pre .0, (c .before .before .before .before .before .before .before) .pre .1, (c .before .loop) .inv .0)
+
+shared-slice-read-small : tie.Need-shared-slice-read-small Inv-loop μ-loop
+shared-slice-read-small c = omega (arith, (c .before .before .before .loop) .inv .1)
+
+small-requires : tie.Need-small-requires Inv-loop μ-loop
+small-requires c κs = search needs
+
+returns-2 : tie.Need-returns-2 Inv-loop μ-loop
+returns-2 c = λ v. let l = (c .before .before .before .before .before .loop) in
+    let f : l .k < features ((c .before .before .before .before .before .before .before .before .before .before .before) .args .t .now) = omega (arith, l .inv .0) in
+    omega (arith, valid-at (sizes ((c .before .before .before .before .before .before .before .before .before .before .before) .args .t .now)) ((c .before .before .before .before .before .before .before .before .before .before .before) .args .setting .now) v (l .k) (omega (arith, length-sizes ((c .before .before .before .before .before .before .before .before .before .before .before) .args .t .now))), at-sizes ((c .before .before .before .before .before .before .before .before .before .before .before) .args .t .now) (l .k) f, (c .before .before .before .head-word2) .ensures, (c .before .small) .ensures .0)
+
+add-k : tie.Need-add-k Inv-loop μ-loop
+add-k c = search needs
+
+loop-less : tie.Need-loop-less Inv-loop μ-loop
+loop-less c = search needs
+
+loop-again : tie.Need-loop-again Inv-loop μ-loop
+loop-again c = let l = (c .before .before .before .before .before .loop) in (
+  l .inv .0,
+  l .inv .1,
+  omega arith,
+  below-more _ _ (l .inv .3) (omega (arith, (c .before .before .before .head-word2) .ensures, (c .before .small) .ensures .0)),
+)
+
+returns-3 : tie.Need-returns-3 Inv-loop μ-loop
+returns-3 c = let l = (c .before .loop) in
+    let w = (c .before .before .before .before .before .before .before) .args .t .now in
+    let e : l .k ≡ features w = omega (arith, l .inv .0) in
+    valid-from (sizes w) ((c .before .before .before .before .before .before .before) .args .setting .now) (l .inv .1 ∙ l .inv .0 ∙ sym (length-sizes w))
+    (λ j h. let f : j < features w = omega (arith, length-sizes w) in omega (arith, l .inv .3 j (omega arith), at-sizes w j f))
+
+pub setting-fits-spec : {M : Type 1} → statement M
+setting-fits-spec =
+    tie.close
+    (tie.spec
+    Inv-loop
+    μ-loop
+    head-word-requires
+    wide-requires
+    returns
+    loop-holds
+    add-head-word
+    head-word-requires-2
+    shared-slice-read-small
+    small-requires
+    returns-2
+    add-k
+    loop-less
+    loop-again
+    returns-3)

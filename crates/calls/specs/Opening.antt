@@ -1,0 +1,47 @@
+-- What opening asks for, and what its steps leave, for every kind. Assumes nothing.
+use mathlib.Core.Path.{_≡_}
+use mathlib.Core.List.{List}
+use Prim.Native.Nat.{ℕ, _+_, _≤_, _<_}
+use lib.ListN.{length, getD}
+use Rattle.theory.specs.Settings.{FeatureList}
+use Rattle.words.specs.Words.{bound}
+
+-- inside document 01's numbers, and enough words
+pub record Openable (S : List ℕ) (cap : ℕ) (w : List ℕ) : Type 0 where
+  pub list : FeatureList S
+  pub some : 1 ≤ cap
+  pub most : cap ≤ 4096
+  pub room : bound cap ≤ length w
+
+-- ---- the steps
+-- the first n words are 0, the others kept
+pub record Cleared (n : ℕ) (w w′ : List ℕ) : Type 0 where
+  pub long : length w′ ≡ length w
+  pub zero : (j : ℕ) → j < n → getD w′ j 0 ≡ 0
+  pub past : (j : ℕ) → n ≤ j → getD w′ j 0 ≡ getD w j 0
+
+-- the words 48 to 63 are b, the others kept
+pub record Based (b : ℕ) (w w′ : List ℕ) : Type 0 where
+  pub long : length w′ ≡ length w
+  pub bases : (j : ℕ) → 48 ≤ j → j < 64 → getD w′ j 0 ≡ b
+  pub before : (j : ℕ) → j < 48 → getD w′ j 0 ≡ getD w j 0
+  pub past : (j : ℕ) → 64 ≤ j → getD w′ j 0 ≡ getD w j 0
+
+-- the sizes stand from word 3 on, the other words are kept
+pub record Sized (S w w′ : List ℕ) : Type 0 where
+  pub long : length w′ ≡ length w
+  pub sizes : (k : ℕ) → k < length S → getD w′ (3 + k) 0 ≡ getD S k 0
+  pub before : (j : ℕ) → j < 3 → getD w′ j 0 ≡ getD w j 0
+  pub past : (j : ℕ) → 3 + length S ≤ j → getD w′ j 0 ≡ getD w j 0
+
+-- the words of a fresh table of kind k whose bases are the word b
+pub record Named (k b : ℕ) (S : List ℕ) (cap : ℕ) (w w′ : List ℕ) : Type 0 where
+  pub long : length w′ ≡ length w
+  pub kind : getD w′ 0 0 ≡ k
+  pub capacity : getD w′ 1 0 ≡ cap
+  pub features : getD w′ 2 0 ≡ length S
+  pub sizes : (i : ℕ) → i < length S → getD w′ (3 + i) 0 ≡ getD S i 0
+  pub zero : (j : ℕ) → 3 + length S ≤ j → j < 48 → getD w′ j 0 ≡ 0
+  pub bases : (j : ℕ) → 48 ≤ j → j < 64 → getD w′ j 0 ≡ b
+  pub clean : (j : ℕ) → 64 ≤ j → j < bound cap → getD w′ j 0 ≡ 0
+  pub past : (j : ℕ) → bound cap ≤ j → getD w′ j 0 ≡ getD w j 0

@@ -1,0 +1,6 @@
+pub mod Signed
+pub mod Sounding
+pub mod Answering
+pub mod Looking
+pub mod Opened
+pub mod Theorems

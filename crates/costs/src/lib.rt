@@ -1,0 +1,18 @@
+// The cost table: opening, constant, copy, look up, same, tally.
+mod amounts; // amounts.rt: signed numbers and the words that stand for them
+mod opening; // opening.rt: a fresh table
+mod reading; // reading.rt: look up, same, tally
+mod writing; // writing.rt: constant, copy
+
+pub use amounts::amount_ok;
+pub use amounts::cost_of;
+pub use amounts::word_of;
+pub use opening::open;
+pub use reading::Compared;
+pub use reading::Looked;
+pub use reading::Tallied;
+pub use reading::look_up;
+pub use reading::same;
+pub use reading::tally;
+pub use writing::constant;
+pub use writing::copy;
