@@ -4,9 +4,6 @@ mod opening; // opening.rt: a fresh table
 mod reading; // reading.rt: look up, same, tally
 mod writing; // writing.rt: constant, copy
 
-pub use amounts::amount_ok;
-pub use amounts::cost_of;
-pub use amounts::word_of;
 pub use opening::open;
 pub use reading::Compared;
 pub use reading::Looked;
