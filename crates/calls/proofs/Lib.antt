@@ -1,1 +1,6 @@
 pub mod Opened
+pub mod Settling
+pub mod Sounding
+pub mod Theorems
+pub mod Lists
+pub mod Exactly

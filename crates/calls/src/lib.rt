@@ -1,7 +1,10 @@
-// What the calls of every kind of table share: a fresh table laid out, and whether bytes are a setting of its features.
+// What the calls of every kind of table share: a fresh table laid out, whether bytes are a setting of its features, whether two
+// tables have one list; the promise and the laws of calls that write.
 mod fitting; // fitting.rt: settings tested
+mod matching; // matching.rt: feature lists compared
 mod opening; // opening.rt: a fresh table
 
 pub use fitting::index;
 pub use fitting::setting_fits;
+pub use matching::same_features;
 pub use opening::lay;

@@ -8,7 +8,7 @@ use native.Mathlib.Omega.{arith}
 use lib.ListN.{length, getD, length-map, List·getD-eq-default}
 use lib.Seq.{ext-getD}
 use Rattle.theory.specs.Kind.{Kind}
-use Rattle.theory.specs.Settings.{Valid}
+use Rattle.theory.specs.Settings.{FeatureList, Valid}
 use Rattle.theory.specs.Functions.{Agree, Fun, zero-fun}
 use Rattle.theory.specs.Diagrams.{Branch, Node, at, blank, empty, meaning}
 use Rattle.theory.specs.WellFormed.{Fits, Ok, Under, WF}
@@ -74,15 +74,15 @@ module _ {K : Kind} {R : Reading K} (L : Read R) where
     pub tested-wf : WF (sizes w) M
     tested-wf = nodes-wf (L .goes) (L .faithful) w (s .header .fit) (s .nodes-ok) (s .chained)
 
-    root-ok : (p : ℕ) → p < R .drawing .places → Ok M 0 (R .rootAt w p)
-    root-ok p h = rw (L .root-goes w p) (sits-good (L .goes) w (count w) 0 (head w (32 + p)) (le-refl _) (s .roots-ok p h))
+    pub tested-root : (p : ℕ) → p < R .drawing .places → Ok M 0 (R .rootAt w p)
+    tested-root p h = rw (L .root-goes w p) (sits-good (L .goes) w (count w) 0 (head w (32 + p)) (le-refl _) (s .roots-ok p h))
 
     pub tested-tidy : Tidy (sizes w) (R .roots w) M
     tested-tidy =
         record {
           well = tested-wf;
           roots-ok = all-ok-of M (R .roots w)
-              (λ p h. let hp : p < R .drawing .places = omega (arith, L .length-roots w) in subst (Ok M 0) (sym (L .at-roots w p hp)) (root-ok p hp));
+              (λ p h. let hp : p < R .drawing .places = omega (arith, L .length-roots w) in subst (Ok M 0) (sym (L .at-roots w p hp)) (tested-root p hp));
           in-order = s .in-order ∙ ap (λ (n : ℕ). let o : Option ℕ = some n in o) (sym length-M);
         }
 
@@ -137,20 +137,25 @@ module _ {K : Kind} {R : Reading K} (L : Read R) where
     pub tested-pictures : Pictures (R .drawing) (capacity w) (sizes w) (R .drawing .said w) w
     tested-pictures = subst (λ (q : List (Branch K) × List (Node K)). Shows (R .drawing) (capacity w) (sizes w) (q .0) (q .1) w) (sym tested-table) shows-self
 
+    pub tested-list : FeatureList (sizes w)
+    tested-list =
+        let h = s .header in
+        let l = length-sizes w in
+        record {
+          some = omega (arith, h .one);
+          few = omega (arith, h .few);
+          least = λ k hk. let f : k < features w = omega arith in omega (arith, at-sizes w k f, h .fit .large k f .0);
+          most = λ k hk. let f : k < features w = omega arith in omega (arith, at-sizes w k f, h .fit .large k f .1);
+        }
+
     pub tested-proper : ((p : ℕ) → p < R .drawing .places → (t : List ℕ) → Valid (sizes w) t → R .drawing .InRange (getD (R .drawing .said w) p zero-fun t))
         → Proper (R .drawing) (capacity w) (sizes w) (R .drawing .said w)
     tested-proper range =
         let h = s .header in
-        let l = length-sizes w in
         record {
           some = h .some;
           most = h .most;
-          list = record {
-            some = omega (arith, h .one);
-            few = omega (arith, h .few);
-            least = λ k hk. let f : k < features w = omega arith in omega (arith, at-sizes w k f, h .fit .large k f .0);
-            most = λ k hk. let f : k < features w = omega arith in omega (arith, at-sizes w k f, h .fit .large k f .1);
-          };
+          list = tested-list;
           places = L .length-said w;
           range = range;
           fits = omega (arith, ap (λ (q : List (Branch K) × List (Node K)). length (q .1)) tested-table, length-M, h .within);

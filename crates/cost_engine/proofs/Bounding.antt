@@ -11,7 +11,6 @@ use Rattle.theory.specs.Diagrams.{Branch, Node, Target, value}
 use Rattle.theory.specs.Settings.{Pos, Valid, zeros}
 use Rattle.theory.specs.WellFormed.{Ok, Under, WF}
 use Rattle.theory.proofs.Ranges.{zeros-valid}
-use Rattle.theory.proofs.Values.{value-ext}
 use Rattle.cost_laws.specs.Integers.{Fit, int}
 use Rattle.cost_laws.specs.Narrow.{Placed, Spread}
 use Rattle.cost_laws.specs.Operations.{smallerOf, largerOf}
@@ -19,7 +18,7 @@ use Rattle.cost_laws.specs.Range.{Within, addMost, costMost}
 use Rattle.cost_laws.specs.Relative.{bare, branchAt, apartFrom, onward}
 use Rattle.cost_laws.proofs.Adding.{Splits, add-splits, subtract-splits, scale-splits, splits-zero}
 use Rattle.cost_laws.proofs.Integers.{ℕ-eq, sum-ℕ, minus-ℕ, fit-minus, fit-more, fit-zero, minus-zero}
-use Rattle.cost_laws.proofs.Placing.{Takes, adds-fits, placed-start, placed-wait, placed-step, placed-fits, placed-result}
+use Rattle.cost_laws.proofs.Placing.{Takes, adds-fits, placed-start, placed-wait, placed-step, placed-fits, placed-ext, placed-result}
 use Rattle.cost_laws.proofs.Range.{smaller-takes, larger-takes}
 use Rattle.cost_laws.proofs.Relative.{offs, value-from, from-step, from-zeros, branch-under}
 use Rattle.cost_laws.proofs.Spreads.{spread-agree, spread-lower, walk-spread, walk-spread-wait, within-agree, within-spread}
@@ -144,20 +143,12 @@ module _ (N : List (Node costs)) (k n : ℕ) (ns : List ℕ) (t u : Target costs
 
 -- ---- in a longer list
 module _ (S : List ℕ) (N M : List (Node costs)) (w : WF S N) (e : Ext N M) (ns : List ℕ) (k : ℕ) (t u : Target costs) (d : ℤ) (p : Under N (length N) k t) (q : Under N (length N) k u) where
-  placed-ext : Placed costMost ns N k t u d → Placed costMost ns M k t u d
-  placed-ext h =
-      record {
-        onto = h .onto;
-        first = within-agree (λ s x. value-ext S N M k (record { adds = h .onto; to = t }) s w e p) (h .first);
-        second = within-agree (λ s x. value-ext S N M k (record { adds = h .onto +ℤ d; to = u }) s w e q) (h .second);
-      }
-
   based-ext : (o : Operator) → Based o ns N k t u d → Based o ns M k t u d
   based-ext Add b = b
   based-ext Subtract b = b
   based-ext (Scale c) b = b
-  based-ext Smaller b = placed-ext b
-  based-ext Larger b = placed-ext b
+  based-ext Smaller b = placed-ext N k S w M e ns t u d p q b
+  based-ext Larger b = placed-ext N k S w M e ns t u d p q b
 
   pub bounded-ext : (o : Operator) → Bounded o ns N k t u d → Bounded o ns M k t u d
   bounded-ext o b =

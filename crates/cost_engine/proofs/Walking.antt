@@ -14,7 +14,6 @@ use Rattle.theory.specs.Settings.{Pos, zeros}
 use Rattle.theory.specs.WellFormed.{Ok}
 use Rattle.theory.proofs.Canonical.{build-agree}
 use Rattle.theory.proofs.Lifting.{build-adds, build-lift}
-use Rattle.theory.proofs.Lists.{pos-drop}
 use Rattle.theory.proofs.Values.{value-ending}
 use Rattle.theory.proofs.WellFormed.{ok-ext}
 use Rattle.cost_laws.specs.Integers.{Fit, int}
@@ -25,26 +24,19 @@ use Rattle.cost_laws.proofs.Walks.{raised}
 use Rattle.words.specs.Holding.{built as builtOf}
 use Rattle.words.specs.Words.{features, size, sizes}
 use Rattle.words.proofs.Filling as F
-use Rattle.words.proofs.Words.{length-sizes, at-sizes, kept-features, kept-sizes}
+use Rattle.words.proofs.Words.{length-sizes, kept-features, kept-sizes}
 use Rattle.cost_words.specs.Words.{target, branch, nodes}
 use Rattle.cost_words.proofs.Packing.{target-end}
 use Rattle.cost_nodes.specs.Nodes.{Holds, Good, top, Place, built, Result, Filling}
 use Rattle.cost_nodes.specs.declared.Answer.{Answer}
 use Rattle.cost_nodes.specs.declared.Answer.the-variants.{Is, NoRoom}
-use Rattle.cost_nodes.proofs.Reading.{lawful}
+use Rattle.cost_nodes.proofs.Reading.{lawful, pos-from, sizes-from}
 use Rattle.cost_nodes.proofs.Stepping.{good-small, good-top, top-good, top-most, top-below}
 use Rattle.cost_nodes.proofs.Filling.{filling-ext}
 use Rattle.cost_engine.specs.Joint.{opOf, together, joint, jointFrom, ahead, gap, Bounded, Joinable, Operands, Branches}
 use Rattle.cost_engine.specs.declared.operators.Operator.{Operator}
 use Rattle.cost_engine.proofs.Joining.{joint-none, joint-split, joint-step, joint-wait, joint-ext, joint-end}
 use Rattle.cost_engine.proofs.Bounding.{more-fits, end-fits, bounded-wait, bounded-step, bounded-ext, whole-fits, lead-fits, bounded-start, whole-start, lead-start}
-
--- ---- the features that are left
-pos-from : (w : List ℕ) (k : ℕ) → Holds w → Pos (drop k (sizes w))
-pos-from w k ok = pos-drop k (sizes w) (lawful .positive w (ok .laid))
-
-sizes-from : (w : List ℕ) (k : ℕ) → k < features w → drop k (sizes w) ≡ size w k ∷ drop (suc k) (sizes w)
-sizes-from w k h = F.sizes-from lawful w k (omega (arith, length-sizes w)) ∙ ap (λ (n : ℕ). n ∷ drop (suc k) (sizes w)) (at-sizes w k h)
 
 -- ---- operands
 module _ (w : List ℕ) (o : Operator) (k x y : ℕ) (d : ℤ) (p : Operands w o k x y d) where

@@ -1,22 +1,22 @@
 // The engine of costs: one walk serves add, subtract, smaller, larger and scale on a cost table, with remembered results in lent scratch words.
-mod memory; // memory.rt: what the scratch words remember
 mod operators; // operators.rt: the operators in words that stand for integers
 
+use cost_memory::Memo;
+use cost_memory::clear;
+use cost_memory::recall;
+use cost_memory::remember;
 use cost_nodes::Answer;
 use cost_nodes::Arm;
 use cost_nodes::arm_at;
 use cost_nodes::make;
 use cost_nodes::top_of;
 use cost_words::sum_word;
-use memory::Memo;
-use memory::clear;
-use memory::recall;
-use memory::remember;
 pub use operators::Operator;
 use operators::ahead_word;
 use operators::end_word;
 use operators::gap_word;
 use words::head_word;
+use words::narrow;
 use words::wide;
 ghost use Prim.Native.Nat.{ℕ, _≤_, _<_};
 ghost use Rattle.theory.specs.Diagrams.{meaning};
@@ -36,7 +36,7 @@ struct Filled {
 }
 
 // The lowest feature that one of two targets tests.
-fn lowest(t: &[u32], x: u32, y: u32) -> usize
+pub fn lowest(t: &[u32], x: u32, y: u32) -> usize
     requires { ⌜ (Laid (now t)) × (x ≤ count (now t)) × (y ≤ count (now t)) ⌝ }
     ensures { λ r. ⌜ (r ≤ top (now (t .entry)) x) × (r ≤ top (now (t .entry)) y) × ((z : ℕ) → z ≤ top (now (t .entry)) x → z ≤ top (now (t .entry)) y → z ≤ r) ⌝ }
 {
@@ -64,7 +64,8 @@ fn rest_result(
     if k < lowest(t, x, y) {
         return rest_result(t, s, o, k + 1, x, y, d);
     }
-    let memo = recall(s, k, x, y, d);
+    let tag = narrow(k + 1);
+    let memo = recall(s, tag, x, y, d);
     if let Memo::Known(z, e) = memo {
         return Answer::Is(z, e);
     }
@@ -75,7 +76,7 @@ fn rest_result(
         let Answer::Is(z, e) = make(t, k, goes, adds) else {
             return Answer::NoRoom;
         };
-        remember(s, k, x, y, d, z, e);
+        remember(s, tag, x, y, d, z, e);
         return Answer::Is(z, e);
     }
     Answer::NoRoom
@@ -139,11 +140,15 @@ fn branch_result(
     Answer::Is(z, sum_word(ahead_word(o, a.adds, b.adds), e))
 }
 
-// The joint cost of two branches, built after the table's nodes. Whatever the scratch holds, it is emptied first.
+// The joint cost of two branches, built after the table's nodes. Whatever the scratch holds, it is emptied first; where it is short, own words remember.
 pub fn join_costs(t: &mut [u32], s: &mut [u32], o: Operator, a: Arm, b: Arm) -> Answer
     requires { ⌜ Joinable (now t) o (branch (a .to) (a .adds)) (branch (b .to) (b .adds)) ⌝ }
     ensures { λ r. ⌜ Result (now (t .entry)) (now (t .exit)) 0 (together o (meaning (nodes (now (t .entry))) (branch (a .to) (a .adds))) (meaning (nodes (now (t .entry))) (branch (b .to) (b .adds)))) r ⌝ }
 {
+    if s.len() < 6144 {
+        let mut own = [0u32; 6144];
+        return branch_result(t, &mut own, o, 0, a, b, 2147483648);
+    }
     clear(s);
     branch_result(t, s, o, 0, a, b, 2147483648)
 }

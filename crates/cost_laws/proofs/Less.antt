@@ -1,20 +1,20 @@
 -- Less works on two nodes and the difference of their bases, and gives a rule. Assumes nothing.
-use mathlib.Core.Path.{_≡_, ap, _∙_}
+use mathlib.Core.Path.{_≡_, sym, ap, _∙_}
 use mathlib.Core.Bool.{Bool, cond}
 use mathlib.Core.List.{List, _∷_}
 use Prim.Native.Nat.{ℕ, suc}
-use lib.IntN.{ℤ, pos, _+ℤ_, _-ℤ_, +ℤ-idr}
+use lib.IntN.{ℤ, pos, _+ℤ_, _-ℤ_, +ℤ-idr, +ℤ-comm}
 use lib.ListN.{length}
 use lib.Signed.{ltZ}
 use Rattle.theory.specs.Rules.{Phrase, says}
-use Rattle.theory.specs.Diagrams.{Branch, Node, Target, leaf, value}
+use Rattle.theory.specs.Diagrams.{Branch, Node, Target, value}
 use Rattle.theory.specs.WellFormed.{Under, WF}
 use Rattle.theory.specs.Build.{Ext}
 use Rattle.theory.specs.Costs.{costs}
 use Rattle.cost_laws.specs.Operations.{isBelow}
 use Rattle.cost_laws.specs.Relative.{branchAt, from, belowFrom, onward}
 use Rattle.cost_laws.proofs.Integers.{test-both}
-use Rattle.cost_laws.proofs.Relative.{value-from, from-step, from-wait, from-end, from-ext}
+use Rattle.cost_laws.proofs.Relative.{value-from, from-step, from-wait, from-ext}
 use Rattle.cost_laws.proofs.Choosing.{onward-sum, base-sum}
 
 -- 1 for yes, 0 for no
@@ -55,6 +55,8 @@ module _ (N : List (Node costs)) (k : ℕ) where
       ∙ ap (ltZ (b .adds +ℤ from N k (b .to) s .off)) (base-sum (b .adds) (c .adds) (from N k (c .to) s .off))
       ∙ test-both (b .adds) (from N k (b .to) s .off) ((c .adds -ℤ b .adds) +ℤ from N k (c .to) s .off))
 
-  -- both have ended: the difference decides
-  pub below-ends : (d : ℤ) (s : List ℕ) → belowFrom N k (leaf tt) (leaf tt) d s ≡ says (cond (ltZ (pos 0) d) 1 0)
-  below-ends d s = (λ i. bit (ltZ (from-end N k s i .off) (d +ℤ from-end N k s i .off))) ∙ ap (λ (z : ℤ). bit (ltZ (pos 0) z)) (+ℤ-idr d)
+  -- of equal targets, as where both have ended, the difference decides
+  pub below-same : (t : Target costs) (d : ℤ) (s : List ℕ) → belowFrom N k t t d s ≡ says (cond (ltZ (pos 0) d) 1 0)
+  below-same t d s =
+      let x : ℤ = from N k t s .off in
+      ap bit ((λ i. ltZ (sym (+ℤ-idr x) i) (+ℤ-comm d x i)) ∙ test-both x (pos 0) d)

@@ -18,4 +18,3 @@ pub mod Passing
 pub mod Lowest
 pub mod Spots
 pub mod Seeking
-pub mod Examples

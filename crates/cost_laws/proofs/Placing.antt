@@ -4,25 +4,25 @@ use mathlib.Core.Logic.{_⊎_, inl, inr}
 use mathlib.Core.List.{List, _∷_}
 use Prim.Native.Nat.{ℕ, suc, _+_, _<_}
 use native.Mathlib.Omega.{arith}
-use lib.IntN.{ℤ, _+ℤ_, _-ℤ_, +ℤ-assoc}
+use lib.IntN.{ℤ, _+ℤ_, _-ℤ_, +ℤ-idr, +ℤ-assoc}
 use lib.ListN.{length, drop}
 use Rattle.theory.specs.Settings.{Pos, Valid, zeros}
 use Rattle.theory.specs.Functions.{held, lift}
 use Rattle.theory.specs.Diagrams.{Branch, Node, Target, next, value}
 use Rattle.theory.specs.WellFormed.{Ok, Under, WF}
-use Rattle.theory.specs.Build.{build}
+use Rattle.theory.specs.Build.{Ext, build}
 use Rattle.theory.specs.Costs.{costs}
 use Rattle.theory.proofs.Lists.{drop-head}
 use Rattle.theory.proofs.Ranges.{zeros-valid}
-use Rattle.theory.proofs.Values.{value-next, value-wait, value-zeros}
+use Rattle.theory.proofs.Values.{value-ext, value-next, value-wait, value-zeros}
 use Rattle.theory.proofs.Lifting.{build-adds}
 use Rattle.cost_laws.specs.Integers.{Fit}
 use Rattle.cost_laws.specs.Range.{Within}
 use Rattle.cost_laws.specs.Relative.{branchAt, from, apartFrom, onward}
 use Rattle.cost_laws.specs.Narrow.{Placed, Spread}
 use Rattle.cost_laws.proofs.Integers.{ℕ-eq, sum-ℕ, minus-ℕ, fit-minus}
-use Rattle.cost_laws.proofs.Relative.{offs, value-from, from-step}
-use Rattle.cost_laws.proofs.Spreads.{spread-lower, within-spread}
+use Rattle.cost_laws.proofs.Relative.{offs, value-from, from-step, from-zeros, branch-under}
+use Rattle.cost_laws.proofs.Spreads.{spread-lower, within-agree, within-spread}
 
 -- ---- on the way down
 -- what is added up so far is the cost where the features that are left are 0
@@ -93,6 +93,30 @@ module _ {B : ℕ} (N : List (Node costs)) (k : ℕ) where
       (fit-minus B B (h .onto +ℤ d) (h .onto)
       (adds-fits S N w k ns p (record { adds = h .onto +ℤ d; to = u }) o2 (h .second))
       (adds-fits S N w k ns p (record { adds = h .onto; to = t }) o1 (h .first)))
+
+  -- one value on, so does what the second has more with its branch
+  pub placed-ahead : (S : List ℕ) → WF S N → (n : ℕ) (ns : List ℕ) → Pos (n ∷ ns) → (t u : Target costs) (d : ℤ) → Under N (length N) k t → Under N (length N) k u → Placed B (n ∷ ns) N k t u d →
+      (v : ℕ) → v < n → Fit (B + B) (d +ℤ branchAt N k u v .adds)
+  placed-ahead S w n ns p t u d o1 o2 h v l =
+      let b : ℤ = branchAt N k u v .adds in
+      let e : ((h .onto +ℤ d) +ℤ b) -ℤ h .onto ≡ d +ℤ b =
+      ℕ-eq _ _ (omega (arith, sum-ℕ (h .onto) d, sum-ℕ (h .onto +ℤ d) b, minus-ℕ ((h .onto +ℤ d) +ℤ b) (h .onto), sum-ℕ d b)) in
+      subst (Fit (B + B)) e
+      (fit-minus B B ((h .onto +ℤ d) +ℤ b) (h .onto)
+      (subst (Fit B)
+      (value-from N k (record { adds = h .onto +ℤ d; to = u }) (v ∷ zeros ns)
+      ∙ ap (λ (z : ℤ). (h .onto +ℤ d) +ℤ z) (offs (from-step N k u v (zeros ns)) ∙ ap (λ (z : ℤ). b +ℤ z) (from-zeros N (suc k) S w ns (branchAt N k u v .to) (branch-under N k S w u v o2)) ∙ +ℤ-idr b))
+      (h .second .fits (v ∷ zeros ns) (l, zeros-valid ns (p .1))))
+      (adds-fits S N w k (n ∷ ns) p (record { adds = h .onto; to = t }) o1 (h .first)))
+
+  -- both may be read in a longer list
+  pub placed-ext : (S : List ℕ) → WF S N → (M : List (Node costs)) → Ext N M → (ns : List ℕ) (t u : Target costs) (d : ℤ) → Under N (length N) k t → Under N (length N) k u → Placed B ns N k t u d → Placed B ns M k t u d
+  placed-ext S w M e ns t u d o1 o2 h =
+      record {
+        onto = h .onto;
+        first = within-agree (λ s x. value-ext S N M k (record { adds = h .onto; to = t }) s w e o1) (h .first);
+        second = within-agree (λ s x. value-ext S N M k (record { adds = h .onto +ℤ d; to = u }) s w e o2) (h .second);
+      }
 
 -- ---- an operation that gives one of its operands
 pub record Takes (F : ℤ → ℤ → ℤ) : Type 0 where

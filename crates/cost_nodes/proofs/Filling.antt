@@ -15,9 +15,8 @@ use Rattle.theory.specs.Diagrams.{Branch, blank}
 use Rattle.theory.specs.Functions.{held, parts}
 use Rattle.theory.specs.Settings.{Valid, zeros}
 use Rattle.theory.specs.WellFormed.{Mean, Ok}
-use Rattle.theory.proofs.Canonical.{canonical}
 use Rattle.theory.proofs.Lists.{pos-drop}
-use Rattle.theory.proofs.Meaning.{Right, Rights, build-right, each-right}
+use Rattle.theory.proofs.Meaning.{Rights, build-right, each-right}
 use Rattle.theory.proofs.Ranges.{zeros-valid}
 use Rattle.theory.proofs.Values.{means-at, value-zeros}
 use Rattle.cost_laws.specs.Integers.{Fit, int}
@@ -25,7 +24,7 @@ use Rattle.cost_laws.specs.Narrow.{Spread}
 use Rattle.cost_laws.specs.Range.{addMost}
 use Rattle.cost_laws.proofs.Relative.{offs}
 use Rattle.words.specs.Holding as H
-use Rattle.words.specs.Holding.{built as builtOf, eachTo}
+use Rattle.words.specs.Holding.{eachTo}
 use Rattle.words.specs.Words.{features, size, sizes, listed}
 use Rattle.words.proofs.Filling as F
 use Rattle.words.proofs.Tab.{tab-none, tab-snoc, tab-ext, getD-tab}
@@ -151,18 +150,11 @@ result-ext w t k g o ok r = F.grown-ext lawful w t (built w k g .1) ok (r .grown
 -- ---- results remembered
 -- what a result tells may be remembered
 pub result-mean : (w t : List ℕ) (k : ℕ) (g : Cost) (x a : ℕ) → Holds w → Result w t k g (Is x a) → Mean (nodes t) k (drop k (sizes w)) (branch x a) g
-unfolding builtOf
-result-mean w t k g x a ok r =
-    let q : Right (sizes w) k (drop k (sizes w)) g (nodes w) (built w k g) = build-right (sizes w) k (drop k (sizes w)) refl g (nodes w) (ok .wf) in
-    let n : nodes t ≡ built w k g .1 = F.grown-nodes lawful w t (built w k g .1) (r .grown) (r .answers .1) in
-    rw (n, r .answers .0) (q .mean)
+result-mean w t k g x a ok r = F.result-mean lawful w t k g (branch x a) ok r
 
 -- and what is remembered is the result
 pub mean-result : (w : List ℕ) (k : ℕ) (g : Cost) (x a : ℕ) → Holds w → Mean (nodes w) k (drop k (sizes w)) (branch x a) g → Result w w k g (Is x a)
-unfolding builtOf
-mean-result w k g x a ok m =
-    F.result-there lawful w k (branch x a) g ok
-    (canonical (sizes w) k (drop k (sizes w)) refl (pos-drop k (sizes w) (lawful .positive w (ok .laid))) (nodes w) (ok .wf) (branch x a) g m)
+mean-result w k g x a ok m = F.mean-result lawful w k g (branch x a) ok m
 
 -- what a function that fills the lists answered
 pub filled : (w t : List ℕ) (k : ℕ) (g : Cost) (r : Bool) (x a : List ℕ) → r ≡ true → Fills w t k g r x a → Filling w t k g (size w k) x a

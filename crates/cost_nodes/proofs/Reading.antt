@@ -1,18 +1,30 @@
--- A cost table is a lawful holder, and its target words are small. Assumes nothing.
-use mathlib.Core.List.{List}
-use Prim.Native.Nat.{ℕ, _≤_}
+-- A cost table is a lawful holder, the features that are left from one on, and its target words are small. Assumes nothing.
+use mathlib.Core.Path.{_≡_, ap, _∙_}
+use mathlib.Core.List.{List, _∷_}
+use Prim.Native.Nat.{ℕ, suc, _≤_, _<_}
 use native.Mathlib.Omega.{arith}
-use lib.ListN.{length}
+use lib.ListN.{length, drop}
+use Rattle.theory.specs.Settings.{Pos}
 use Rattle.theory.specs.WellFormed.{Ok}
+use Rattle.theory.proofs.Lists.{pos-drop}
 use Rattle.words.specs.Holding.{Lawful}
-use Rattle.words.specs.Words.{count}
+use Rattle.words.specs.Words.{features, size, sizes, count}
+use Rattle.words.proofs.Filling as F
+use Rattle.words.proofs.Words.{length-sizes, at-sizes}
 use Rattle.records.proofs.Making as M
 use Rattle.cost_words.specs.Words.{branch, code, nodes}
 use Rattle.cost_words.proofs.Reading.{length-nodes, under-word}
-use Rattle.cost_nodes.specs.Nodes.{layout}
+use Rattle.cost_nodes.specs.Nodes.{layout, Holds}
 
 pub lawful : Lawful layout
 lawful = M.lawful code
+
+-- ---- the features that are left
+pub pos-from : (w : List ℕ) (k : ℕ) → Holds w → Pos (drop k (sizes w))
+pos-from w k ok = pos-drop k (sizes w) (lawful .positive w (ok .laid))
+
+pub sizes-from : (w : List ℕ) (k : ℕ) → k < features w → drop k (sizes w) ≡ size w k ∷ drop (suc k) (sizes w)
+sizes-from w k h = F.sizes-from lawful w k (omega (arith, length-sizes w)) ∙ ap (λ (n : ℕ). n ∷ drop (suc k) (sizes w)) (at-sizes w k h)
 
 -- a target word of the table
 pub ok-small : (w : List ℕ) (k x a : ℕ) → Ok (nodes w) k (branch x a) → x ≤ count w

@@ -1,10 +1,12 @@
-// The nodes of a cost table: the unique search, the making of a node, and steps down a diagram.
+// The nodes of a cost table: the unique search, the making of a node, the branches of places, and steps down a diagram.
 use cost_words::Target;
 use cost_words::adds_at;
+use cost_words::base_word;
 use cost_words::difference_word;
 use cost_words::goes_to;
 use cost_words::half_of;
 use cost_words::pack;
+use cost_words::root_word;
 use cost_words::target_at;
 use cost_words::target_word;
 use records::find_record;
@@ -16,13 +18,14 @@ use words::wide;
 ghost use mathlib.Core.Path.{_≡_};
 ghost use Prim.Native.Nat.{ℕ, _+_, _≤_, _<_};
 ghost use lib.IntN.{_-ℤ_};
+ghost use lib.ListN.{length};
 ghost use Rattle.cost_laws.specs.Integers.{Fit, int};
 ghost use Rattle.cost_laws.specs.Range.{addMost};
 ghost use Rattle.cost_laws.specs.Relative.{branchAt};
 ghost use Rattle.words.specs.Words.{features, size, count, listed};
 ghost use Rattle.records.specs.Laid.{Laid};
 ghost use Rattle.settings.specs.Tells.{Tells};
-ghost use Rattle.cost_words.specs.Words.{target, branch, nodes};
+ghost use Rattle.cost_words.specs.Words.{target, branch, nodes, rootAt};
 ghost use Rattle.cost_nodes.specs.Nodes.{Holds, Levelled, AllSame, Finds, Armed, Lowered, Makes, top, Place};
 
 // The answer of the unique search: where the branch goes that is there, or that its node must be made.
@@ -107,6 +110,17 @@ pub fn make(t: &mut [u32], k: usize, goes: [u32; 8], adds: [u32; 8]) -> Answer
 pub struct Arm {
     pub to: u32,
     pub adds: u32,
+}
+
+// The branch of a place: its root and its base.
+pub fn arm_of(t: &[u32], place: usize) -> Arm
+    requires { ⌜ (64 ≤ length (now t)) × (place < 16) ⌝ }
+    ensures { λ r. ⌜ branch (r .to) (r .adds) ≡ rootAt (now (t .entry)) place ⌝ }
+{
+    Arm {
+        to: root_word(t, place),
+        adds: base_word(t, place),
+    }
 }
 
 // The feature at the top of a target; of the end, the number of features.

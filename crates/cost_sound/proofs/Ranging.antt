@@ -11,7 +11,6 @@ use lib.Dec.{leb}
 use lib.IntN.{ℤ, _+ℤ_}
 use lib.ListN.{length, getD, set, drop, length-set}
 use lib.Seq.{drop-cons, getD-set-same, getD-set-other}
-use lib.Signed.{_≤ℤ_}
 use Rattle.theory.specs.Diagrams.{Node, at, blank}
 use Rattle.theory.specs.Settings.{Pos}
 use Rattle.theory.specs.WellFormed.{Ok, WF}
@@ -20,51 +19,28 @@ use Rattle.theory.proofs.Lists.{pos-drop}
 use Rattle.cost_laws.specs.Integers.{Fit, int}
 use Rattle.cost_laws.specs.Range.{addMost, costMost}
 use Rattle.cost_laws.specs.Extremes.{across, along, extreme, keptAt, own, Passed}
-use Rattle.cost_laws.proofs.Extremes.{Above, Way, across-one, across-more, low, high}
+use Rattle.cost_laws.proofs.Extremes.{across-one, across-more}
 use Rattle.cost_laws.proofs.Integers.{rise-near, fall-near}
 use Rattle.cost_laws.proofs.Passing.{passed-none, passed-more, along-fits, place-extreme}
 use Rattle.cost_laws.proofs.Range.{within-exactly}
-use Rattle.cost_laws.proofs.Words.{larger-first, larger-second, smaller-first, smaller-second, words-sum, int-sum}
+use Rattle.cost_laws.proofs.Words.{words-sum}
 use Rattle.words.specs.Words.{features, size, count, sizes, feature, body, listed}
 use Rattle.words.proofs.Words.{length-sizes, at-sizes}
+use Rattle.cost_words.specs.Sums.{Stands, sideOf}
 use Rattle.cost_words.specs.Words.{target, goes, added, nodes, root, base, rootAt, costOf}
 use Rattle.cost_words.proofs.Packing.{target-end, target-node, int-zero}
+use Rattle.cost_words.proofs.Summing.{way}
 use Rattle.cost_words.proofs.Reading.{length-nodes, at-nodes, branch-at}
 use Rattle.settings.specs.Tells.{Tells}
 use Rattle.settings.proofs.Answers.{tells-leb}
 use Rattle.checks.proofs.Pictures.{tested-wf}
 use Rattle.checks.proofs.Sitting.{sits-good}
 use Rattle.cost_sound.specs.Sound.{Ranged}
-use Rattle.cost_sound.specs.Sides.{Shaped, opOf, beyond, kept, Keeps, Sums, Along, Owns, Side, SideTells}
+use Rattle.cost_sound.specs.Sides.{Shaped, beyond, kept, Keeps, Along, Owns, Side, SideTells}
 use Rattle.cost_sound.proofs.Sitting.{goes-on}
 use Rattle.cost_sound.proofs.Reading.{read, shaped-tested, sizes-pos, ranged-narrow}
 
--- ---- the side as an order
-abbrev orderOf : Bool → ℤ → ℤ → Type 0
-orderOf true = Above
-orderOf false = _≤ℤ_
-
-way : (up : Bool) → Way (opOf up) (orderOf up)
-way true = high
-way false = low
-
 -- ---- words of sums
-pub sums-lost : (a b : ℕ) → ((2294967296 ≤ a + b) → (a + b ≤ 6294967296) → ⊥) → Sums a b 0
-sums-lost a b n =
-    record {
-      sums = λ h. absurd (omega arith);
-      lost = λ e f. let t = f .top in let u = f .bottom in n (omega (arith, words-sum a b)) (omega (arith, words-sum a b));
-    }
-
-pub sums-word : (a b r : ℕ) → r + 2147483648 ≡ a + b → 2294967296 ≤ a + b → Sums a b r
-sums-word a b r e l = record { sums = λ h. int-sum a b r e; lost = λ z. absurd (omega arith) }
-
-pub further-up : (up : Bool) (a b : ℕ) → up ≡ true → ((a < b) → int b ≡ opOf up (int a) (int b)) × ((b ≤ a) → int a ≡ opOf up (int a) (int b))
-further-up up a b e = rw e (λ h. sym (larger-second a b h), λ h. sym (larger-first a b h))
-
-pub further-down : (up : Bool) (a b : ℕ) → up ≡ false → ((b < a) → int b ≡ opOf up (int a) (int b)) × ((a ≤ b) → int a ≡ opOf up (int a) (int b))
-further-down up a b e = rw e (λ h. sym (smaller-second a b h), λ h. sym (smaller-first a b h))
-
 pub tells-up : (up : Bool) (a b s : ℕ) → up ≡ true → s ≡ a + b → Tells (leb s 5294967296) (beyond up (int a +ℤ int b) ≤ costMost)
 tells-up up a b s e es = rw e (tells-leb s 5294967296 (λ h. rise-near (int a +ℤ int b) (omega (arith, words-sum a b))) (λ h. omega (arith, words-sum a b)))
 
@@ -108,9 +84,9 @@ module _ {w : List ℕ} (s : Shaped w) where
         (subst Pos d (pos-drop (at (nodes w) i .feature) (sizes w) (sizes-pos (s .header)))) v (omega arith)
 
     -- the words of the branch tell it
-    pub along-is : (v x a b r : ℕ) → v < size w K → x ≡ goes (body w i) v → a ≡ added (body w i) v → int b ≡ keptAt (kept l) (target x) → Sums a b r → Along w l i v r
+    pub along-is : (v x a b r : ℕ) → v < size w K → x ≡ goes (body w i) v → a ≡ added (body w i) v → int b ≡ keptAt (kept l) (target x) → Stands (int a +ℤ int b) r → Along w l i v r
     along-is v x a b r hv ex ea eb q =
-        record { sums = λ z. q .sums z ∙ here; lost = λ z g. q .lost z (subst (Fit addMost) (sym here) (arm-fits g v hv)) }
+        record { sums = λ z. q .stands z ∙ here; lost = λ z g. q .lost z (subst (Fit addMost) (sym here) (arm-fits g v hv)) }
       where
         here : int a +ℤ int b ≡ arm v
         here =
@@ -118,39 +94,39 @@ module _ {w : List ℕ} (s : Shaped w) where
             ∙ sym (ap (along (kept l)) (branch-at w i v h hv))
 
     -- ---- branches in turn
-    pub best-one : (r : ℕ) → 0 < r → Along w l i 0 r → int r ≡ across (opOf up) arm 1
-    best-one r z a = a .sums z ∙ sym (across-one (opOf up) arm)
+    pub best-one : (r : ℕ) → 0 < r → Along w l i 0 r → int r ≡ across (sideOf up) arm 1
+    best-one r z a = a .sums z ∙ sym (across-one (sideOf up) arm)
 
-    pub best-more : (v r x y : ℕ) → 0 < v → 0 < x → int r ≡ across (opOf up) arm v → Along w l i v x → int y ≡ opOf up (int r) (int x) → int y ≡ across (opOf up) arm (v + 1)
+    pub best-more : (v r x y : ℕ) → 0 < v → 0 < x → int r ≡ across (sideOf up) arm v → Along w l i v x → int y ≡ sideOf up (int r) (int x) → int y ≡ across (sideOf up) arm (v + 1)
     best-more zero r x y z zx e a ey = absurd (omega arith)
     best-more (suc v) r x y z zx e a ey =
-        ey ∙ (λ j. opOf up (e j) (a .sums zx j)) ∙ sym (ap (across (opOf up) arm) (add-one (suc v)) ∙ across-more (opOf up) arm v)
+        ey ∙ (λ j. sideOf up (e j) (a .sums zx j)) ∙ sym (ap (across (sideOf up) arm) (add-one (suc v)) ∙ across-more (sideOf up) arm v)
 
-    pub best-all : (v r : ℕ) → v ≡ size w K → int r ≡ across (opOf up) arm v → 0 < r → Owns up w l i r
+    pub best-all : (v r : ℕ) → v ≡ size w K → int r ≡ across (sideOf up) arm v → 0 < r → Owns up w l i r
     unfolding own
     best-all v r ev e z =
         let n : length (at (nodes w) i .branches) ≡ v = wf .fits i (omega (arith, length-nodes w)) .full ∙ ap (λ (j : ℕ). getD (sizes w) j 0) feature-is ∙ at-sizes w K known ∙ sym ev in
-        record { owns = λ q. e ∙ ap (across (opOf up) arm) (sym n); lost = λ q. absurd (omega arith) }
+        record { owns = λ q. e ∙ ap (across (sideOf up) arm) (sym n); lost = λ q. absurd (omega arith) }
 
     -- ---- nodes in turn
     pub keeps-more : (r : ℕ) → 0 < r → Owns up w l i r → i < 4096 → Keeps up w (i + 1) (set l i r)
     keeps-more r z o m =
         record {
           sized = length-set l i r ∙ k .sized;
-          passed = rw add-one (passed-more (opOf up) (sizes w) (nodes w) wf i (kept l) (kept (set l i r)) (omega (arith, length-nodes w)) (k .passed)
+          passed = rw add-one (passed-more (sideOf up) (sizes w) (nodes w) wf i (kept l) (kept (set l i r)) (omega (arith, length-nodes w)) (k .passed)
               (λ j q. ap int (getD-set-other l i j r 0 (omega arith)))
               (ap int (getD-set-same l i r 0 (omega (arith, k .sized))) ∙ o .owns z));
         }
 
   pub keeps-none : (up : Bool) (l : List ℕ) → length l ≡ 4096 → Keeps up w 0 l
-  keeps-none up l e = record { sized = e; passed = passed-none (opOf up) (nodes w) (kept l) }
+  keeps-none up l e = record { sized = e; passed = passed-none (sideOf up) (nodes w) (kept l) }
 
   -- ---- the places
   pub place-is : (up : Bool) (l : List ℕ) → Keeps up w (count w) l → (p x a b : ℕ) → p < 16 → x ≡ root w p → a ≡ base w p → int b ≡ keptAt (kept l) (target x)
-      → int a +ℤ int b ≡ extreme (opOf up) (sizes w) (costOf w p)
+      → int a +ℤ int b ≡ extreme (sideOf up) (sizes w) (costOf w p)
   place-is up l k p x a b h ex ea eb =
       (λ j. int (ea j) +ℤ (eb ∙ ap (λ (y : ℕ). keptAt (kept l) (target y)) ex) j)
-      ∙ sym (place-extreme (sizes w) (sizes-pos (s .header)) (nodes w) wf (rootAt w p) ok (way up) (kept l) (subst (λ (m : ℕ). Passed (opOf up) (nodes w) m (kept l)) (sym (length-nodes w)) (k .passed)))
+      ∙ sym (place-extreme (sizes w) (sizes-pos (s .header)) (nodes w) wf (rootAt w p) ok (way up) (kept l) (subst (λ (m : ℕ). Passed (sideOf up) (nodes w) m (kept l)) (sym (length-nodes w)) (k .passed)))
     where
       ok : Ok (nodes w) 0 (rootAt w p)
       ok = sits-good goes-on w (count w) 0 (root w p) (le-refl _) (s .roots-ok .rooted p h)

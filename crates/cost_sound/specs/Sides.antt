@@ -4,15 +4,15 @@ use mathlib.Core.Path.{_≡_}
 use mathlib.Core.List.{List}
 use mathlib.Core.Option.{some}
 use Prim.Native.Nat.{ℕ, _≤_, _<_}
-use lib.IntN.{ℤ, _+ℤ_}
+use lib.IntN.{ℤ}
 use lib.ListN.{length, getD}
 use Rattle.theory.specs.Diagrams.{at, blank}
 use Rattle.theory.specs.Walk.{scan, scans}
-use Rattle.cost_laws.specs.Integers.{Fit, rise, fall, int}
-use Rattle.cost_laws.specs.Operations.{smallerOf, largerOf}
-use Rattle.cost_laws.specs.Range.{addMost, costMost}
+use Rattle.cost_laws.specs.Integers.{rise, fall, int}
+use Rattle.cost_laws.specs.Range.{costMost}
 use Rattle.cost_laws.specs.Extremes.{extreme, along, own, Passed}
 use Rattle.words.specs.Words.{count, sizes, listed}
+use Rattle.cost_words.specs.Sums.{sideOf}
 use Rattle.cost_words.specs.Words.{nodes, roots, costOf}
 use Rattle.checks.specs.Header.{Header}
 use Rattle.checks.specs.Chained.{Chained}
@@ -26,11 +26,7 @@ pub record Shaped (w : List ℕ) : Type 0 where
   pub roots-ok : Rooted w
   pub in-order : scans (scan (nodes w) 0 (sizes w)) (roots w) 0 ≡ some (count w)
 
--- the higher of two if `up`, else the lower; and how far an integer lies to that side of 0
-abbrev pub opOf : Bool → ℤ → ℤ → ℤ
-opOf true = largerOf
-opOf false = smallerOf
-
+-- how far an integer lies above 0 if `up`, else below
 abbrev pub beyond : Bool → ℤ → ℕ
 beyond true = rise
 beyond false = fall
@@ -41,12 +37,7 @@ kept l i = int (listed l i)
 
 pub record Keeps (up : Bool) (w : List ℕ) (m : ℕ) (l : List ℕ) : Type 0 where
   pub sized : length l ≡ 4096
-  pub passed : Passed (opOf up) (nodes w) m (kept l)
-
--- the word r stands for the sum; 0 says that the sum lies outside ±2,000,000,000
-pub record Sums (a b r : ℕ) : Type 0 where
-  pub sums : 0 < r → int r ≡ int a +ℤ int b
-  pub lost : r ≡ 0 → Fit addMost (int a +ℤ int b) → ⊥
+  pub passed : Passed (sideOf up) (nodes w) m (kept l)
 
 -- r stands for the sum along branch v of node i; 0 says that some cost leaves its range
 pub record Along (w l : List ℕ) (i v r : ℕ) : Type 0 where
@@ -55,12 +46,12 @@ pub record Along (w l : List ℕ) (i v r : ℕ) : Type 0 where
 
 -- the same of node i's own
 pub record Owns (up : Bool) (w l : List ℕ) (i r : ℕ) : Type 0 where
-  pub owns : 0 < r → int r ≡ own (opOf up) (kept l) (at (nodes w) i)
+  pub owns : 0 < r → int r ≡ own (sideOf up) (kept l) (at (nodes w) i)
   pub lost : r ≡ 0 → Ranged w → ⊥
 
 -- no place's cost leaves its range on this side
 pub record Side (up : Bool) (w : List ℕ) : Type 0 where
-  pub side : (p : ℕ) → p < 16 → beyond up (extreme (opOf up) (sizes w) (costOf w p)) ≤ costMost
+  pub side : (p : ℕ) → p < 16 → beyond up (extreme (sideOf up) (sizes w) (costOf w p)) ≤ costMost
 
 -- the test of one side: yes is for this side, no for the range
 abbrev pub SideTells : Bool → Bool → List ℕ → Type 0

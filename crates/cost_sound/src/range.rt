@@ -11,28 +11,16 @@ ghost use Rattle.words.specs.Words.{count, size, feature};
 ghost use Rattle.cost_words.specs.Words.{target};
 ghost use Rattle.settings.specs.Tells.{Tells};
 ghost use Rattle.cost_sound.specs.Sound.{Ranged};
-ghost use Rattle.cost_sound.specs.Sides.{Shaped, opOf, beyond, kept, Keeps, Sums, Along, Owns, Side, SideTells};
+ghost use Rattle.cost_sound.specs.Sides.{Shaped, beyond, kept, Keeps, Along, Owns, Side, SideTells};
 use cost_words::adds_at;
 use cost_words::base_word;
+use cost_words::further;
 use cost_words::goes_to;
 use cost_words::root_word;
+use cost_words::sum_or_lost;
 use words::head_word;
 use words::record_word;
 use words::wide;
-
-// The word of a sum, or 0 if the sum lies outside ±2,000,000,000.
-fn sum_or_lost(a: u32, b: u32) -> u32
-    ensures { λ r. ⌜ Sums a b r ⌝ }
-{
-    let s = wide(a) + wide(b);
-    if s < 2294967296 {
-        return 0;
-    }
-    if 6294967296 < s {
-        return 0;
-    }
-    (s - 2147483648) as u32
-}
 
 // The word that is kept for a target: that of 0 for the end.
 fn kept_word(sums: &[u32], x: u32) -> u32
@@ -43,22 +31,6 @@ fn kept_word(sums: &[u32], x: u32) -> u32
         return 2147483648;
     }
     sums[wide(x - 1)]
-}
-
-// The higher of two if `up`, else the lower.
-fn further(up: bool, a: u32, b: u32) -> u32
-    ensures { λ r. ⌜ (int r ≡ opOf up (int a) (int b)) × (0 < a → 0 < b → 0 < r) ⌝ }
-{
-    if up {
-        if a < b {
-            return b;
-        }
-        return a;
-    }
-    if b < a {
-        return b;
-    }
-    a
 }
 
 // The sum along branch v of node i.

@@ -1,3 +1,4 @@
 pub mod Packing
 pub mod Reading
 pub mod Showing
+pub mod Summing

@@ -1,4 +1,9 @@
 // What the words of a cost table say: targets in half words, added integers, roots and bases.
+mod sums; // sums.rt: sums that may have no word
+
+pub use sums::difference_or_lost;
+pub use sums::further;
+pub use sums::sum_or_lost;
 use words::head_word;
 use words::record_word;
 ghost use mathlib.Core.Path.{_≡_};

@@ -18,26 +18,19 @@ use Rattle.cost_laws.specs.Range.{Within, costMost}
 use Rattle.cost_laws.proofs.Range as R
 use Rattle.cost_laws.proofs.Words.{int-one}
 use Rattle.settings.specs.Tells.{Tells}
-use Rattle.settings.specs.Refusals.{Cases, Ends}
+use Rattle.settings.specs.Refusals.{Ends}
 use Rattle.settings.proofs.Answers.{tells-eqb}
 use Rattle.settings.proofs.Endings.{not-taken, not-refused}
 use Rattle.settings.specs.declared.refusals.Refusal.{Refusal}
 use Rattle.settings.specs.declared.refusals.Outcome.the-variants.{Taken, Refused}
 use Rattle.words.specs.Words.{sizes}
+pub use Rattle.calls.proofs.Theorems.{write-refused, write-taken}
 use Rattle.cost_words.specs.Words.{branch, nodes, root, base, rootAt, costOf, costsOf}
 use Rattle.cost_words.specs.Picture.{Becomes}
 use Rattle.cost_words.proofs.Packing.{target-end, target-one}
 use Rattle.cost_sound.specs.Sound.{Sound}
-use Rattle.costs.specs.Writing.{Writes}
 use Rattle.costs.specs.Reading.{Looks, Compares, Tallies, look-cases, same-cases, tally-cases}
 use Rattle.costs.proofs.Sounding.{sound-pos, sound-wf, sound-root}
-
--- ---- calls that write
-pub write-refused : {l : Cases} {p : ℕ} {g : Cost} {w : List ℕ} {x : Refusal} → Ends l (Refused x) → Writes l p g w w (Refused x)
-write-refused e = record { ends = e; becomes = not-taken; refused = λ y q. refl }
-
-pub write-taken : {l : Cases} {p : ℕ} {g : Cost} {w w′ : List ℕ} → Ends l Taken → Becomes p g w w′ → Writes l p g w w′ Taken
-write-taken e b = record { ends = e; becomes = λ q. b; refused = λ y. not-refused }
 
 -- ---- the branch to the end whose base is the word of z
 module _ (a : ℕ) (z : ℤ) (e : int a ≡ z) where

@@ -1,4 +1,3 @@
-pub mod Signed
 pub mod Sounding
 pub mod Answering
 pub mod Looking

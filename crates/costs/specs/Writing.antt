@@ -1,27 +1,23 @@
 -- The promises of calls that write a cost into a place. Assumes nothing.
-use mathlib.Core.Path.{_≡_}
 use mathlib.Core.Logic.{_⊎_}
 use mathlib.Core.List.{List}
 use Prim.Native.Nat.{ℕ, _≤_}
 use lib.IntN.{ℤ}
 use Rattle.theory.specs.Costs.{Cost}
-use Rattle.settings.specs.Refusals.{Cases, Ends, _when_else_, taken}
-use Rattle.settings.specs.declared.refusals.Refusal.{Refusal}
+use Rattle.settings.specs.Refusals.{Cases, _when_else_, taken}
 use Rattle.settings.specs.declared.refusals.Refusal.the-variants.{Damaged, BadPlace, BadArgument}
 use Rattle.settings.specs.declared.refusals.Outcome.{Outcome}
-use Rattle.settings.specs.declared.refusals.Outcome.the-variants.{Taken, Refused}
+use Rattle.calls.specs.Writing as C
 use Rattle.cost_laws.specs.Integers.{Fit}
 use Rattle.cost_laws.specs.Operations.{constant}
 use Rattle.cost_laws.specs.Range.{costMost}
 use Rattle.cost_words.specs.Words.{costOf}
-use Rattle.cost_words.specs.Picture.{Becomes}
+use Rattle.cost_words.specs.Picture.{drawing}
 use Rattle.cost_sound.specs.Sound.{Sound}
 
 -- a call with the refusals l that writes the cost g into place p makes w into w′ and ends as o
-pub record Writes (l : Cases) (p : ℕ) (g : Cost) (w w′ : List ℕ) (o : Outcome) : Type 0 where
-  pub ends : Ends l o
-  pub becomes : o ≡ Taken → Becomes p g w w′
-  pub refused : (x : Refusal) → o ≡ Refused x → w′ ≡ w
+abbrev pub Writes : Cases → ℕ → Cost → List ℕ → List ℕ → Outcome → Type 0
+Writes l p g w w′ o = C.Writes drawing l p g w w′ o
 
 -- the constant amount z into place p
 abbrev pub constant-cases : ℕ → ℤ → List ℕ → Cases

@@ -1,5 +1,4 @@
 // The cost table: opening, constant, copy, look up, same, tally.
-mod amounts; // amounts.rt: signed numbers and the words that stand for them
 mod opening; // opening.rt: a fresh table
 mod reading; // reading.rt: look up, same, tally
 mod writing; // writing.rt: constant, copy

@@ -1,7 +1,7 @@
 // Look up, same and tally: calls that only read.
-use crate::amounts::cost_of;
 use calls::index;
 use calls::setting_fits;
+use cost_amounts::cost_of;
 use cost_sound::sound;
 use cost_words::adds_at;
 use cost_words::base_word;

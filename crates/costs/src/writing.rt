@@ -1,6 +1,6 @@
 // Constant and copy: calls that put a cost into a place and need no new node.
-use crate::amounts::amount_ok;
-use crate::amounts::word_of;
+use cost_amounts::amount_ok;
+use cost_amounts::word_of;
 use cost_collect::finish;
 use cost_sound::sound;
 use cost_words::base_word;

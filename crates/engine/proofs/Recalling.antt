@@ -5,7 +5,7 @@ use mathlib.Core.Logic.{inl, inr, ⊎-elim}
 use mathlib.Core.List.{List}
 use Prim.Native.Nat.{ℕ, _+_, _*_, _≤_, _<_}
 use native.Mathlib.Omega.{arith}
-use lib.ListN.{length, getD, drop, set, length-set}
+use lib.ListN.{length, getD, drop, replicate, set, length-replicate, length-set, getD-replicate}
 use lib.Seq.{getD-drop, getD-set-same, getD-set-other}
 use Rattle.theory.specs.Build.{Ext}
 use Rattle.theory.specs.Rules.{says, number}
@@ -80,6 +80,10 @@ result-recalled w t o f n k x l p r =
 -- an emptied memory
 pub remembers-none : (w : List ℕ) (o f n : ℕ) (s : List ℕ) → Empty s → Remembers w o f n s
 remembers-none w o f n s z = record { right = λ i k h q. absurd (omega (arith, z .zero (11 * i) (omega arith))) }
+
+-- own words, fresh
+pub remembers-fresh : (w : List ℕ) (o f n m : ℕ) → Remembers w o f n (replicate m 0)
+remembers-fresh w o f n m = remembers-none w o f n (replicate m 0) (record { zero = λ j h. getD-replicate m j 0 0 (omega (arith, length-replicate {A = ℕ} m 0)) })
 
 remembers-more : (w t : List ℕ) (o f n : ℕ) (s : List ℕ) → Holds w → sizes t ≡ sizes w → Ext (nodes w) (nodes t) → Remembers w o f n s → Remembers t o f n s
 remembers-more w t o f n s ok z e m =

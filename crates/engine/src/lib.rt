@@ -98,11 +98,16 @@ fn fill_branches(
     Filled { ok: true, list }
 }
 
-// The joint rule of the first n operands, built after the table's nodes. Whatever the scratch holds, it is emptied first.
+// The joint rule of the first n operands, built after the table's nodes. Whatever the scratch holds, it is emptied first; where it is
+// short, the call remembers in words of its own.
 pub fn join(t: &mut [u32], s: &mut [u32], o: u32, f: usize, n: usize, ops: [u32; 9]) -> Answer
     requires { ⌜ Operands (now t) f n 0 ops ⌝ }
     ensures { λ r. ⌜ Result (now (t .entry)) (now (t .exit)) 0 (joint (now (t .entry)) o f n 0 ops) r ⌝ }
 {
+    if s.len() < 5632 {
+        let mut own = [0u32; 5632];
+        return rest_result(t, &mut own, o, f, n, 0, ops);
+    }
     clear(s);
     rest_result(t, s, o, f, n, 0, ops)
 }

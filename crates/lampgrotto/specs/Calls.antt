@@ -1,10 +1,7 @@
 -- The promises of the calls for C: those of the rule calls, told by numbers. Assumes nothing.
-use mathlib.Core.Path.{_≡_}
 use mathlib.Core.List.{List, [], _∷_}
 use Prim.Native.Nat.{ℕ}
-use Rattle.settings.specs.Refusals.{outcomeNumber}
 use Rattle.settings.specs.Step.{Steps, settingOf}
-use Rattle.settings.specs.declared.refusals.Outcome.{Outcome}
 use Rattle.settings.specs.declared.steps.Stepped as P
 use Rattle.rules.specs.Opening.{Opens}
 use Rattle.rules.specs.Reading.{Looks, Compares, Tallies}
@@ -19,23 +16,11 @@ use Rattle.operations.specs.declared.counting.Counted as N
 use Rattle.operations.specs.declared.meeting.Met as E
 use Rattle.rule_sheets.specs.Writing.{WritesSheet}
 use Rattle.rule_sheets.specs.declared.writing.Wrote as F
-use Rattle.lampgrotto.specs.Results.{placed, bit, halves}
-
--- the number is that of an ending which meets the call's own promise
-pub record Wrote (P : Outcome → Type 0) (r : ℕ) : Type 0 where
-  pub ending : Outcome
-  pub meets : P ending
-  pub number : r ≡ outcomeNumber ending
+use Rattle.c_results.specs.Results.{bit, halves}
+use Rattle.c_results.specs.Calls.{Wrote, Gave}
 
 abbrev pub Opened : List ℕ → ℕ → List ℕ → List ℕ → ℕ → Type 0
 Opened S cap w w′ r = Wrote (Opens S cap w w′) r
-
--- the number is that of an answer which meets the call's own promise, and the answer's results are laid into the words out
-pub record Gave {A : Type 0} (P : A → Type 0) (ending : A → Outcome) (results : A → List ℕ) (out out′ : List ℕ) (r : ℕ) : Type 0 where
-  pub answer : A
-  pub meets : P answer
-  pub number : r ≡ outcomeNumber (ending answer)
-  pub laid : out′ ≡ placed (results answer) out
 
 abbrev pub Spelled : ℕ → ℕ → ℕ → List ℕ → List ℕ → List ℕ → List ℕ → ℕ → Type 0
 Spelled p f x w w′ = Gave (Literals p f x w w′) (λ (a : M.Made). a .outcome) (λ (a : M.Made). a .size ∷ [])

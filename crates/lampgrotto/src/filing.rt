@@ -1,7 +1,8 @@
 // The calls for C between a table and sheets.
-use crate::results::put_length;
+use c_results::put_length;
 use settings::outcome_number;
-ghost use Rattle.lampgrotto.specs.Calls.{Filed, Wrote};
+ghost use Rattle.c_results.specs.Calls.{Wrote};
+ghost use Rattle.lampgrotto.specs.Calls.{Filed};
 ghost use Rattle.rule_sheets.specs.Reading.{ReadsSheet};
 
 // Writes the sheet of the place's rule to the front of the bytes; the result is how long it is.

@@ -2,7 +2,6 @@
 // as many as fit.
 mod filing; // filing.rt: the calls between a table and sheets
 mod reading; // reading.rt: the calls that only read, and the stepper
-mod results; // results.rt: results laid into lent words
 mod writing; // writing.rt: the calls that write a table
 
 pub use filing::lampgrotto_read;

@@ -1,9 +1,9 @@
 // The calls for C that only read, and the stepper.
-use crate::results::put;
-use crate::results::put_flag;
-use crate::results::put_number;
-use crate::results::put_step;
-use crate::results::put_values;
+use c_results::put;
+use c_results::put_flag;
+use c_results::put_number;
+use c_results::put_step;
+use c_results::put_values;
 use settings::Setting;
 use settings::outcome_number;
 ghost use Rattle.lampgrotto.specs.Calls.{Looked, Compared, Tallied, Counted, Met, Stepped};

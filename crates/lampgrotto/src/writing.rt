@@ -1,7 +1,8 @@
 // The calls for C that write a table.
-use crate::results::put;
+use c_results::put;
 use settings::outcome_number;
-ghost use Rattle.lampgrotto.specs.Calls.{Opened, Wrote, Spelled};
+ghost use Rattle.c_results.specs.Calls.{Wrote};
+ghost use Rattle.lampgrotto.specs.Calls.{Opened, Spelled};
 ghost use Rattle.rules.specs.Writing.{Constant, Copies};
 ghost use Rattle.operations.specs.Joining.{Operates, Chooses, Forgets};
 ghost use Rattle.operations.specs.Restricting.{Restricts};

@@ -2,4 +2,3 @@ pub mod Operands
 pub mod Bits
 pub mod Theorems
 pub mod Firsts
-pub mod Examples

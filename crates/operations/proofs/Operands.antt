@@ -1,18 +1,19 @@
 -- What apply, CASE, forget and restrict hand to the engine and to the walk, and that the rule they build is the promised one. Assumes nothing.
-use mathlib.Core.Path.{_≡_, ap, ap₂, subst, _∙_}
+use mathlib.Core.Path.{_≡_, refl, sym, ap, ap₂, subst, _∙_}
 use mathlib.Core.Logic.{⊎-elim}
 use mathlib.Core.List.{List}
 use Prim.Native.Nat.{ℕ, _+_, _-_, _≤_, _<_}
 use native.Mathlib.Omega.{arith}
-use lib.ListN.{length, getD, set}
+use lib.ListN.{length, getD, set, List·getD-eq-default}
 use Rattle.theory.specs.Functions.{Agree}
 use Rattle.theory.specs.Diagrams.{meaning}
 use Rattle.theory.specs.Operations.{restricted}
 use Rattle.theory.specs.Rules.{Rule, says, number}
 use Rattle.words.specs.Tab.{tab}
 use Rattle.words.specs.Words.{features, size, sizes, listed}
-use Rattle.words.proofs.Tab.{same, tab-ext}
+use Rattle.words.proofs.Tab.{same, split, length-tab, getD-tab}
 use Rattle.rule_words.specs.Words.{decode, nodes, root, ruleOf}
+use Rattle.rule_words.proofs.Reading.{decode-phrase}
 use Rattle.rule_nodes.specs.Nodes.{Good}
 use Rattle.rule_sound.specs.Sound.{Sound}
 use Rattle.rule_restrict.specs.Restrict.{Holding, restr}
@@ -21,12 +22,20 @@ use Rattle.engine.specs.Operators.{pairOf, caseOf, forgottenOf}
 use Rattle.engine.specs.Joint.{joint, Operands}
 use Rattle.engine.proofs.Applying.{joint-apply, joint-case, joint-forgotten}
 use Rattle.rules.proofs.Sounding.{sound-root}
-use Rattle.operations.specs.Joining.{applied, chosen, without, Places, Lined}
+use Rattle.operations.specs.Joining.{applied, chosen, without, Places, Handed, Lined}
 use Rattle.settling.proofs.Settling.{sound-holds}
 
 -- the number that the branch word b gives a setting
 abbrev said : List ℕ → List ℕ → ℕ → ℕ
 said w s b = number (nodes w) 0 (decode b) s
+
+-- CASE looks only at the number that is chosen
+case-ext : (f g : ℕ → ℕ) (n i : ℕ) → (i < n → f i ≡ g i) → caseOf i (tab f n) ≡ caseOf i (tab g n)
+unfolding caseOf
+case-ext f g n i h = ⊎-elim
+    (λ l. getD-tab f n i 0 l ∙ h l ∙ sym (getD-tab g n i 0 l))
+    (λ l. List·getD-eq-default (tab f n) 0 (omega (arith, length-tab f n)) ∙ sym (List·getD-eq-default (tab g n) 0 (omega (arith, length-tab g n))))
+    (split i n)
 
 module _ {w : List ℕ} (s : Sound w) where
   -- a root word is a branch of the table
@@ -56,6 +65,10 @@ module _ {w : List ℕ} (s : Sound w) where
     apply-agrees o h x v = joint-apply w o 16 l h no-feature x v ∙ ap₂ (λ (y z : ℕ). says (pairOf o (said w x y) (said w x z))) ea eb
 
   -- ---- CASE
+  -- what is handed on for a branch is a branch of the table, phrase 0 too
+  good-handed : (q j p x : ℕ) → p < 32 → Handed w q j p x → Good w 0 x
+  good-handed q j p x h = ⊎-elim (good-root p x h) (λ n. rw (n .1, decode-phrase 0 (omega arith)) tt)
+
   module _ (q : ℕ) (l r : List ℕ) (e : Lined w q l r) where
     pub case-operands : q < 32 → Places l → 1 ≤ length l → length l ≤ 8 → Operands w 16 (length l + 1) 0 r
     case-operands hq p some few = record {
@@ -67,7 +80,7 @@ module _ {w : List ℕ} (s : Sound w) where
           (λ z. rw z (good-root q (listed r 0) hq (e .first)))
           (λ z.
           let i : 1 + (j - 1) ≡ j = omega (arith, z) in
-          subst (λ (y : ℕ). Good w 0 (listed r y)) i (good-root (getD l (j - 1) 0) (listed r (1 + (j - 1))) (p .each (j - 1) (omega (arith, z))) (e .others (j - 1) (omega (arith, z)))))
+          subst (λ (y : ℕ). Good w 0 (listed r y)) i (good-handed q (j - 1) (getD l (j - 1) 0) (listed r (1 + (j - 1))) (p .each (j - 1) (omega (arith, z))) (e .others (j - 1) (omega (arith, z)))))
           (same j 0);
       forget = λ h. absurd (omega (arith, no-feature));
     }
@@ -75,8 +88,14 @@ module _ {w : List ℕ} (s : Sound w) where
     pub case-agrees : Agree (sizes w) (joint w 6 16 (length l + 1) 0 r) (chosen q l w)
     case-agrees x v =
         joint-case w 16 (length l) r no-feature x v
-        ∙ ap₂ (λ (y : ℕ) (z : List ℕ). says (caseOf (said w x y) z)) (e .first)
-        (tab-ext (λ j. said w x (listed r (1 + j))) (λ j. said w x (root w (getD l j 0))) (length l) (λ j h. ap (said w x) (e .others j h)))
+        ∙ ap (λ (y : ℕ). says (caseOf (said w x y) (tab (λ j. said w x (listed r (1 + j))) (length l)))) (e .first)
+        ∙ ap says (case-ext (λ j. said w x (listed r (1 + j))) (λ j. said w x (root w (getD l j 0))) (length l) (said w x (root w q)) is)
+      where
+        i : ℕ
+        i = said w x (root w q)
+
+        is : i < length l → said w x (listed r (1 + i)) ≡ said w x (root w (getD l i 0))
+        is h = ⊎-elim (ap (said w x)) (λ n. absurd (n .0 (record { setting = x; valid = v; holds = refl }))) (e .others i h)
 
   -- ---- FORGET
   module _ (q f m : ℕ) (l : List ℕ) (hf : f < features w) (em : m ≡ size w f) (e : (j : ℕ) → j < 9 → listed l j ≡ root w q) where

@@ -4,7 +4,7 @@ use mathlib.Core.List.{List}
 use mathlib.Core.Logic.{_⊎_}
 use Prim.Native.Nat.{ℕ, _+_, _≤_, _<_}
 use lib.ListN.{length, getD, set}
-use Rattle.theory.specs.Counted.{Reaches}
+use Rattle.theory.specs.Counted.{Given, Reaches}
 use Rattle.theory.specs.Rules.{Rule, says}
 use Rattle.settings.specs.Refusals.{Cases, _when_else_, taken}
 use Rattle.settings.specs.declared.refusals.Refusal.the-variants.{Damaged, BadPlace, BadArgument, BadSelector, NoRoom}
@@ -67,7 +67,12 @@ forget-cases p q f w =
 abbrev pub Forgets : ℕ → ℕ → ℕ → List ℕ → List ℕ → Outcome → Type 0
 Forgets p q f w w′ o = Writes (forget-cases p q f w) p (without q f w) w w′ o
 
--- ---- the operands of CASE: r are the root words of the place q and of the places l, in a row
+-- ---- the operands of CASE
+-- x is the root word of the place p; or the selector q gives the index j at no setting, and x is 0
+abbrev pub Handed : List ℕ → ℕ → ℕ → ℕ → ℕ → Type 0
+Handed w q j p x = (x ≡ root w p) ⊎ ((Given (sizes w) (ruleOf w q) j → ⊥) × (x ≡ 0))
+
+-- r are the root word of the selector q and what is handed on for the branches l, in a row
 pub record Lined (w : List ℕ) (q : ℕ) (l r : List ℕ) : Type 0 where
   pub first : listed r 0 ≡ root w q
-  pub others : (j : ℕ) → j < length l → listed r (1 + j) ≡ root w (getD l j 0)
+  pub others : (j : ℕ) → j < length l → Handed w q j (getD l j 0) (listed r (1 + j))

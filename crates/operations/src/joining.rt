@@ -1,5 +1,6 @@
 // Apply, CASE and forget: calls whose rule is the joint rule of several operands.
 use engine::join;
+use rule_count::gives;
 use rule_count::reaches;
 use rule_sound::sound;
 use rule_words::root_word;
@@ -14,7 +15,7 @@ ghost use Rattle.settings.specs.Tells.{Tells};
 ghost use Rattle.rule_sound.specs.Sound.{Sound};
 ghost use Rattle.engine.specs.Joint.{Operands, joint};
 ghost use Rattle.settling.specs.Settling.{Puts};
-ghost use Rattle.operations.specs.Joining.{Operates, Chooses, Forgets, Places, Lined};
+ghost use Rattle.operations.specs.Joining.{Operates, Chooses, Forgets, Places, Handed, Lined};
 
 // The joint rule of the first n operands becomes the rule of the place.
 fn put_joint(
@@ -83,7 +84,18 @@ fn are_places(branches: &[u32]) -> bool
     true
 }
 
-// The root words of the selector and of the branches, in a row.
+// What is handed on for branch j: its root word; or, where the selector gives j at no setting, 0, with which the walk meets no more combinations.
+fn handed(t: &[u32], selector: usize, j: usize, branch: u32) -> u32
+    requires { ⌜ (Sound (now t)) × (selector < 32) × (j < 8) × (branch < 32) ⌝ }
+    ensures { λ r. ⌜ Handed (now (t .entry)) selector j branch r ⌝ }
+{
+    if gives(t, selector, j as u32) {
+        return root_word(t, wide(branch));
+    }
+    0
+}
+
+// The root word of the selector and what is handed on for the branches, in a row.
 fn lined(t: &[u32], selector: usize, branches: &[u32]) -> [u32; 9]
     requires { ⌜ (Sound (now t)) × (selector < 32) × (Places (now branches)) × (length (now branches) ≤ 8) ⌝ }
     ensures { λ r. ⌜ Lined (now (t .entry)) selector (now (branches .entry)) r ⌝ }
@@ -92,7 +104,7 @@ fn lined(t: &[u32], selector: usize, branches: &[u32]) -> [u32; 9]
     ops[0] = root_word(t, selector);
     let mut j: usize = 0;
     while j < branches.len() {
-        ops[1 + j] = root_word(t, wide(branches[j]));
+        ops[1 + j] = handed(t, selector, j, branches[j]);
         j += 1;
     }
     ops
@@ -127,7 +139,7 @@ pub fn case(
     if 8 < m {
         return Outcome::Refused(Refusal::BadArgument);
     }
-    if reaches(t, selector, m) {
+    if reaches(t, selector, m as u32) {
         return Outcome::Refused(Refusal::BadSelector);
     }
     let ops = lined(t, selector, branches);

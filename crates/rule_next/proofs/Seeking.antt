@@ -1,14 +1,13 @@
 -- The descents: the places that hold a setting, completed feature by feature, and the answer. Assumes nothing.
 use mathlib.Core.Bool.{Bool, true, false}
 use mathlib.Core.Path.{_≡_, refl, sym, ap, subst, _∙_}
-use mathlib.Core.List.{List, [], _∷_, _++_}
+use mathlib.Core.List.{List, [], _∷_}
 use Prim.Native.Nat.{ℕ, _+_, _-_, _≤_, _<_}
 use native.Mathlib.Decide.{ℕ-discrete, decLt}
-use native.Mathlib.Numerals.{add-one}
 use native.Mathlib.Omega.{arith}
 use lib.Dec.{eqb}
-use lib.ListN.{length, getD, take, drop, set, replicate, take-append-drop}
-use lib.Seq.{slice, slice-empty, slice-cons, drop-length, drop-set-lt, getD-set-same, getD-set-other, length-take-le, take-all}
+use lib.ListN.{length, getD, take, drop, set, replicate}
+use lib.Seq.{slice, slice-empty, drop-length}
 use borrow.Author.Tests.{eq-eqb, ne-eqb}
 use Rattle.theory.specs.Diagrams.{next}
 use Rattle.theory.specs.First.{First, FirstFrom, NoneFrom}
@@ -22,32 +21,12 @@ use Rattle.words.proofs.Words.{length-sizes}
 use Rattle.rule_words.specs.Words.{decode, nodes, root, ruleOf}
 use Rattle.settings.specs.Step.{settingOf}
 use Rattle.settings.proofs.Holding.{values-held, rest-held}
+use Rattle.settings.proofs.Places.{keeps-all, keeps-less, keeps-set, places, set-place, held-first}
 use Rattle.rule_sound.specs.Sound.{Sound}
 use Rattle.rule_next.specs.Marks.{Leads, Spot, Smallest, ruleFrom}
-use Rattle.rule_next.specs.Next.{Keeps, Completes, Finds, Seeks, Answers}
+use Rattle.rule_next.specs.Next.{Completes, Finds, Seeks, Answers}
 use Rattle.rule_next.proofs.Stepping.{spot-is, rule-next, sizes-left}
 use Rattle.rule_next.proofs.Marking.{phrase-gives}
-
--- ---- places
-keeps-all : (n k : ℕ) (v : List ℕ) → length v ≡ 16 → Keeps n k v v
-keeps-all n k v l = record { sized = l; front = λ j h. refl; back = refl }
-
--- what keeps the places before k + 1 keeps those before k
-keeps-less : {n k : ℕ} {v r : List ℕ} → Keeps n (k + 1) v r → Keeps n k v r
-keeps-less q = record { sized = q .sized; front = λ j h. q .front j (omega arith); back = q .back }
-
--- place k was set
-keeps-set : {n k : ℕ} {v r : List ℕ} (y : ℕ) → k < n → Keeps n (k + 1) (set v k y) r → Keeps n k v r
-keeps-set {n} {k} {v} {r} y h q =
-    record {
-      sized = q .sized;
-      front = λ j l. q .front j (omega arith) ∙ getD-set-other v k j y 0 (omega arith);
-      back = q .back ∙ drop-set-lt n v k y h;
-    }
-
--- the places from k on begin with place k
-places : (k n : ℕ) (r : List ℕ) → k < n → n ≤ 16 → length r ≡ 16 → slice k n r ≡ getD r k 0 ∷ slice (k + 1) n r
-places k n r h m l = rw add-one (slice-cons k n r 0 h (omega arith))
 
 module _ {w : List ℕ} {k b : ℕ} (s : Spot w k b) (x : ℕ) where
   few : features w ≤ 16
@@ -97,16 +76,11 @@ module _ {w : List ℕ} {k b : ℕ} (s : Spot w k b) (x : ℕ) where
     pub seek-valid : Valid (drop k (sizes w)) (slice k n v) → (getD v k 0 < size w k) × Valid ns (slice (k + 1) n v)
     seek-valid h = rw (sizes-left w k more, places k n v more few long) at h
 
-    -- what was set at place k is there
-    module _ (y : ℕ) (r : List ℕ) (q : Keeps n (k + 1) (set v k y) r) where
-      set-place : slice k n r ≡ y ∷ slice (k + 1) n r
-      set-place = places k n r more few (q .sized) ∙ ap (λ (z : ℕ). z ∷ slice (k + 1) n r) (q .front k (omega arith) ∙ getD-set-same v k y 0 (omega arith))
-
     pub complete-more : (y c : ℕ) (r : List ℕ) → decode c ≡ next (nodes w) k (decode b) y → y < size w k → Smallest w x k b 0 y → Completes w x (k + 1) c (set v k y) r → Completes w x k b v r
     complete-more y c r e h q z =
         record {
           keeps = keeps-set y more (z .keeps);
-          first = rw (sizes-left w k more, set-place y r (z .keeps))
+          first = rw (sizes-left w k more, set-place v y more few long (z .keeps))
               (first-smallest (size w k) ns (ruleFrom w k b) x y (slice (k + 1) n r) h (λ u l. q .none u (omega arith) l)
               (subst (λ (g : Rule). First ns g x (slice (k + 1) n r)) (rule-next s y c e) (z .first)));
         }
@@ -141,26 +115,13 @@ module _ {w : List ℕ} {k b : ℕ} (s : Spot w k b) (x : ℕ) where
         seek-greater l d to i p =
             record {
               keeps = keeps-set y more (p .keeps);
-              first = rw (sizes-left w k more, here, set-place y to (p .keeps))
+              first = rw (sizes-left w k more, here, set-place v y more few long (p .keeps))
                   (first-greater (size w k) ns (ruleFrom w k b) x a (slice (k + 1) n v) none-same y (slice (k + 1) n to)
                   (seek-valid h .1) (omega (arith, q .from)) l (λ u j o. q .none u j o)
                   (subst (λ (g : Rule). First ns g x (slice (k + 1) n to)) (rule-next s y d i) (p .first)));
             }
 
 -- ---- the answer
--- places that are 0 past the first n hold those n as a setting
-held-first : (m n : ℕ) (r : List ℕ) → m ≡ n → n ≤ 16 → length r ≡ 16 → drop n r ≡ replicate (16 - n) 0 → record { count = m; values = r } ≡ settingOf (take n r)
-held-first m n r e h l z = λ j. record { count = counts j; values = holds j }
-  where
-    sized : length (take n r) ≡ n
-    sized = length-take-le n r (omega arith)
-
-    counts : m ≡ length (take n r)
-    counts = e ∙ sym sized
-
-    holds : r ≡ take 16 (take n r) ++ replicate (16 - length (take n r)) 0
-    holds = rw (take-all 16 (take n r) (omega (arith, sized)), sized, ← z) (sym (take-append-drop n r))
-
 module _ {w : List ℕ} (s : Sound w) (p x : ℕ) (l : List ℕ) (h : Valid (sizes w) l) where
   long : length l ≡ features w
   long = valid-length (sizes w) l h ∙ length-sizes w

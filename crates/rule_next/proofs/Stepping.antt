@@ -6,42 +6,30 @@ use native.Mathlib.Numerals.{add-one}
 use native.Mathlib.Omega.{arith}
 use lib.ListN.{drop}
 use lib.Seq.{drop-cons}
-use Rattle.theory.specs.Diagrams.{at, next}
+use Rattle.theory.specs.Diagrams.{next}
 use Rattle.theory.specs.Functions.{held}
-use Rattle.theory.specs.Rules.{Branch, Node, node}
-use Rattle.theory.specs.Settings.{Pos}
+use Rattle.theory.specs.Rules.{Branch, node}
 use Rattle.theory.specs.WellFormed.{Ok, WF}
 use Rattle.theory.proofs.First.{held-next}
 use Rattle.theory.proofs.Values.{next-here, next-wait, next-ok}
 use Rattle.words.specs.Words.{features, size, sizes, count, feature, body}
-use Rattle.words.proofs.Words.{length-sizes, at-sizes, pos-sizes}
+use Rattle.words.proofs.Words.{length-sizes, at-sizes}
 use Rattle.rule_words.specs.Words.{decode, nodes, root}
-use Rattle.rule_words.proofs.Reading.{decode-phrase, decode-node, decode-index, length-nodes, at-nodes, branch-at}
+use Rattle.rule_words.proofs.Reading.{decode-phrase, decode-node, length-nodes, branch-at}
 use Rattle.rule_sound.specs.Sound.{Sound}
 use Rattle.rule_sound.proofs.Sitting.{sits-ok}
 use Rattle.rule_sound.proofs.Pictures.{sound-tidy}
+use Rattle.rule_count.proofs.Counts.{tests}
 use Rattle.rule_next.specs.Marks.{Spot, ruleFrom}
-
-node-feature : (w : List ℕ) (i : ℕ) → i < count w → at (nodes w) i .feature ≡ feature w i
-node-feature w i h = ap (λ (x : Node). x .feature) (at-nodes w i h)
 
 -- ---- a sound table
 module _ {w : List ℕ} (s : Sound w) where
-  pub sound-pos : Pos (sizes w)
-  sound-pos = pos-sizes w (λ k h. omega (arith, s .header .fit .large k h .0))
-
   pub sound-well : WF (sizes w) (nodes w)
   sound-well = sound-tidy s .well
 
   -- the root of a place
   pub spot-root : (p b : ℕ) → p < 32 → b ≡ root w p → Spot w 0 b
   spot-root p b h e = record { sound = s; good = rw e (sits-ok (s .roots-ok .rooted p h)); upTo = omega arith }
-
-  -- a node, at its own feature
-  pub spot-node : (i : ℕ) → i < count w → Spot w (feature w i) (65536 + i)
-  spot-node i h =
-      let o : Ok (nodes w) (feature w i) (node i) = (omega (arith, length-nodes w), omega (arith, node-feature w i h)) in
-      record { sound = s; good = rw (decode-index (65536 + i) i (let e : 65536 + i ≡ 65536 + i = omega arith in e)) o; upTo = omega (arith, s .nodes-ok .each i h .known) }
 
 -- the sizes that are left, one by one
 pub sizes-left : (w : List ℕ) (k : ℕ) → k < features w → drop k (sizes w) ≡ size w k ∷ drop (k + 1) (sizes w)
@@ -55,7 +43,7 @@ module _ {w : List ℕ} {k b : ℕ} (s : Spot w k b) where
   spot-is h =
       let o : Ok (nodes w) k (node (b - 65536)) = subst (Ok (nodes w) k) (decode-node b h) (s .good) in
       let l : b - 65536 < count w = omega (arith, o .0, length-nodes w) in
-      (l, omega (arith, o .1, node-feature w (b - 65536) l))
+      (l, omega (arith, o .1, tests w (b - 65536) l))
 
   pub child-phrase : (v : ℕ) → b < 65536 → decode b ≡ next (nodes w) k (decode b) v
   child-phrase v h = sym (next-wait (nodes w) k (decode b) v (subst (Ok (nodes w) (suc k)) (sym (decode-phrase b h)) tt))
@@ -65,13 +53,13 @@ module _ {w : List ℕ} {k b : ℕ} (s : Spot w k b) where
       let l : b - 65536 < count w = spot-is h .0 in
       let z : size w (feature w (b - 65536)) ≡ size w k = ap (size w) e in
       sym (ap (λ (c : Branch). next (nodes w) k c v) (decode-node b h)
-      ∙ next-here (nodes w) k (b - 65536) v tt (node-feature w (b - 65536) l ∙ e)
+      ∙ next-here (nodes w) k (b - 65536) v tt (tests w (b - 65536) l ∙ e)
       ∙ branch-at w (b - 65536) v l (omega arith))
 
   pub child-wait : (v : ℕ) → 65536 ≤ b → (feature w (b - 65536) ≡ k → ⊥) → decode b ≡ next (nodes w) k (decode b) v
   child-wait v h ne =
       let p = spot-is h in
-      let o : Ok (nodes w) (suc k) (node (b - 65536)) = (omega (arith, p .0, length-nodes w), omega (arith, p .1, ne, node-feature w (b - 65536) (p .0))) in
+      let o : Ok (nodes w) (suc k) (node (b - 65536)) = (omega (arith, p .0, length-nodes w), omega (arith, p .1, ne, tests w (b - 65536) (p .0))) in
       sym (next-wait (nodes w) k (decode b) v (subst (Ok (nodes w) (suc k)) (sym (decode-node b h)) o))
 
   module _ (v c : ℕ) (e : decode c ≡ next (nodes w) k (decode b) v) where

@@ -1,19 +1,17 @@
--- Which branches of a rule table lead to a number: what the pass over the nodes marks. Assumes nothing.
-use mathlib.Core.Bool.{Bool, false}
-use mathlib.Core.Path.{_≡_}
+-- Which branches of a rule table lead to a number: what the pass over the nodes tells. Assumes nothing.
+use mathlib.Core.Bool.{Bool, true}
 use mathlib.Core.List.{List}
-use Prim.Native.Nat.{ℕ, _+_, _-_, _≤_, _<_}
-use lib.Dec.{ltb, eqb}
-use lib.ListN.{length, getD, drop}
+use Prim.Native.Nat.{ℕ, _+_, _≤_, _<_}
+use lib.ListN.{drop}
+use Rattle.theory.specs.Counted.{Given}
 use Rattle.theory.specs.Diagrams.{value}
-use Rattle.theory.specs.First.{Given}
 use Rattle.theory.specs.Functions.{held}
 use Rattle.theory.specs.Rules.{Rule}
 use Rattle.theory.specs.WellFormed.{Ok}
-use Rattle.words.specs.Words.{features, size, sizes, feature, pick}
+use Rattle.words.specs.Words.{features, size, count, sizes}
 use Rattle.rule_words.specs.Words.{decode, nodes}
-use Rattle.settings.specs.Tells.{Tells}
 use Rattle.rule_sound.specs.Sound.{Sound}
+use Rattle.rule_count.specs.Figures.{Answered}
 
 -- the rule that the branch word b means where the features from k on are left
 abbrev pub ruleFrom : List ℕ → ℕ → ℕ → Rule
@@ -29,14 +27,9 @@ pub record Spot (w : List ℕ) (k b : ℕ) : Type 0 where
   pub good : Ok (nodes w) k (decode b)
   pub upTo : k ≤ features w
 
--- the first m nodes are marked where they lead to x
-pub record Marks (w : List ℕ) (x m : ℕ) (has : List Bool) : Type 0 where
-  pub sized : length has ≡ 4096
-  pub each : (i : ℕ) → i < m → Tells (getD has i false) (Leads w x (feature w i) (65536 + i))
-
--- what the marks say of a branch word: a phrase is the number or not
-unfoldable pub marked : List Bool → ℕ → ℕ → Bool
-marked has x b = pick (ltb b 65536) (eqb b x) (getD has (b - 65536) false)
+-- the list tells of each node whether it leads to x
+abbrev pub Marks : List ℕ → ℕ → List Bool → Type 0
+Marks w x has = Answered w true x (count w) has
 
 -- r is the smallest value of feature k, from v on, whose branch leads to x; the feature's size where there is none
 pub record Smallest (w : List ℕ) (x k b v r : ℕ) : Type 0 where

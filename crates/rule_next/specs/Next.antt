@@ -2,21 +2,16 @@
 use mathlib.Core.Bool.{Bool, true, false}
 use mathlib.Core.Path.{_≡_}
 use mathlib.Core.List.{List, []}
-use Prim.Native.Nat.{ℕ, _<_}
-use lib.ListN.{length, getD, drop}
+use Prim.Native.Nat.{ℕ}
+use lib.ListN.{drop}
 use lib.Seq.{slice}
 use Rattle.theory.specs.First.{First, FirstFrom, NoneFrom}
 use Rattle.theory.specs.Rules.{Rule}
 use Rattle.words.specs.Words.{features, sizes}
+use Rattle.settings.specs.Places.{Keeps}
 use Rattle.settings.specs.Step.{settingOf}
 use Rattle.settings.specs.declared.steps.Setting.{Setting}
 use Rattle.rule_next.specs.Marks.{ruleFrom}
-
--- r is v but for the places from k up to n
-pub record Keeps (n k : ℕ) (v r : List ℕ) : Type 0 where
-  pub sized : length r ≡ 16
-  pub front : (j : ℕ) → j < k → getD r j 0 ≡ getD v j 0
-  pub back : drop n r ≡ drop n v
 
 -- the places of the features from k on hold the first of all settings that the branch b gives x
 pub record Completes (w : List ℕ) (x k b : ℕ) (v r : List ℕ) : Type 0 where

@@ -1,4 +1,6 @@
 // Document 01's "next": the first setting at or after a given one with a given number, by one pass over the nodes and two descents.
+use rule_count::answers;
+use rule_count::branch_meets;
 use rule_words::root_word;
 use settings::Setting;
 use words::head_word;
@@ -6,15 +8,14 @@ use words::record_word;
 use words::wide;
 ghost use mathlib.Core.Path.{_≡_};
 ghost use Prim.Native.Nat.{_+_, _≤_, _<_};
-ghost use lib.ListN.{length, drop};
+ghost use lib.ListN.{drop};
 ghost use lib.Seq.{slice};
 ghost use Rattle.theory.specs.Diagrams.{next};
 ghost use Rattle.theory.specs.Settings.{Valid};
-ghost use Rattle.words.specs.Words.{features, size, count, sizes, feature};
+ghost use Rattle.words.specs.Words.{features, size, sizes};
 ghost use Rattle.rule_words.specs.Words.{decode, nodes, ruleOf};
-ghost use Rattle.settings.specs.Tells.{Tells};
 ghost use Rattle.rule_sound.specs.Sound.{Sound};
-ghost use Rattle.rule_next.specs.Marks.{Leads, Spot, Marks, marked, Smallest};
+ghost use Rattle.rule_next.specs.Marks.{Leads, Spot, Marks, Smallest};
 ghost use Rattle.rule_next.specs.Next.{Completes, Seeks, Answers};
 
 // What the search answers: whether there is such a setting, and the setting.
@@ -36,48 +37,6 @@ fn value_of(x: u8) -> usize
     x as usize
 }
 
-// What the marks say of a branch word: a phrase is the number or not.
-fn leads(has: &[bool], number: u32, b: u32) -> bool
-    requires { ⌜ b < 65536 + length (now has) ⌝ }
-    ensures { λ r. ⌜ r ≡ marked (now (has .entry)) number b ⌝ }
-{
-    if b < 65536 {
-        return b == number;
-    }
-    has[wide(b - 65536)]
-}
-
-// Whether a branch of node i leads to the number, the nodes before it being marked.
-fn any_leads(t: &[u32], has: &[bool], number: u32, i: usize) -> bool
-    requires { ⌜ (Sound (now t)) × (i < count (now t)) × (Marks (now t) number i (now has)) ⌝ }
-    ensures { λ r. ⌜ Tells r (Leads (now (t .entry)) number (feature (now (t .entry)) i) (65536 + i)) ⌝ }
-{
-    let s = wide(head_word(t, 3 + wide(record_word(t, i, 0))));
-    let mut v: usize = 0;
-    while v < s {
-        if leads(has, number, record_word(t, i, 1 + v)) {
-            return true;
-        }
-        v += 1;
-    }
-    false
-}
-
-// The marks of all nodes. A branch goes to an earlier node, so one pass suffices.
-fn mark(t: &[u32], number: u32) -> [bool; 4096]
-    requires { ⌜ Sound (now t) ⌝ }
-    ensures { λ r. ⌜ Marks (now (t .entry)) number (count (now (t .entry))) r ⌝ }
-{
-    let n = wide(head_word(t, 19));
-    let mut has = [false; 4096];
-    let mut i: usize = 0;
-    while i < n {
-        has[i] = any_leads(t, &has, number, i);
-        i += 1;
-    }
-    has
-}
-
 // The branch for value v of feature k: a branch that does not test the feature waits.
 fn child(t: &[u32], k: usize, b: u32, v: usize) -> u32
     requires { ⌜ (Spot (now t) k b) × (v < size (now t) k) ⌝ }
@@ -95,13 +54,13 @@ fn child(t: &[u32], k: usize, b: u32, v: usize) -> u32
 
 // The smallest value of feature k, from the given one on, whose branch leads to the number; the feature's size where there is none.
 fn smallest(t: &[u32], has: &[bool], number: u32, k: usize, b: u32, from: usize) -> usize
-    requires { ⌜ (Spot (now t) k b) × (k < features (now t)) × (from ≤ size (now t) k) × (Marks (now t) number (count (now t)) (now has)) ⌝ }
+    requires { ⌜ (Spot (now t) k b) × (k < features (now t)) × (from ≤ size (now t) k) × (Marks (now t) number (now has)) ⌝ }
     ensures { λ r. ⌜ Smallest (now (t .entry)) number k b from r ⌝ }
 {
     let s = wide(head_word(t, 3 + k));
     let mut v = from;
     while v < s {
-        if leads(has, number, child(t, k, b, v)) {
+        if branch_meets(has, true, number, child(t, k, b, v)) {
             return v;
         }
         v += 1;
@@ -112,7 +71,7 @@ fn smallest(t: &[u32], has: &[bool], number: u32, k: usize, b: u32, from: usize)
 // The first of all settings of the features from k on that the branch gives the number, in the places of those features.
 // It calls itself at the next feature: at most as deep as there are features.
 fn complete(t: &[u32], has: &[bool], number: u32, k: usize, b: u32, from: [u8; 16]) -> [u8; 16]
-    requires { ⌜ (Spot (now t) k b) × (Marks (now t) number (count (now t)) (now has)) × (Leads (now t) number k b) ⌝ }
+    requires { ⌜ (Spot (now t) k b) × (Marks (now t) number (now has)) × (Leads (now t) number k b) ⌝ }
     ensures { λ r. ⌜ Completes (now (t .entry)) number k b from r ⌝ }
 {
     if wide(head_word(t, 2)) <= k {
@@ -128,7 +87,7 @@ fn complete(t: &[u32], has: &[bool], number: u32, k: usize, b: u32, from: [u8; 1
 // The first setting of the features from k on, at or after that of the places, that the branch gives the number.
 // First with the same value of feature k, then with the smallest greater one that leads to the number.
 fn seek(t: &[u32], has: &[bool], number: u32, k: usize, b: u32, from: [u8; 16]) -> Sought
-    requires { ⌜ (Spot (now t) k b) × (Marks (now t) number (count (now t)) (now has)) × (Valid (drop k (sizes (now t))) (slice k (features (now t)) from)) ⌝ }
+    requires { ⌜ (Spot (now t) k b) × (Marks (now t) number (now has)) × (Valid (drop k (sizes (now t))) (slice k (features (now t)) from)) ⌝ }
     ensures { λ r. ⌜ Seeks (now (t .entry)) number k b from (r .found) (r .values) ⌝ }
 {
     if wide(head_word(t, 2)) <= k {
@@ -162,7 +121,7 @@ pub fn first_with(t: &[u32], place: usize, number: u32, setting: &[u8]) -> Seen
     requires { ⌜ (Sound (now t)) × (place < 32) × (Valid (sizes (now t)) (now setting)) ⌝ }
     ensures { λ r. ⌜ Answers (sizes (now (t .entry))) (ruleOf (now (t .entry)) place) number (now (setting .entry)) (r .found) (r .setting) ⌝ }
 {
-    let has = mark(t, number);
+    let has = answers(t, true, number);
     let given = Setting::of(setting);
     let from = given.values;
     let r = seek(t, &has, number, 0, root_word(t, place), from);

@@ -12,9 +12,7 @@ use Rattle.theory.specs.Diagrams.{blank, value}
 use Rattle.theory.specs.Functions.{Agree, held}
 use Rattle.theory.specs.Rules.{Branch, Rule, Built}
 use Rattle.theory.specs.WellFormed.{Mean, Ok}
-use Rattle.theory.proofs.Canonical.{build-agree, canonical}
-use Rattle.theory.proofs.Lists.{pos-drop}
-use Rattle.theory.proofs.Meaning.{Right, build-right}
+use Rattle.theory.proofs.Canonical.{build-agree}
 use Rattle.words.specs.Holding as H
 use Rattle.words.specs.Holding.{built as builtOf}
 use Rattle.words.specs.Words.{features, size, sizes, listed}
@@ -82,18 +80,11 @@ built-jump w (suc k) G ok h e =
 -- ---- results remembered
 -- what a result tells may be remembered
 pub result-mean : (w t : List ℕ) (k : ℕ) (g : Rule) (x : ℕ) → Holds w → Result w t k g (Is x) → Mean (nodes t) k (drop k (sizes w)) (decode x) g
-unfolding builtOf
-result-mean w t k g x ok r =
-    let q : Right (sizes w) k (drop k (sizes w)) g (nodes w) (built w k g) = build-right (sizes w) k (drop k (sizes w)) refl g (nodes w) (ok .wf) in
-    let n : nodes t ≡ built w k g .1 = F.grown-nodes lawful w t (built w k g .1) (r .grown) (r .answers .1) in
-    rw (n, r .answers .0) (q .mean)
+result-mean w t k g x ok r = F.result-mean lawful w t k g (decode x) ok (to r)
 
 -- and what is remembered is the result
 pub mean-result : (w : List ℕ) (k : ℕ) (g : Rule) (x : ℕ) → Holds w → Mean (nodes w) k (drop k (sizes w)) (decode x) g → Result w w k g (Is x)
-unfolding builtOf
-mean-result w k g x ok m =
-    result-there w k x g ok
-    (canonical (sizes w) k (drop k (sizes w)) refl (pos-drop k (sizes w) (lawful .positive w (ok .laid))) (nodes w) (ok .wf) (decode x) g m)
+mean-result w k g x ok m = from (F.mean-result lawful w k g (decode x) ok m)
 
 -- ---- branch by branch
 module _ (w : List ℕ) (k : ℕ) (g : Rule) (ok : Holds w) (hk : k < features w) where

@@ -1,5 +1,5 @@
 pub mod Reading
 pub mod Making
 pub mod Filling
+pub mod Staying
 pub mod Stepping
-pub mod Undoing

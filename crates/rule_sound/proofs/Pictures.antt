@@ -22,10 +22,10 @@ use Rattle.rule_sound.specs.Sound.{Sound}
 use Rattle.rule_sound.specs.Walk.{going, Ordered}
 use Rattle.rule_sound.proofs.Sitting.{goes, node-fits}
 
-abbrev reading : Reading rules
+abbrev pub reading : Reading rules
 reading = record { going = going; drawing = drawing; rootAt = λ w p. decode (root w p); roots = roots }
 
-read : Read reading
+pub read : Read reading
 read =
     record {
       goes = goes;
@@ -43,8 +43,8 @@ read =
 pub ordered : {w : List ℕ} → Sound w → Ordered w
 ordered s = record { header = s .header; nodes-ok = s .nodes-ok; chained = s .chained }
 
-tested : {w : List ℕ} → Sound w → Tested reading w
-tested s =
+pub sound-tested : {w : List ℕ} → Sound w → Tested reading w
+sound-tested s =
     record {
       header = s .header;
       nodes-ok = node-fits (ordered s);
@@ -83,16 +83,16 @@ tested-sound {w} t =
 
 -- ---- THEOREMS: a sound table's roots and nodes are those of its rules in turn, its words their picture
 pub sound-tidy : {w : List ℕ} → Sound w → Tidy (sizes w) (roots w) (nodes w)
-sound-tidy s = C.tested-tidy read (tested s)
+sound-tidy s = C.tested-tidy read (sound-tested s)
 
 pub sound-table : {w : List ℕ} → Sound w → table (sizes w) (rulesOf w) ≡ (roots w, nodes w)
-sound-table s = C.tested-table read (tested s)
+sound-table s = C.tested-table read (sound-tested s)
 
 pub sound-pictures : {w : List ℕ} → Sound w → Pictures (capacity w) (sizes w) (rulesOf w) w
-sound-pictures s = C.tested-pictures read (tested s)
+sound-pictures s = C.tested-pictures read (sound-tested s)
 
 pub sound-proper : {w : List ℕ} → Sound w → Proper (capacity w) (sizes w) (rulesOf w)
-sound-proper {w} s = C.tested-proper read (tested s) (λ p h t x. rules-small w p h t)
+sound-proper {w} s = C.tested-proper read (sound-tested s) (λ p h t x. rules-small w p h t)
 
 pub sound-is : {w : List ℕ} → Sound w → IsTable w
 sound-is {w} s = record { cap = capacity w; sizes = sizes w; places = rulesOf w; proper = sound-proper s; pictures = sound-pictures s }

@@ -11,27 +11,21 @@ use Rattle.theory.specs.Rules.{Rule, says}
 use Rattle.theory.proofs.Canonical.{canonical-unique}
 use Rattle.theory.proofs.Rules.{value-phrase}
 use Rattle.settings.specs.Tells.{Tells}
-use Rattle.settings.specs.Refusals.{Cases, Ends}
+use Rattle.settings.specs.Refusals.{Ends}
 use Rattle.settings.proofs.Answers.{tells-eqb}
 use Rattle.settings.proofs.Endings.{not-taken, not-refused}
 use Rattle.settings.specs.declared.refusals.Refusal.{Refusal}
 use Rattle.settings.specs.declared.refusals.Outcome.the-variants.{Taken, Refused}
 use Rattle.words.specs.Words.{sizes}
+pub use Rattle.calls.proofs.Theorems.{write-refused, write-taken}
 use Rattle.rule_words.specs.Words.{decode, nodes, root, ruleOf, rulesOf}
 use Rattle.rule_words.specs.Picture.{Becomes}
 use Rattle.rule_words.proofs.Reading.{decode-phrase, decode-inj}
 use Rattle.rule_sound.specs.Sound.{Sound}
-use Rattle.rules.specs.Writing.{Writes}
 use Rattle.rules.specs.Reading.{Looks, Compares, Tallies, look-cases, same-cases, tally-cases}
 use Rattle.rules.proofs.Sounding.{sound-pos, sound-wf, sound-root}
 
 -- ---- calls that write
-pub write-refused : {l : Cases} {p : ℕ} {g : Rule} {w : List ℕ} {x : Refusal} → Ends l (Refused x) → Writes l p g w w (Refused x)
-write-refused e = record { ends = e; becomes = not-taken; refused = λ y q. refl }
-
-pub write-taken : {l : Cases} {p : ℕ} {g : Rule} {w w′ : List ℕ} → Ends l Taken → Becomes p g w w′ → Writes l p g w w′ Taken
-write-taken e b = record { ends = e; becomes = λ q. b; refused = λ y. not-refused }
-
 -- the branch of a phrase means the constant
 pub constant-becomes : {p x : ℕ} {w w′ : List ℕ} → x < 65536 → Becomes p (meaning (nodes w) (decode x)) w w′ → Becomes p (λ s. says x) w w′
 constant-becomes {p} {x} {w} {w′} h b =

@@ -1,23 +1,19 @@
 -- The promises of calls that write a rule into a place. Assumes nothing.
-use mathlib.Core.Path.{_≡_}
 use mathlib.Core.Logic.{_⊎_}
 use mathlib.Core.List.{List}
 use Prim.Native.Nat.{ℕ, _≤_}
 use Rattle.theory.specs.Rules.{Rule, says}
-use Rattle.settings.specs.Refusals.{Cases, Ends, _when_else_, taken}
-use Rattle.settings.specs.declared.refusals.Refusal.{Refusal}
+use Rattle.settings.specs.Refusals.{Cases, _when_else_, taken}
 use Rattle.settings.specs.declared.refusals.Refusal.the-variants.{Damaged, BadPlace, BadArgument}
 use Rattle.settings.specs.declared.refusals.Outcome.{Outcome}
-use Rattle.settings.specs.declared.refusals.Outcome.the-variants.{Taken, Refused}
+use Rattle.calls.specs.Writing as C
 use Rattle.rule_words.specs.Words.{ruleOf}
-use Rattle.rule_words.specs.Picture.{Becomes}
+use Rattle.rule_words.specs.Picture.{drawing}
 use Rattle.rule_sound.specs.Sound.{Sound}
 
 -- a call with the refusals l that writes the rule g into place p makes w into w′ and ends as o
-pub record Writes (l : Cases) (p : ℕ) (g : Rule) (w w′ : List ℕ) (o : Outcome) : Type 0 where
-  pub ends : Ends l o
-  pub becomes : o ≡ Taken → Becomes p g w w′
-  pub refused : (x : Refusal) → o ≡ Refused x → w′ ≡ w
+abbrev pub Writes : Cases → ℕ → Rule → List ℕ → List ℕ → Outcome → Type 0
+Writes l p g w w′ o = C.Writes drawing l p g w w′ o
 
 -- the constant number x into place p
 abbrev pub constant-cases : ℕ → ℕ → List ℕ → Cases

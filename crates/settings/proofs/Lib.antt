@@ -6,3 +6,4 @@ pub mod Holding
 pub mod Turning
 pub mod Stepping
 pub mod Decided
+pub mod Places

@@ -3,3 +3,4 @@ pub mod Refusals
 pub mod Step
 pub mod Visit
 pub mod Odometer
+pub mod Places

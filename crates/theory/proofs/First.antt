@@ -1,25 +1,19 @@
 -- The first setting with a number: there is at most one, and how the first value of a setting decides it. Assumes nothing.
 use mathlib.Core.Path.{_≡_, refl, sym, ap, subst, _∙_}
-use mathlib.Core.Logic.{_⊎_, inl, inr, ⊎-elim, _↔_}
+use mathlib.Core.Logic.{_⊎_, inl, inr, ⊎-elim}
 use mathlib.Core.List.{List, [], _∷_, head-eq-of-cons-eq, tail-eq-of-cons-eq}
-use Prim.Native.Nat.{ℕ, zero, suc, _+_, _≤_, _<_}
+use Prim.Native.Nat.{ℕ, suc, _+_, _≤_, _<_}
 use native.Mathlib.Decide.{decLt}
-use native.Mathlib.Nat.{add-zero, le-refl}
 use native.Mathlib.Omega.{arith}
-use lib.ListN.{length, getD, drop}
-use lib.Seq.{drop-cons}
-use Rattle.theory.specs.Settings.{Valid, Before, Pos, sooner, later}
+use Rattle.theory.specs.Settings.{Valid, Before, sooner, later}
 use Rattle.theory.specs.Functions.{held}
 use Rattle.theory.specs.Diagrams.{next, value}
-use Rattle.theory.specs.WellFormed.{Ok}
 use Rattle.theory.specs.Rules.{Branch, Node, Rule}
-use Rattle.theory.specs.First.{First, FirstFrom, From, Given, NoneFrom}
-use Rattle.theory.proofs.Lists.{pos-drop}
+use Rattle.theory.specs.First.{First, FirstFrom, From, NoneFrom}
+use Rattle.theory.specs.Counted.{Given}
 use Rattle.theory.proofs.Ranges.{valid-length}
 use Rattle.theory.proofs.Rank.{rank, rank-order}
-use Rattle.theory.proofs.Rules.{numbers}
-use Rattle.theory.proofs.WellFormed.{under-weaken}
-use Rattle.theory.proofs.Values.{value-next, value-wait}
+use Rattle.theory.proofs.Values.{value-next}
 
 -- two settings, each at or after the other, are the same
 pub from-both : (S : List ℕ) {s t : List ℕ} → Valid S s → Valid S t → From s t → From t s → s ≡ t
@@ -68,18 +62,7 @@ module _ (n : ℕ) (ns : List ℕ) (g : Rule) (x : ℕ) where
   from-greater v y t u h a b = inr (sooner h (valid-length ns t a ∙ sym (valid-length ns u b)))
 
   given-at : (y : ℕ) (u : List ℕ) → Valid (n ∷ ns) (y ∷ u) → g (y ∷ u) .end ≡ x → Given ns (held y g) x
-  given-at y u h p = record { setting = u; valid = h .1; gives = p }
-
-  -- some setting is given x if some setting with first value v is
-  pub given-more : (v : ℕ) → v < n → Given ns (held v g) x → Given (n ∷ ns) g x
-  given-more v h r = record { setting = v ∷ r .setting; valid = (h, r .valid); gives = r .gives }
-
-  pub given-none : ((v : ℕ) → v < n → Given ns (held v g) x → ⊥) → Given (n ∷ ns) g x → ⊥
-  given-none f r = go (r .setting) (r .valid) (r .gives)
-    where
-      go : (u : List ℕ) → Valid (n ∷ ns) u → g u .end ≡ x → ⊥
-      go [] h p = absurd h
-      go (y ∷ u) h p = f y (h .0) (given-at y u h p)
+  given-at y u h p = record { setting = u; valid = h .1; holds = p }
 
   -- the first of all starts with the smallest value that leads to x
   pub first-smallest : (w : ℕ) (t : List ℕ) → w < n → ((y : ℕ) → y < w → Given ns (held y g) x → ⊥) → First ns (held w g) x t → First (n ∷ ns) g x (w ∷ t)
@@ -160,7 +143,7 @@ module _ (g : Rule) (x : ℕ) where
       none (v ∷ u) h p o = h
 
   pub given-end : Given [] g x → g [] .end ≡ x
-  given-end r = go (r .setting) (r .valid) (r .gives)
+  given-end r = go (r .setting) (r .valid) (r .holds)
     where
       go : (u : List ℕ) → Valid [] u → g u .end ≡ x → g [] .end ≡ x
       go [] h p = p
@@ -170,35 +153,3 @@ module _ (g : Rule) (x : ℕ) where
 -- a branch with its first feature held means the branch one step on
 pub held-next : (N : List Node) (k : ℕ) (b : Branch) (v : ℕ) → held v (value N k b) ≡ value N (suc k) (next N k b v)
 held-next N k b v = λ i s. value-next N k b v s i
-
--- features that the branch does not test change nothing
-given-wait : (N : List Node) (k n : ℕ) (ns : List ℕ) (b : Branch) (x : ℕ) → Ok N (suc k) b → Given (n ∷ ns) (value N k b) x → Given ns (value N (suc k) b) x
-given-wait N k n ns b x o r = go (r .setting) (r .valid) (r .gives)
-  where
-    go : (u : List ℕ) → Valid (n ∷ ns) u → value N k b u .end ≡ x → Given ns (value N (suc k) b) x
-    go [] h p = absurd h
-    go (v ∷ u) h p = record { setting = u; valid = h .1; gives = sym (numbers (value-wait N k b v u o)) ∙ p }
-
-wait-given : (N : List Node) (k n : ℕ) (ns : List ℕ) (b : Branch) (x : ℕ) → 0 < n → Ok N (suc k) b → Given ns (value N (suc k) b) x → Given (n ∷ ns) (value N k b) x
-wait-given N k n ns b x h o r = record { setting = 0 ∷ r .setting; valid = (h, r .valid); gives = numbers (value-wait N k b 0 (r .setting) o) ∙ r .gives }
-
--- so it can be seen from each feature up to the one that the branch tests whether some setting is given x
-pub given-jump : (S : List ℕ) → Pos S → (N : List Node) (b : Branch) (x k d : ℕ) → k + d ≤ length S → Ok N (k + d) b
-    → Given (drop k S) (value N k b) x ↔ Given (drop (k + d) S) (value N (k + d) b) x
-given-jump S pos N b x k zero h o = rw add-zero (λ r. r, λ r. r)
-given-jump S pos N b x k (suc d) h o =
-    let rest : Given (drop (suc k) S) (value N (suc k) b) x ↔ Given (drop (suc k + d) S) (value N (suc k + d) b) x = given-jump S pos N b x (suc k) d (omega arith) o′ in
-    rw e (λ r. rest .0 (one .0 r), λ r. one .1 (rest .1 r))
-  where
-    e : k + suc d ≡ suc k + d
-    e = omega arith
-
-    o′ : Ok N (suc k + d) b
-    o′ = subst (λ (j : ℕ). Ok N j b) e o
-
-    one : Given (drop k S) (value N k b) x ↔ Given (drop (suc k) S) (value N (suc k) b) x
-    one =
-        let p : Ok N (suc k) b = under-weaken N (length N) (length N) (suc k + d) (suc k) (b .to) (le-refl _) (omega arith) o′ in
-        let c : drop k S ≡ getD S k 0 ∷ drop (suc k) S = drop-cons S k 0 (omega arith) in
-        let z : Pos (getD S k 0 ∷ drop (suc k) S) = subst Pos c (pos-drop k S pos) in
-        rw c (given-wait N k (getD S k 0) (drop (suc k) S) b x p, wait-given N k (getD S k 0) (drop (suc k) S) b x (z .0) p)

@@ -26,9 +26,3 @@ pub record First (S : List ℕ) (g : Rule) (x : ℕ) (t : List ℕ) : Type 0 whe
   pub valid : Valid S t
   pub gives : g t .end ≡ x
   pub least : (u : List ℕ) → Valid S u → g u .end ≡ x → From t u
-
--- g gives some setting the number x
-pub record Given (S : List ℕ) (g : Rule) (x : ℕ) : Type 0 where
-  pub setting : List ℕ
-  pub valid : Valid S setting
-  pub gives : g setting .end ≡ x

@@ -19,7 +19,7 @@ use Rattle.theory.specs.Functions.{Fun, held, parts}
 use Rattle.theory.specs.Kind.{Kind}
 use Rattle.theory.specs.Rests.{Free}
 use Rattle.theory.specs.Settings.{Pos}
-use Rattle.theory.specs.WellFormed.{Ok}
+use Rattle.theory.specs.WellFormed.{Mean, Ok}
 use Rattle.words.specs.Holding.{Layout, Lawful, Holds, Grown, Gives, built, Result, eachTo, Filled, Stopped}
 
 module _ {K : Kind} where
@@ -95,6 +95,20 @@ module _ {K : Kind} {T : Layout K} (L : Lawful T) where
   unfolding built
   built-there w k b g ok o e =
       canonical (T .sizes w) k (drop k (T .sizes w)) refl (pos-drop k (T .sizes w) (L .positive w (ok .laid))) (T .nodes w) (ok .wf) b g (record { ok = o; says = λ s v. e s })
+
+  -- ---- results remembered
+  -- what a result tells may be remembered
+  pub result-mean : (w t : List ℕ) (k : ℕ) (g : Fun K) (b : Branch K) → Holds T w → Result T w t k g (some b) → Mean (T .nodes t) k (drop k (T .sizes w)) b g
+  unfolding built
+  result-mean w t k g b ok r =
+      let n : T .nodes t ≡ built T w k g .1 = grown-nodes w t (built T w k g .1) (r .grown) (r .answers .1) in
+      rw (n, r .answers .0) (build-right (T .sizes w) k (drop k (T .sizes w)) refl g (T .nodes w) (ok .wf) .mean)
+
+  -- and what is remembered is the result
+  pub mean-result : (w : List ℕ) (k : ℕ) (g : Fun K) (b : Branch K) → Holds T w → Mean (T .nodes w) k (drop k (T .sizes w)) b g → Result T w w k g (some b)
+  unfolding built
+  mean-result w k g b ok m =
+      result-there w k b g ok (canonical (T .sizes w) k (drop k (T .sizes w)) refl (pos-drop k (T .sizes w) (L .positive w (ok .laid))) (T .nodes w) (ok .wf) b g m)
 
   -- the node is made of a levelled list, and the offset put on its branch
   pub gives-lift : (t t′ : List ℕ) (k : ℕ) (a : K .Off) (cs : List (Branch K)) (o : Option (Branch K)) → Holds T t → 0 < length cs → Gives T t t′ (make k cs (T .nodes t)) o

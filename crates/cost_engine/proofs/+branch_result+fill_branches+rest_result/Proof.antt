@@ -1,22 +1,22 @@
 -- `cost_engine::rest_result`, `fill_branches` and `branch_result` meet their contracts: the remaining features fall; the first v branches are filled, and the memory is right for the table so far. Assumes nothing.
-use Rattle.cost_engine.proofs.Walking.{first-place, second-place, operands-more, operands-end, at-gap, still-left, skip-left, operands-skip, joint-skip, operands-step, joint-held, operands-ext, joint-ends, sum-fits, joint-raised, joint-stopped}
-use Rattle.cost_engine.proofs.Recalling.{hit, result-recalled, remembers-stored, remembers-made, still, still-if}
-use Rattle.cost_engine.specs.Memory.{Remembers}
-use Rattle.cost_engine.specs.Joint.{jointFrom, Operands}
-use Rattle.cost_nodes.proofs.Stepping.{good-small}
-use Rattle.cost_nodes.proofs.Filling.{gives-is, gives-none, fill-start, fill-more, fill-stop, stop-result, fill-armed, fill-near, fill-make, filled, not-filled, filling-ext}
-use Rattle.cost_nodes.specs.Nodes.{Filling}
-use Rattle.cost_words.specs.Words.{target, nodes}
-use Rattle.words.proofs.Words.{kept-features, kept-size}
-use Rattle.words.specs.Words.{features, size}
-use Rattle.cost_laws.specs.Integers.{int}
-use lib.ListN.{length, getD-replicate}
-use lib.IntN.{ℤ}
-use native.Mathlib.Omega.{arith}
-use Prim.Native.Nat.{ℕ, _+_, _-_, _*_, _≤_, _<_}
+use Rattle.cost_memory.proofs.Remembering.{hit, remembers-stored}
 use mathlib.Core.Path.{_≡_, refl, sym, subst, _∙_}
+use Prim.Native.Nat.{ℕ, _+_, _-_, _*_, _≤_, _<_}
+use native.Mathlib.Omega.{arith}
+use lib.IntN.{ℤ}
+use lib.ListN.{length, getD-replicate}
+use Rattle.cost_laws.specs.Integers.{int}
+use Rattle.words.specs.Words.{features, size}
+use Rattle.words.proofs.Words.{kept-features, kept-size}
+use Rattle.cost_words.specs.Words.{target, nodes}
+use Rattle.cost_nodes.specs.Nodes.{Filling}
+use Rattle.cost_nodes.proofs.Filling.{gives-is, gives-none, fill-start, fill-more, fill-stop, stop-result, fill-armed, fill-near, fill-make, filled, not-filled, filling-ext}
+use Rattle.cost_nodes.proofs.Stepping.{good-small}
+use Rattle.cost_engine.specs.Joint.{jointFrom, Operands}
+use Rattle.cost_engine.specs.Memory.{Remembers}
+use Rattle.cost_engine.proofs.Recalling.{recalled-result, result-recalled, right-here, remembers-made, still, still-if}
+use Rattle.cost_engine.proofs.Walking.{first-place, second-place, operands-more, operands-end, at-gap, still-left, skip-left, operands-skip, joint-skip, operands-step, joint-held, operands-ext, joint-ends, sum-fits, joint-raised, joint-stopped}
 use borrow.Author.Needs.{needs}
-use Prim.Native.Nat.{ℕ, _<_}
 use borrow.Fn.Kinds.{In}
 use borrow.Fn.PlainCycle.{Measures, is, falls, and}
 use Rattle.cost_engine.proofs.branch_result.Reads as branch-result
@@ -29,15 +29,16 @@ use Rattle.cost_engine.proofs.rest_result.Reads as rest-result
 use Rattle.cost_engine.proofs.rest_result.Kinds as rest-result-kinds
 use Rattle.cost_engine.proofs.+branch_result+fill_branches+rest_result.Lts-rest_result as rest-result-lts
 use Rattle.cost_engine.proofs.lowest.Reads as lowest-reads
-use Rattle.cost_engine.proofs.memory.recall.Reads as recall-reads
-use Rattle.cost_engine.proofs.memory.remember.Reads as remember-reads
 use Rattle.cost_engine.proofs.operators.ahead_word.Reads as ahead-word-reads
 use Rattle.cost_engine.proofs.operators.end_word.Reads as end-word-reads
 use Rattle.cost_engine.proofs.operators.gap_word.Reads as gap-word-reads
+use Rattle.cost_memory.proofs.recall.Reads as recall-reads
+use Rattle.cost_memory.proofs.remember.Reads as remember-reads
 use Rattle.cost_nodes.proofs.arm_at.Reads as arm-at-reads
 use Rattle.cost_nodes.proofs.make.Reads as make-reads
 use Rattle.cost_words.proofs.sum_word.Reads as sum-word-reads
 use Rattle.words.proofs.head_word.Reads as head-word-reads
+use Rattle.words.proofs.narrow.Reads as narrow-reads
 use Rattle.words.proofs.wide.Reads as wide-reads
 use Rattle.cost_engine.proofs.+branch_result+fill_branches+rest_result.{statement}
 use Rattle.cost_engine.proofs.+branch_result+fill_branches+rest_result.Tie.{close}
@@ -90,7 +91,7 @@ abbrev fill-branches-claims : ℕ → fill-branches-lts.Claims
 fill-branches-claims t = (head-word-reads.Asked, head-word-reads.Learnt, wide-reads.Asked, wide-reads.Learnt, arm-at-reads.Asked, arm-at-reads.Learnt, branch-result-below t, branch-result.Post)
 
 abbrev rest-result-claims : ℕ → rest-result-lts.Claims
-rest-result-claims t = (end-word-reads.Asked, end-word-reads.Learnt, lowest-reads.Asked, lowest-reads.Learnt, rest-result-below t, rest-result.Post, recall-reads.Asked, recall-reads.Learnt, fill-branches-below t, fill-branches.Post, make-reads.Asked, make-reads.Learnt, remember-reads.Asked, remember-reads.Learnt)
+rest-result-claims t = (end-word-reads.Asked, end-word-reads.Learnt, lowest-reads.Asked, lowest-reads.Learnt, rest-result-below t, rest-result.Post, narrow-reads.Asked, narrow-reads.Learnt, recall-reads.Asked, recall-reads.Learnt, fill-branches-below t, fill-branches.Post, make-reads.Asked, make-reads.Learnt, remember-reads.Asked, remember-reads.Learnt)
 
 branch-result-gap-word-requires : (t : ℕ) → branch-result-lts.Need-gap-word-requires (branch-result-claims t) (branch-result-at t) branch-result.Post
 branch-result-gap-word-requires t c κs = operands-more _ _ _ _ _ _ ((c .before .before) .pre .1 .0 .rest)
@@ -288,10 +289,16 @@ rest-result-returns-2 : (t : ℕ) → rest-result-lts.Need-returns-2 (rest-resul
 rest-result-returns-2 t c = let a = (c .before .before .before .before .before .before .before .before .before .before .before .before .before) in
     (joint-skip _ _ _ _ _ _ (a .pre .1 .0) ((c .before .before .before .before .before .before .before .before .lowest) .result) ((c .before .before .before .before .before .before .before .before .lowest) .ensures .0) ((c .before .before .before .before .before .before .before .before .lowest) .ensures .1) (omega (arith, (c .before .before .before .before .before .before .before .if2))) _ ((c .before .before .before .before .rest-result) .result) ((c .before .before .before .before .rest-result) .ensures .0), (c .before .before .before .before .rest-result) .ensures .1)
 
-rest-result-recall-requires : (t : ℕ) → rest-result-lts.Need-recall-requires (rest-result-claims t) (rest-result-at t) rest-result.Post
-rest-result-recall-requires t c κs = let a = (c .before .before .before .before .before .before .before) in
-    let hk = still-left _ _ _ _ _ _ (a .pre .1 .0) ((c .before .before .before .before .if1) .left) in
+rest-result-add-narrow : (t : ℕ) → rest-result-lts.Need-add-narrow (rest-result-claims t) (rest-result-at t) rest-result.Post
+rest-result-add-narrow t c = search needs
+
+rest-result-narrow-requires : (t : ℕ) → rest-result-lts.Need-narrow-requires (rest-result-claims t) (rest-result-at t) rest-result.Post
+rest-result-narrow-requires t c κs = let a = (c .before .before .before .before .before .before) in
+    let hk = still-left _ _ _ _ _ _ (a .pre .1 .0) ((c .before .before .before .if1) .left) in
     omega (arith, a .pre .1 .0 .holds .laid .laid .few)
+
+rest-result-recall-requires : (t : ℕ) → rest-result-lts.Need-recall-requires (rest-result-claims t) (rest-result-at t) rest-result.Post
+rest-result-recall-requires t c κs = search needs
 
 rest-result-enum-known-memo : (t : ℕ) → rest-result-lts.Need-enum-known-memo (rest-result-claims t) (rest-result-at t) rest-result.Post
 rest-result-enum-known-memo t c = search needs
@@ -303,20 +310,21 @@ rest-result-same-length-4 : (t : ℕ) → rest-result-lts.Need-same-length-4 (re
 rest-result-same-length-4 t c = search needs
 
 rest-result-returns-3 : (t : ℕ) → rest-result-lts.Need-returns-3 (rest-result-claims t) (rest-result-at t) rest-result.Post
-rest-result-returns-3 t c = let a = (c .before .before .before .before .before .before .before .before .before .before .before) in
-    (hit _ _ (a .args .k) (a .args .x) (a .args .y) (a .args .d) (a .args .s .now) _ _ _ (a .pre .1 .0) (a .pre .1 .1) ((c .before .before .before .recall) .ensures) ((c .before .memo) .given .1), a .pre .1 .1)
+rest-result-returns-3 t c = let a = (c .before .before .before .before .before .before .before .before .before .before .before .before) in
+    let h = hit (a .args .s .now) ((c .before .before .before .before .before .narrow) .result) (a .args .x) (a .args .y) (a .args .d) _ _ _ (a .pre .1 .1) ((c .before .before .before .recall) .ensures) ((c .before .memo) .given .1) (omega (arith, (c .before .before .before .before .before .narrow) .ensures)) in
+    (recalled-result _ _ ((c .before .before .before .before .before .narrow) .result) (a .args .k) _ _ (a .args .d) _ _ (a .pre .1 .0) ((c .before .before .before .before .before .narrow) .ensures) h, a .pre .1 .1)
 
 rest-result-enum-told : (t : ℕ) → rest-result-lts.Need-enum-told (rest-result-claims t) (rest-result-at t) rest-result.Post
 rest-result-enum-told t c = search needs
 
 rest-result-fill-branches-requires : (t : ℕ) → rest-result-lts.Need-fill-branches-requires (rest-result-claims t) (rest-result-at t) rest-result.Post
-rest-result-fill-branches-requires t c κs = let a = (c .before .before .before .before .before .before .before .before .before .before .before .before) in
-    let hk = still-left _ _ _ _ _ _ (a .pre .1 .0) ((c .before .before .before .before .before .before .before .before .before .if1) .left) in
+rest-result-fill-branches-requires t c κs = let a = (c .before .before .before .before .before .before .before .before .before .before .before .before .before) in
+    let hk = still-left _ _ _ _ _ _ (a .pre .1 .0) ((c .before .before .before .before .before .before .before .before .before .before .if1) .left) in
     (omega arith, (a .pre .1 .0, a .pre .1 .1, hk))
 
 rest-result-make-requires : (t : ℕ) → rest-result-lts.Need-make-requires (rest-result-claims t) (rest-result-at t) rest-result.Post
-rest-result-make-requires t c κs = let a = (c .before .before .before .before .before .before .before .before .before .before .before .before .before .before .before .before .before .before .before .before .before) in
-    let hk = still-left _ _ _ _ _ _ (a .pre .1 .0) ((c .before .before .before .before .before .before .before .before .before .before .before .before .before .before .before .before .before .before .if1) .left) in
+rest-result-make-requires t c κs = let a = (c .before .before .before .before .before .before .before .before .before .before .before .before .before .before .before .before .before .before .before .before .before .before) in
+    let hk = still-left _ _ _ _ _ _ (a .pre .1 .0) ((c .before .before .before .before .before .before .before .before .before .before .before .before .before .before .before .before .before .before .before .if1) .left) in
     let fl = filled _ _ _ _ _ _ _ ((c .before .before .before .if3) .taken) ((c .before .before .before .before .before .before .before .before .fill-branches) .ensures .0) in
     (fl .filled .grown .well, omega (arith, kept-features _ _ (fl .filled .grown .kept)), fill-armed (a .args .t .now) (a .args .k) _ (a .pre .1 .0 .holds) hk _ _ _ fl (fill-near (a .args .t .now) (a .args .k) _ (a .pre .1 .0 .holds) hk _ _ _ fl (a .pre .1 .0 .bounded .spread)))
 
@@ -333,15 +341,13 @@ rest-result-same-length-6 : (t : ℕ) → rest-result-lts.Need-same-length-6 (re
 rest-result-same-length-6 t c = search needs
 
 rest-result-returns-4 : (t : ℕ) → rest-result-lts.Need-returns-4 (rest-result-claims t) (rest-result-at t) rest-result.Post
-rest-result-returns-4 t c = let a = (c .before .before .before .before .before .before .before .before .before .before .before .before .before .before .before .before .before .before .before .before .before .before .before .before .before .before) in
-    let hk = still-left _ _ _ _ _ _ (a .pre .1 .0) ((c .before .before .before .before .before .before .before .before .before .before .before .before .before .before .before .before .before .before .before .before .before .before .before .if1) .left) in
+rest-result-returns-4 t c = let a = (c .before .before .before .before .before .before .before .before .before .before .before .before .before .before .before .before .before .before .before .before .before .before .before .before .before .before .before) in
+    let hk = still-left _ _ _ _ _ _ (a .pre .1 .0) ((c .before .before .before .before .before .before .before .before .before .before .before .before .before .before .before .before .before .before .before .before .before .before .before .before .if1) .left) in
     let fl = filled _ _ _ _ _ _ _ ((c .before .before .before .before .before .before .before .before .if3) .taken) ((c .before .before .before .before .before .before .before .before .before .before .before .before .before .fill-branches) .ensures .0) in
     (gives-none ((c .enum-told2) .given .1) (fill-make (a .args .t .now) (a .args .k) _ (a .pre .1 .0 .holds) hk _ _ _ _ ((c .before .before .before .before .make) .result) fl ((c .before .before .before .before .make) .ensures)), tt)
 
 rest-result-remember-requires : (t : ℕ) → rest-result-lts.Need-remember-requires (rest-result-claims t) (rest-result-at t) rest-result.Post
-rest-result-remember-requires t c κs = let a = (c .before .before .before .before .before .before .before .before .before .before .before .before .before .before .before .before .before .before .before .before .before .before .before .before .before .before .before .before) in
-    let hk = still-left _ _ _ _ _ _ (a .pre .1 .0) ((c .before .before .before .before .before .before .before .before .before .before .before .before .before .before .before .before .before .before .before .before .before .before .before .before .before .if1) .left) in
-    omega (arith, a .pre .1 .0 .holds .laid .laid .few)
+rest-result-remember-requires t c κs = omega (arith, (c .before .before .before .before .before .before .before .before .before .before .before .before .before .before .before .before .before .before .before .before .before .before .narrow) .ensures)
 
 rest-result-same-length-7 : (t : ℕ) → rest-result-lts.Need-same-length-7 (rest-result-claims t) (rest-result-at t) rest-result.Post
 rest-result-same-length-7 t c = search needs
@@ -350,15 +356,15 @@ rest-result-same-length-8 : (t : ℕ) → rest-result-lts.Need-same-length-8 (re
 rest-result-same-length-8 t c = search needs
 
 rest-result-returns-5 : (t : ℕ) → rest-result-lts.Need-returns-5 (rest-result-claims t) (rest-result-at t) rest-result.Post
-rest-result-returns-5 t c = let a = (c .before .before .before .before .before .before .before .before .before .before .before .before .before .before .before .before .before .before .before .before .before .before .before .before .before .before .before .before .before .before .before) in
-    let hk = still-left _ _ _ _ _ _ (a .pre .1 .0) ((c .before .before .before .before .before .before .before .before .before .before .before .before .before .before .before .before .before .before .before .before .before .before .before .before .before .before .before .before .if1) .left) in
+rest-result-returns-5 t c = let a = (c .before .before .before .before .before .before .before .before .before .before .before .before .before .before .before .before .before .before .before .before .before .before .before .before .before .before .before .before .before .before .before .before) in
+    let hk = still-left _ _ _ _ _ _ (a .pre .1 .0) ((c .before .before .before .before .before .before .before .before .before .before .before .before .before .before .before .before .before .before .before .before .before .before .before .before .before .before .before .before .before .if1) .left) in
     let fl = filled _ _ _ _ _ _ _ ((c .before .before .before .before .before .before .before .before .before .before .before .before .before .if3) .taken) ((c .before .before .before .before .before .before .before .before .before .before .before .before .before .before .before .before .before .before .fill-branches) .ensures .0) in
     let q = (c .before .before .before .before .before .z) .given .1 in
     let re = gives-is q (fill-make (a .args .t .now) (a .args .k) _ (a .pre .1 .0 .holds) hk _ _ _ _ ((c .before .before .before .before .before .before .before .before .before .make) .result) fl ((c .before .before .before .before .before .before .before .before .before .make) .ensures)) in (
       re,
-      remembers-stored _ _ (a .args .k) (a .args .x) (a .args .y) (a .args .d) _ _ _ _
+      remembers-stored ((c .before .before .before .before .before .before .before .before .before .before .before .before .before .before .before .before .before .before .before .before .before .before .before .before .before .narrow) .result) (a .args .x) (a .args .y) (a .args .d) _ _ _ _
           (remembers-made _ _ (a .args .k) ((c .before .before .before .before .before .before .before .before .before .before .before .before .before .before .before .before .before .before .fill-branches) .result .goes) ((c .before .before .before .before .before .before .before .before .before .before .before .before .before .before .before .before .before .before .fill-branches) .result .adds) _ _ _ _ _ (fl .filled .grown .well) ((c .before .before .before .before .before .before .before .before .before .make) .ensures) q (still-if _ _ _ _ ((c .before .before .before .before .before .before .before .before .before .before .before .before .before .if3) .taken) ((c .before .before .before .before .before .before .before .before .before .before .before .before .before .before .before .before .before .before .fill-branches) .ensures .1)))
-          ((c .before .before .remember) .ensures) (result-recalled _ _ _ (a .args .k) _ _ (a .args .d) _ _ (a .pre .1 .0) re),
+          ((c .before .before .remember) .ensures) (right-here _ _ ((c .before .before .before .before .before .before .before .before .before .before .before .before .before .before .before .before .before .before .before .before .before .before .before .before .before .narrow) .result) (a .args .k) _ _ (a .args .d) _ _ ((c .before .before .before .before .before .before .before .before .before .before .before .before .before .before .before .before .before .before .before .before .before .before .before .before .before .narrow) .ensures) (result-recalled _ _ _ (a .args .k) _ _ (a .args .d) _ _ (a .pre .1 .0) re)),
     )
 
 rest-result-same-length-9 : (t : ℕ) → rest-result-lts.Need-same-length-9 (rest-result-claims t) (rest-result-at t) rest-result.Post
@@ -368,8 +374,8 @@ rest-result-same-length-10 : (t : ℕ) → rest-result-lts.Need-same-length-10 (
 rest-result-same-length-10 t c = search needs
 
 rest-result-returns-6 : (t : ℕ) → rest-result-lts.Need-returns-6 (rest-result-claims t) (rest-result-at t) rest-result.Post
-rest-result-returns-6 t c = let a = (c .before .before .before .before .before .before .before .before .before .before .before .before .before .before .before .before .before .before) in
-    let hk = still-left _ _ _ _ _ _ (a .pre .1 .0) ((c .before .before .before .before .before .before .before .before .before .before .before .before .before .before .before .if1) .left) in
+rest-result-returns-6 t c = let a = (c .before .before .before .before .before .before .before .before .before .before .before .before .before .before .before .before .before .before .before) in
+    let hk = still-left _ _ _ _ _ _ (a .pre .1 .0) ((c .before .before .before .before .before .before .before .before .before .before .before .before .before .before .before .before .if1) .left) in
     (stop-result (a .args .t .now) (a .args .k) _ (a .pre .1 .0 .holds) hk _ (not-filled _ _ _ _ _ _ _ ((c .if3) .left) ((c .before .before .before .before .before .fill-branches) .ensures .0)), tt)
 
 pub +branch-result+fill-branches+rest-result-spec : {M : Type 1} → statement M
@@ -429,6 +435,8 @@ pub +branch-result+fill-branches+rest-result-spec : {M : Type 1} → statement M
     (rest-result-same-length t)
     (rest-result-same-length-2 t)
     (rest-result-returns-2 t)
+    (rest-result-add-narrow t)
+    (rest-result-narrow-requires t)
     (rest-result-recall-requires t)
     (rest-result-enum-known-memo t)
     (rest-result-same-length-3 t)

@@ -12,8 +12,8 @@ use borrow.Author.Needs.{needs}
 use Rattle.rule_next.proofs.first_with.Statement.{statement}
 use Rattle.rule_next.proofs.first_with.Tie as tie
 
-mark-requires : tie.Need-mark-requires
-mark-requires c κs = (c .before .before) .pre .0
+answers-requires : tie.Need-answers-requires
+answers-requires c κs = (c .before .before) .pre .0
 
 of-requires : tie.Need-of-requires
 of-requires c κs = search needs
@@ -27,7 +27,7 @@ root-word-requires c κs = let p = (c .before .before .before .before .before .b
 seek-requires : tie.Need-seek-requires
 seek-requires c κs = let a = (c .before .before .before .before .before .before .before) .args in let p = (c .before .before .before .before .before .before .before) .pre in (
   spot-root (p .0) (a .place) ((c .root-word) .result) (p .1) ((c .root-word) .ensures),
-  (c .before .before .before .before .mark) .ensures,
+  (c .before .before .before .before .answers) .ensures,
   subst (λ (g : Setting). Valid (sizes (a .t .now)) (take (features (a .t .now)) (g .values))) (sym ((c .before .before .before .of) .ensures)) (seek-start (p .0) (a .place) (a .number) (a .setting .now) (p .2)),
 )
 
@@ -49,7 +49,7 @@ pub first-with-spec : {M : Type 1} → statement M
 first-with-spec =
     tie.close
     (tie.spec
-    mark-requires
+    answers-requires
     of-requires
     slice-aggregate-seek
     root-word-requires

@@ -31,8 +31,8 @@ loop-holds c = ((c .wide) .ensures .0 ∙ (c .before .head-word) .ensures, omega
 child-requires : tie.Need-child-requires Inv-loop μ-loop
 child-requires c κs = ((c .before .before .before .before .before .before) .pre .0, omega arith)
 
-leads-requires : tie.Need-leads-requires Inv-loop μ-loop
-leads-requires c κs = let p = (c .before .before .before .before .before .before .before) .pre in let h = p .0 .sound .header in omega (arith, p .3 .sized, h .most, h .within, spot-small (spot-next (p .0) ((c .before .before .loop) .v) ((c .child) .result) ((c .child) .ensures) (p .1)))
+branch-meets-requires : tie.Need-branch-meets-requires Inv-loop μ-loop
+branch-meets-requires c κs = let p = (c .before .before .before .before .before .before .before) .pre in let h = p .0 .sound .header in omega (arith, p .3 .long, h .most, h .within, spot-small (spot-next (p .0) ((c .before .before .loop) .v) ((c .child) .result) ((c .child) .ensures) (p .1)))
 
 returns : tie.Need-returns Inv-loop μ-loop
 returns c = let p = (c .before .before .before .before .before .before .before .before .before) .pre in let l = (c .before .before .before .before .loop) in
@@ -40,7 +40,7 @@ returns c = let p = (c .before .before .before .before .before .before .before .
       from = l .inv .2 .from;
       most = omega arith;
       none = l .inv .2 .none;
-      leads = λ q. sure ((c .if1) .taken) (value-tells (p .0) (p .1) ((c .before .before .before .before .before .before .before .before .before) .args .number) (l .v) ((c .before .before .child) .result) ((c .before .leads) .result) ((c .before .before .child) .ensures) ((c .before .leads) .ensures) (p .3));
+      leads = λ q. sure ((c .if1) .taken) (value-tells (p .0) (p .1) ((c .before .before .before .before .before .before .before .before .before) .args .number) (l .v) ((c .before .before .child) .result) ((c .before .branch-meets) .result) ((c .before .before .child) .ensures) ((c .before .branch-meets) .ensures) (p .3));
     }
 
 add-v : tie.Need-add-v Inv-loop μ-loop
@@ -53,7 +53,7 @@ loop-again : tie.Need-loop-again Inv-loop μ-loop
 loop-again c = let p = (c .before .before .before .before .before .before .before .before .before) .pre in let l = (c .before .before .before .before .loop) in (
   l .inv .0,
   omega arith,
-  passed-more (l .inv .2) (sure-not ((c .if1) .left) (value-tells (p .0) (p .1) ((c .before .before .before .before .before .before .before .before .before) .args .number) (l .v) ((c .before .before .child) .result) ((c .before .leads) .result) ((c .before .before .child) .ensures) ((c .before .leads) .ensures) (p .3))),
+  passed-more (l .inv .2) (sure-not ((c .if1) .left) (value-tells (p .0) (p .1) ((c .before .before .before .before .before .before .before .before .before) .args .number) (l .v) ((c .before .before .child) .result) ((c .before .branch-meets) .result) ((c .before .before .child) .ensures) ((c .before .branch-meets) .ensures) (p .3))),
 )
 
 returns-2 : tie.Need-returns-2 Inv-loop μ-loop
@@ -70,7 +70,7 @@ smallest-spec =
     wide-requires
     loop-holds
     child-requires
-    leads-requires
+    branch-meets-requires
     returns
     add-v
     loop-less

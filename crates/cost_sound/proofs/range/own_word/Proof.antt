@@ -1,6 +1,7 @@
 -- `cost_sound::range::own_word` meets its contract: the extreme of the branches passed. Assumes nothing.
 use Rattle.cost_sound.proofs.Ranging.{best-one, best-more, best-all}
-use Rattle.cost_sound.specs.Sides.{opOf, kept}
+use Rattle.cost_sound.specs.Sides.{kept}
+use Rattle.cost_words.specs.Sums.{sideOf}
 use Rattle.cost_words.specs.Words.{nodes}
 use Rattle.words.specs.Words.{feature, size}
 use Rattle.cost_laws.specs.Extremes.{across, along}
@@ -15,7 +16,7 @@ use Rattle.cost_sound.proofs.range.own_word.Statement.{statement}
 use Rattle.cost_sound.proofs.range.own_word.Tie as tie
 
 abbrev Inv-loop : tie.InvT-loop
-Inv-loop t sums i up s best₀ v₀ best v = (s ≡ size t (feature t i)) × (1 ≤ v) × (v ≤ s) × (0 < best) × (int best ≡ across (opOf up) (λ u. along (kept sums) (getD (at (nodes t) i .branches) u blank)) v)
+Inv-loop t sums i up s best₀ v₀ best v = (s ≡ size t (feature t i)) × (1 ≤ v) × (v ≤ s) × (0 < best) × (int best ≡ across (sideOf up) (λ u. along (kept sums) (getD (at (nodes t) i .branches) u blank)) v)
 
 abbrev μ-loop : tie.MeasureT-loop
 μ-loop t sums i up s best₀ v₀ best v = s - v

@@ -1,6 +1,7 @@
 -- `cost_sound::range::places_ok` meets its contract: no place passed leaves the range on this side. Assumes nothing.
 use Rattle.cost_sound.proofs.Ranging.{place-is}
-use Rattle.cost_sound.specs.Sides.{opOf, beyond}
+use Rattle.cost_sound.specs.Sides.{beyond}
+use Rattle.cost_words.specs.Sums.{sideOf}
 use Rattle.settings.proofs.Answers.{granted, denied}
 use Rattle.cost_words.specs.Words.{costOf}
 use Rattle.words.specs.Words.{sizes}
@@ -16,7 +17,7 @@ use Rattle.cost_sound.proofs.range.places_ok.Statement.{statement}
 use Rattle.cost_sound.proofs.range.places_ok.Tie as tie
 
 abbrev Inv-loop : tie.InvT-loop
-Inv-loop t sums up p₀ p = (p ≤ 16) × ((x : ℕ) → x < p → beyond up (extreme (opOf up) (sizes t) (costOf t x)) ≤ costMost)
+Inv-loop t sums up p₀ p = (p ≤ 16) × ((x : ℕ) → x < p → beyond up (extreme (sideOf up) (sizes t) (costOf t x)) ≤ costMost)
 
 abbrev μ-loop : tie.MeasureT-loop
 μ-loop t sums up p₀ p = 16 - p
@@ -51,7 +52,7 @@ loop-less c = search needs
 loop-again : tie.Need-loop-again Inv-loop μ-loop
 loop-again c = let q = (c .before .before .before .before .before .before .before .before .before) .pre in let a = (c .before .before .before .before .before .before .before .before .before) .args in let l = (c .before .before .before .before .before .before .loop) in (
   omega arith,
-  below-more (λ x. beyond (a .up) (extreme (opOf (a .up)) (sizes (a .t .now)) (costOf (a .t .now) x)) ≤ costMost) (l .p) (l .inv .1)
+  below-more (λ x. beyond (a .up) (extreme (sideOf (a .up)) (sizes (a .t .now)) (costOf (a .t .now) x)) ≤ costMost) (l .p) (l .inv .1)
       (subst (λ (y : ℤ). beyond (a .up) y ≤ costMost) (place-is (q .0) (a .up) (a .sums .now) (q .1) (l .p) ((c .before .before .before .root-word) .result) ((c .before .before .before .before .base-word) .result) ((c .before .before .kept-word) .result) (omega arith) ((c .before .before .before .root-word) .ensures) ((c .before .before .before .before .base-word) .ensures) ((c .before .before .kept-word) .ensures))
       (granted ((c .before .beyond-ok) .result) ((c .if1) .left) ((c .before .beyond-ok) .ensures))),
 )

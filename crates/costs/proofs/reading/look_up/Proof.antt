@@ -3,7 +3,7 @@ use mathlib.Core.Path.{_≡_, refl, sym, subst, _∙_}
 use Rattle.cost_words.specs.Words.{costOf}
 use Rattle.cost_laws.specs.Range.{costMost}
 use Rattle.cost_laws.specs.Integers.{Fit}
-use Rattle.costs.proofs.Signed.{amount-back}
+use Rattle.cost_amounts.proofs.Signed.{amount-back}
 use native.Mathlib.Omega.{arith}
 use Rattle.theory.specs.Settings.{Valid}
 use Rattle.words.specs.Words.{sizes}

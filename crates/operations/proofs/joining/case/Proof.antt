@@ -59,6 +59,9 @@ returns-6 c = let s = granted ((c .before .before .before .before .before .befor
     let p = granted ((c .before .before .before .are-places) .result) ((c .before .before .if4) .left) ((c .before .before .before .are-places) .ensures) in
     write-refused (pass (λ n. n s) (pass (⊎-elim (λ h. omega arith) (⊎-elim (λ h. omega arith) (λ h. h p))) (stop (inr (omega arith)))))
 
+cast-reaches : tie.Need-cast-reaches
+cast-reaches c = search needs
+
 reaches-requires : tie.Need-reaches-requires
 reaches-requires c κs = (granted ((c .before .before .before .before .before .before .before .before .sound) .result) ((c .before .before .before .before .before .before .before .if1) .left) ((c .before .before .before .before .before .before .before .before .sound) .ensures), omega arith)
 
@@ -116,6 +119,7 @@ case-spec =
     returns-5
     same-length-6
     returns-6
+    cast-reaches
     reaches-requires
     same-length-7
     returns-7

@@ -1,0 +1,27 @@
+// Whether two tables, of whatever kinds, are over one feature list.
+use words::head_word;
+use words::wide;
+ghost use mathlib.Core.Path.{_≡_};
+ghost use Prim.Native.Nat.{_≤_};
+ghost use lib.ListN.{length};
+ghost use Rattle.settings.specs.Tells.{Tells};
+ghost use Rattle.words.specs.Words.{features, sizes};
+
+// Whether the feature lists of two tables are equal.
+pub fn same_features(t: &[u32], u: &[u32]) -> bool
+    requires { ⌜ (64 ≤ length (now t)) × (64 ≤ length (now u)) × (features (now t) ≤ 16) ⌝ }
+    ensures { λ r. ⌜ Tells r (sizes (now (t .entry)) ≡ sizes (now (u .entry))) ⌝ }
+{
+    let n = wide(head_word(t, 2));
+    if wide(head_word(u, 2)) != n {
+        return false;
+    }
+    let mut k: usize = 0;
+    while k < n {
+        if head_word(t, 3 + k) != head_word(u, 3 + k) {
+            return false;
+        }
+        k += 1;
+    }
+    true
+}

@@ -1,0 +1,182 @@
+// The engine of CHOOSE: where a rule of a lent rule table is not 0 the first of two costs, else the second, with remembered results in lent scratch words.
+use cost_memory::Memo;
+use cost_memory::clear;
+use cost_memory::recall;
+use cost_memory::remember;
+use cost_nodes::Answer;
+use cost_nodes::Arm;
+use cost_nodes::arm_at;
+use cost_nodes::make;
+use cost_nodes::top_of;
+use cost_words::difference_word;
+use cost_words::sum_word;
+use rule_lending::branch_at;
+use rule_lending::top_at;
+use words::head_word;
+use words::narrow;
+use words::wide;
+ghost use mathlib.Core.Path.{_≡_};
+ghost use Prim.Native.Nat.{_≤_, _<_};
+ghost use Rattle.theory.specs.Diagrams.{meaning};
+ghost use Rattle.cost_laws.specs.Integers.{int};
+ghost use Rattle.cost_laws.specs.Operations.{chosen};
+ghost use Rattle.words.specs.Words.{features, count};
+ghost use Rattle.records.specs.Laid.{Laid};
+ghost use Rattle.rule_lending.specs.Lending.{lent, Lends};
+ghost use Rattle.cost_words.specs.Words.{target, branch, nodes};
+ghost use Rattle.cost_nodes.specs.Nodes.{Result, Fills};
+ghost use Rattle.cost_choose.specs.Choice.{Choosable, choice, choiceOf, endOf, Choices, Branches, Lowest};
+ghost use Rattle.cost_choose.specs.Memory.{tagOf, Remembers, Still, StillIf};
+
+// The lists of a node's branches, or that there was no room for them.
+struct Filled {
+    ok: bool,
+    goes: [u32; 8],
+    adds: [u32; 8],
+}
+
+// The smaller of two features.
+fn lower(a: usize, b: usize) -> usize
+    ensures { λ m. ⌜ (m ≤ a) × (m ≤ b) ⌝ }
+{
+    if a < b { a } else { b }
+}
+
+// The lowest feature that the rule's branch or one of two targets tests.
+fn lowest(r: &[u32], t: &[u32], b: u32, x: u32, y: u32) -> usize
+    requires { ⌜ (Lends (now r) b) × (Laid (now t)) × (x ≤ count (now t)) × (y ≤ count (now t)) ⌝ }
+    ensures { λ m. ⌜ Lowest (now (r .entry)) (now (t .entry)) b x y m ⌝ }
+{
+    lower(top_at(r, b), lower(top_of(t, x), top_of(t, y)))
+}
+
+// The tag that the results for feature k and the rule's branch b are remembered under.
+fn tag_of(k: usize, b: u32) -> u32
+    requires { ⌜ (k < 16) × (b < 69632) ⌝ }
+    ensures { λ g. ⌜ g ≡ tagOf k b ⌝ }
+{
+    narrow(k + 1) + 32 * b
+}
+
+// Where the rule has ended with the number b: the first target, or where b is 0 the second with d on it.
+fn ended(b: u32, x: u32, y: u32, d: u32) -> Answer
+    ensures { λ a. ⌜ a ≡ endOf b x y d ⌝ }
+{
+    if b == 0 {
+        return Answer::Is(y, d);
+    }
+    Answer::Is(x, 2147483648)
+}
+
+// The choice of two targets from feature k on, where the second has d more on it: one node's result. Where the rule has ended it is there already.
+fn rest_result(
+    r: &[u32],
+    t: &mut [u32],
+    s: &mut [u32],
+    k: usize,
+    b: u32,
+    x: u32,
+    y: u32,
+    d: u32,
+) -> Answer
+    requires { ⌜ (Choices (now r) (now t) k b x y (int d)) × (Remembers (now r) (now t) (now s)) ⌝ }
+    ensures { λ a. ⌜ (Result (now (t .entry)) (now (t .exit)) k (choice (lent (now (r .entry)) k b) (nodes (now (t .entry))) k (target x) (target y) (int d)) a) × (Still (now (r .entry)) (now (t .exit)) (now (s .exit)) a) ⌝ }
+{
+    if b < 65536 {
+        return ended(b, x, y, d);
+    }
+    let m = lowest(r, t, b, x, y);
+    if k < m {
+        return rest_result(r, t, s, m, b, x, y, d);
+    }
+    let tag = tag_of(k, b);
+    let memo = recall(s, tag, x, y, d);
+    if let Memo::Known(z, e) = memo {
+        return Answer::Is(z, e);
+    }
+    let filled = fill_branches(r, t, s, k, b, x, y, d);
+    if filled.ok {
+        let goes = filled.goes;
+        let adds = filled.adds;
+        let Answer::Is(z, e) = make(t, k, goes, adds) else {
+            return Answer::NoRoom;
+        };
+        remember(s, tag, x, y, d, z, e);
+        return Answer::Is(z, e);
+    }
+    Answer::NoRoom
+}
+
+// The lists of its branches: the results for the values of feature k in turn.
+fn fill_branches(
+    r: &[u32],
+    t: &mut [u32],
+    s: &mut [u32],
+    k: usize,
+    b: u32,
+    x: u32,
+    y: u32,
+    d: u32,
+) -> Filled
+    requires { ⌜ (Choices (now r) (now t) k b x y (int d)) × (Remembers (now r) (now t) (now s)) × (k < features (now t)) ⌝ }
+    ensures { λ a. ⌜ (Fills (now (t .entry)) (now (t .exit)) k (choice (lent (now (r .entry)) k b) (nodes (now (t .entry))) k (target x) (target y) (int d)) (a .ok) (a .goes) (a .adds)) × (StillIf (now (r .entry)) (now (t .exit)) (now (s .exit)) (a .ok)) ⌝ }
+{
+    let n = wide(head_word(t, 3 + k));
+    let mut goes = [0u32; 8];
+    let mut adds = [0u32; 8];
+    let mut v: usize = 0;
+    while v < n {
+        let c = branch_at(r, k, b, v);
+        let p = arm_at(t, k, x, v);
+        let q = arm_at(t, k, y, v);
+        let Answer::Is(z, e) = branch_result(r, t, s, k + 1, c, p, q, d) else {
+            return Filled {
+                ok: false,
+                goes,
+                adds,
+            };
+        };
+        goes[v] = z;
+        adds[v] = e;
+        v += 1;
+    }
+    Filled {
+        ok: true,
+        goes,
+        adds,
+    }
+}
+
+// The choice of two branches from feature k on: that of their targets, with what the first adds put before it.
+fn branch_result(
+    r: &[u32],
+    t: &mut [u32],
+    s: &mut [u32],
+    k: usize,
+    b: u32,
+    p: Arm,
+    q: Arm,
+    d: u32,
+) -> Answer
+    requires { ⌜ (Branches (now r) (now t) k b (p .to) (p .adds) (q .to) (q .adds) (int d)) × (Remembers (now r) (now t) (now s)) ⌝ }
+    ensures { λ a. ⌜ (Result (now (t .entry)) (now (t .exit)) k (choiceOf (lent (now (r .entry)) k b) (nodes (now (t .entry))) k (branch (p .to) (p .adds)) (branch (q .to) (q .adds)) (int d)) a) × (Still (now (r .entry)) (now (t .exit)) (now (s .exit)) a) ⌝ }
+{
+    let g = difference_word(sum_word(d, q.adds), p.adds);
+    let Answer::Is(z, e) = rest_result(r, t, s, k, b, p.to, q.to, g) else {
+        return Answer::NoRoom;
+    };
+    Answer::Is(z, sum_word(p.adds, e))
+}
+
+// The chosen cost of two branches by the rule of the branch b, built after the table's nodes. Whatever the scratch holds, it is emptied first; where it is short, own words serve.
+pub fn choose_costs(r: &[u32], t: &mut [u32], s: &mut [u32], b: u32, x: Arm, y: Arm) -> Answer
+    requires { ⌜ Choosable (now r) (now t) b (branch (x .to) (x .adds)) (branch (y .to) (y .adds)) ⌝ }
+    ensures { λ a. ⌜ Result (now (t .entry)) (now (t .exit)) 0 (chosen (lent (now (r .entry)) 0 b) (meaning (nodes (now (t .entry))) (branch (x .to) (x .adds))) (meaning (nodes (now (t .entry))) (branch (y .to) (y .adds)))) a ⌝ }
+{
+    if s.len() < 6144 {
+        let mut own = [0u32; 6144];
+        return branch_result(r, t, &mut own, 0, b, x, y, 2147483648);
+    }
+    clear(s);
+    branch_result(r, t, s, 0, b, x, y, 2147483648)
+}

@@ -1,0 +1,4 @@
+pub mod Lows
+pub mod Pairs
+pub mod Descending
+pub mod Theorems

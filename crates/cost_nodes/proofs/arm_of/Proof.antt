@@ -1,0 +1,17 @@
+-- `cost_nodes::arm_of` meets its contract: its words are those of the place. Assumes nothing.
+use Rattle.cost_words.specs.Words.{branch}
+use borrow.Author.Needs.{needs}
+use Rattle.cost_nodes.proofs.arm_of.Statement.{statement}
+use Rattle.cost_nodes.proofs.arm_of.Tie as tie
+
+root-word-requires : tie.Need-root-word-requires
+root-word-requires c κs = search needs
+
+base-word-requires : tie.Need-base-word-requires
+base-word-requires c κs = search needs
+
+returns : tie.Need-returns
+returns c = λ i. branch ((c .before .root-word) .ensures i) ((c .base-word) .ensures i)
+
+pub arm-of-spec : {M : Type 1} → statement M
+arm-of-spec = tie.close (tie.spec root-word-requires base-word-requires returns)

@@ -1,0 +1,3 @@
+pub mod Prices
+pub mod Operands
+pub mod Theorems

@@ -1,0 +1,3 @@
+pub mod Ending
+pub mod Walking
+pub mod Ranging

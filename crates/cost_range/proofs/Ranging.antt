@@ -1,0 +1,149 @@
+-- RANGE from the ends of a cost; scaled costs; what each operation asks and tells. Assumes nothing.
+use mathlib.Core.Bool.{Bool, false}
+use mathlib.Core.Path.{_≡_, refl, sym, ap, subst, _∙_}
+use mathlib.Core.List.{List}
+use Prim.Native.Nat.{ℕ, _+_, _-_, _*_, _≤_, _<_}
+use native.Mathlib.Nat.{add-mul, mul-add, mul-le-mul-left, mul-le-mul-right}
+use native.Mathlib.Omega.{arith}
+use lib.Dec.{leb}
+use lib.IntN.{ℤ, pos, negsuc, _+ℤ_, _*ℤ_, +ℤ-idr}
+use Rattle.theory.specs.Costs.{Cost, amount, costs}
+use Rattle.theory.specs.Diagrams.{Branch, ending, meaning, value}
+use Rattle.theory.specs.Functions.{Agree}
+use Rattle.theory.specs.Settings.{Pos}
+use Rattle.theory.proofs.Values.{value-ending}
+use Rattle.cost_laws.specs.Integers.{rise, fall, Fit, int}
+use Rattle.cost_laws.specs.Operations.{scaled}
+use Rattle.cost_laws.specs.Range.{Within, addMost, costMost}
+use Rattle.cost_laws.proofs.Extremes.{low, high, extreme-taken}
+use Rattle.cost_laws.proofs.Integers.{fit-more, rise-near, fall-near}
+use Rattle.cost_laws.proofs.Products.{mul-rise, mul-fall}
+use Rattle.cost_laws.proofs.Range.{extreme-fits, within-exactly, lowest-scaled, highest-scaled, lowest-turned, highest-turned}
+use Rattle.cost_laws.proofs.Relative.{offs}
+use Rattle.cost_laws.proofs.Spreads.{within-spread}
+use Rattle.cost_laws.proofs.Words.{int-ℕ}
+use Rattle.settings.specs.Tells.{Tells}
+use Rattle.settings.proofs.Answers.{tells-leb}
+use Rattle.words.specs.Words.{sizes}
+use Rattle.cost_words.specs.Words.{branch, nodes}
+use Rattle.cost_words.proofs.Packing.{target-end, int-zero}
+use Rattle.cost_nodes.proofs.Stepping.{top-good}
+use Rattle.cost_engine.specs.Joint.{together, Joinable}
+use Rattle.cost_engine.specs.declared.operators.Operator.{Operator}
+use Rattle.cost_engine.specs.declared.operators.Operator.the-variants.{Scale}
+use Rattle.cost_engine.proofs.Operating.{below, above}
+use Rattle.cost_range.specs.Ends.{Spans, Reaches, Pair, ofBranches}
+use Rattle.cost_range.specs.Operable.{Factored, Operable, Scalable}
+use Rattle.cost_range.specs.declared.Ends.{Ends}
+use Rattle.cost_range.specs.declared.Ends.the-variants.{Lost}
+use Rattle.cost_range.proofs.Ending.{reaches-agree}
+
+-- ---- a cost in range has its ends there, and no other has
+module _ (ns : List ℕ) (ps : Pos ns) (f : Cost) where
+  pub lost-leaves : Reaches ns f Lost → Within costMost ns f → ⊥
+  lost-leaves q w = q (within-spread w) (record { fits = λ s x. fit-more costMost addMost (f s .off) (omega arith) (w .fits s x) })
+
+  module _ (l h : ℕ) (q : Spans ns f l h) where
+    pub low-leaves : l < 1147483648 → Within costMost ns f → ⊥
+    low-leaves c w =
+        let b : fall (int l) ≤ costMost = rw (q .lowest) (within-exactly costMost ns ps f .0 w .0) in
+        absurd (omega (arith, int-ℕ l))
+
+    pub ends-tell : 1147483648 ≤ l → Tells (leb h 3147483648) (Within costMost ns f)
+    ends-tell c =
+        tells-leb h 3147483648
+        (λ d. within-exactly costMost ns ps f .1 (rw (← q .lowest) (fall-near (int l) (omega (arith, int-ℕ l))), rw (← q .highest) (rise-near (int h) (omega (arith, int-ℕ h)))))
+        (λ w. let b : rise (int h) ≤ costMost = rw (q .highest) (within-exactly costMost ns ps f .0 w .1) in omega (arith, int-ℕ h))
+
+    -- both ends of a cost in range are costs
+    pub low-fits : Within costMost ns f → Fit costMost (int l)
+    low-fits w = rw (q .lowest) (extreme-fits low ns ps f w)
+
+    pub high-fits : Within costMost ns f → Fit costMost (int h)
+    high-fits w = rw (q .highest) (extreme-fits high ns ps f w)
+
+    -- ---- scaled: by what is made of its ends
+    pub scaled-ends : (c : ℤ) → Fit costMost (int l *ℤ c) → Fit costMost (int h *ℤ c) → Within costMost ns (scaled c f)
+    scaled-ends (pos n) a b =
+        within-exactly costMost ns ps (scaled (pos n) f) .1
+        (rw (lowest-scaled ns ps f n, ← q .lowest) (a .bottom), rw (highest-scaled ns ps f n, ← q .highest) (b .top))
+    scaled-ends (negsuc n) a b =
+        within-exactly costMost ns ps (scaled (negsuc n) f) .1
+        (rw (lowest-turned ns ps f n, ← q .highest) (b .bottom), rw (highest-turned ns ps f n, ← q .lowest) (a .top))
+
+    pub scaled-low : (c : ℤ) → Within costMost ns (scaled c f) → Fit costMost (int l *ℤ c)
+    scaled-low c w =
+        let t = extreme-taken low ns ps f in
+        subst (λ (z : ℤ). Fit costMost (z *ℤ c)) (sym (q .lowest ∙ t .takes)) (w .fits (t .setting) (t .valid))
+
+    pub scaled-high : (c : ℤ) → Within costMost ns (scaled c f) → Fit costMost (int h *ℤ c)
+    scaled-high c w =
+        let t = extreme-taken high ns ps f in
+        subst (λ (z : ℤ). Fit costMost (z *ℤ c)) (sym (q .highest ∙ t .takes)) (w .fits (t .setting) (t .valid))
+
+-- ---- products
+-- one of `rise` and `fall` is 0
+far-fit : (B : ℕ) (z : ℤ) → rise z + fall z ≤ B → Fit B z
+far-fit B z h = record { top = omega arith; bottom = omega arith }
+
+fit-far : (B : ℕ) (z : ℤ) → Fit B z → rise z + fall z ≤ B
+fit-far B (pos n) f = omega (arith, f .top)
+fit-far B (negsuc n) f = omega (arith, f .bottom)
+
+-- the distance of a word's integer from 0
+pub far-low : (a r : ℕ) → Fit costMost (int a) → a < 2147483648 → r ≡ 2147483648 - a → (r ≡ rise (int a) + fall (int a)) × (r ≤ costMost)
+far-low a r f h e = let b = below a h in (omega (arith, b .rises, b .falls), omega (arith, b .falls, f .bottom))
+
+pub far-high : (a r : ℕ) → Fit costMost (int a) → 2147483648 ≤ a → r ≡ a - 2147483648 → (r ≡ rise (int a) + fall (int a)) × (r ≤ costMost)
+far-high a r f h e = let b = above a h in (omega (arith, b .rises, b .falls), omega (arith, b .rises, f .top))
+
+far-product : (x y : ℤ) → (rise x + fall x) * (rise y + fall y) ≡ rise (x *ℤ y) + fall (x *ℤ y)
+far-product x y =
+    omega (
+      arith,
+      mul-rise x y,
+      mul-fall x y,
+      add-mul (rise x) (fall x) (rise y + fall y),
+      mul-add (rise x) (rise y) (fall y),
+      mul-add (fall x) (rise y) (fall y),
+    )
+
+pub far-small : (p q : ℕ) → p ≤ costMost → q ≤ costMost → p * q ≤ 1000000000000000000
+far-small p q a b = omega (arith, mul-le-mul-right q a, mul-le-mul-left costMost b)
+
+pub product-tells : (x y : ℤ) (p q : ℕ) → p ≡ rise x + fall x → q ≡ rise y + fall y → Tells (leb (p * q) 1000000000) (Fit costMost (x *ℤ y))
+product-tells x y p q ep eq =
+    let e : p * q ≡ rise (x *ℤ y) + fall (x *ℤ y) = (λ i. ep i * eq i) ∙ far-product x y in
+    tells-leb (p * q) 1000000000 (λ h. far-fit costMost (x *ℤ y) (omega arith)) (λ f. omega (arith, fit-far costMost (x *ℤ y) f))
+
+-- ---- scale: one branch, and the end beside it
+module _ (w : List ℕ) (x a c : ℕ) (p : Scalable w (branch x a) c) where
+  pub scale-pair : Pair w 0 x 0
+  scale-pair = record { holds = p .holds; upTo = omega arith; first = p .first; second = top-good w 0 0 (omega arith) (omega arith) }
+
+  beside : (s : List ℕ) → value (nodes w) 0 (branch 0 2147483648) s .off ≡ pos 0
+  beside s =
+      let e : branch 0 2147483648 ≡ ending (amount (pos 0)) = λ i. record { adds = int-zero i; to = target-end 0 refl i } in
+      ap (λ (b : Branch costs). value (nodes w) 0 b s .off) e ∙ offs (value-ending (nodes w) 0 (amount (pos 0)) s)
+
+  alone : Agree (sizes w) (meaning (nodes w) (branch x a)) (ofBranches false w 0 x a 0 2147483648)
+  alone s h = sym (ap amount (ap (λ (z : ℤ). value (nodes w) 0 (branch x a) s .off +ℤ z) (beside s) ∙ +ℤ-idr (value (nodes w) 0 (branch x a) s .off)))
+
+  pub scale-reaches : (r : Ends) → Reaches (sizes w) (ofBranches false w 0 x a 0 2147483648) r → Reaches (sizes w) (meaning (nodes w) (branch x a)) r
+  scale-reaches r q = reaches-agree (sizes w) (meaning (nodes w) (branch x a)) (ofBranches false w 0 x a 0 2147483648) alone r q
+
+-- ---- the operations
+pub operable-pair : (w : List ℕ) (o : Operator) (x a y b : ℕ) → Operable w o (branch x a) (branch y b) → Pair w 0 x y
+operable-pair w o x a y b p = record { holds = p .holds; upTo = omega arith; first = p .first; second = p .second }
+
+pub operable-scale : (w : List ℕ) (o : Operator) (b d : Branch costs) (c : ℕ) → o ≡ Scale c → Operable w o b d → Scalable w b c
+operable-scale w o b d c e p = record { holds = p .holds; first = p .first; firstIn = p .firstIn; factorIn = subst Factored e (p .factorIn) }
+
+-- what is told of one operator's result, for the operator that it is
+pub told : (S : List ℕ) (f g : Cost) (o u : Operator) → o ≡ u → (r : Bool) → Tells r (Within costMost S (together u f g)) → Tells r (Within costMost S (together o f g))
+told S f g o u e r h = subst (λ (q : Operator). Tells r (Within costMost S (together q f g))) (sym e) h
+
+-- with the result in range, the engine may join the two
+pub joinable : (w : List ℕ) (o : Operator) (b c : Branch costs) → Operable w o b c → Within costMost (sizes w) (together o (meaning (nodes w) b) (meaning (nodes w) c)) → Joinable w o b c
+joinable w o b c p h =
+    record { holds = p .holds; first = p .first; second = p .second; firstIn = p .firstIn; secondIn = p .secondIn; resultIn = h }

@@ -1,0 +1,70 @@
+-- The lowest and the highest amount of a sum or a difference of two costs, as a walk over pairs of targets finds them. Assumes nothing.
+use mathlib.Core.Bool.{Bool, true, false}
+use mathlib.Core.Path.{_≡_}
+use mathlib.Core.List.{List}
+use Prim.Native.Nat.{ℕ, _+_, _≤_, _<_}
+use lib.IntN.{ℤ, _+ℤ_, _-ℤ_}
+use lib.ListN.{drop}
+use Rattle.theory.specs.Costs.{Cost}
+use Rattle.theory.specs.Diagrams.{value}
+use Rattle.theory.specs.Functions.{held}
+use Rattle.cost_laws.specs.Extremes.{across, extreme, lowestOf, highestOf}
+use Rattle.cost_laws.specs.Integers.{int}
+use Rattle.cost_laws.specs.Narrow.{Spread}
+use Rattle.cost_laws.specs.Operations.{joined}
+use Rattle.cost_laws.specs.Range.{Within, addMost}
+use Rattle.cost_laws.specs.Relative.{pairFrom}
+use Rattle.words.specs.Words.{features, sizes}
+use Rattle.cost_memory.specs.Memory as M
+use Rattle.cost_words.specs.Sums.{sideOf}
+use Rattle.cost_words.specs.Words.{target, branch, nodes}
+use Rattle.cost_nodes.specs.Nodes.{Holds, Good}
+use Rattle.cost_range.specs.declared.Ends.{Ends}
+use Rattle.cost_range.specs.declared.Ends.the-variants.{Are, Lost}
+
+-- the difference of two integers if `minus`, else their sum
+abbrev pub tieOf : Bool → ℤ → ℤ → ℤ
+tieOf true x y = x -ℤ y
+tieOf false x y = x +ℤ y
+
+-- ---- the ends of a cost
+-- l and h stand for its lowest and its highest amount
+pub record Spans (ns : List ℕ) (f : Cost) (l h : ℕ) : Type 0 where
+  pub lowest : int l ≡ lowestOf ns f
+  pub highest : int h ≡ highestOf ns f
+
+-- lost: two amounts lie more than 2,000,000,000 apart, or one lies that far from 0
+abbrev pub Reaches : List ℕ → Cost → Ends → Type 0
+Reaches ns f (Are l h) = Spans ns f l h
+Reaches ns f Lost = Spread addMost ns f → Within addMost ns f → ⊥
+
+-- ---- of two target words of the table w, where features k and up are left
+pub record Pair (w : List ℕ) (k x y : ℕ) : Type 0 where
+  pub holds : Holds w
+  pub upTo : k ≤ features w
+  pub first : Good w k x
+  pub second : Good w k y
+
+abbrev pub ofTargets : Bool → List ℕ → ℕ → ℕ → ℕ → Cost
+ofTargets minus w k x y = pairFrom (tieOf minus) (nodes w) k (target x) (target y)
+
+-- of two branches: the words of their targets, and of what they add
+abbrev pub ofBranches : Bool → List ℕ → ℕ → ℕ → ℕ → ℕ → ℕ → Cost
+ofBranches minus w k x a y b = joined (tieOf minus) (value (nodes w) k (branch x a)) (value (nodes w) k (branch y b))
+
+-- ---- value by value
+-- r is the further of a and b; after no value it is b
+pub record Furthest (up : Bool) (v a b r : ℕ) : Type 0 where
+  pub first : v ≡ 0 → r ≡ b
+  pub more : 0 < v → int r ≡ sideOf up (int a) (int b)
+
+-- a stands for the furthest that the first v values give, where one gives what is furthest for it
+pub record Folded (up : Bool) (ns : List ℕ) (f : Cost) (v a : ℕ) : Type 0 where
+  pub folded : 0 < v → int a ≡ across (sideOf up) (λ u. extreme (sideOf up) ns (held u f)) v
+
+-- ---- what is remembered: an entry's tag is a feature + 1
+pub record Right (minus : Bool) (w : List ℕ) (tag x y d l h : ℕ) : Type 0 where
+  pub at : (k : ℕ) → tag ≡ k + 1 → Spans (drop k (sizes w)) (ofTargets minus w k x y) l h
+
+abbrev pub Remembers : Bool → List ℕ → List ℕ → Type 0
+Remembers minus w s = M.Remembers (Right minus w) s

@@ -1,0 +1,201 @@
+// Whether the result of an operation on costs stays in its range, found by reading alone: for add and subtract, and for scale on one cost,
+// a walk over pairs of targets gives the lowest and the highest amount below them, with remembered results in lent scratch words.
+use cost_engine::Operator;
+use cost_engine::lowest;
+use cost_memory::Memo;
+use cost_memory::clear;
+use cost_memory::recall;
+use cost_memory::remember;
+use cost_nodes::Arm;
+use cost_nodes::arm_at;
+use cost_words::difference_or_lost;
+use cost_words::further;
+use cost_words::sum_or_lost;
+use words::head_word;
+use words::narrow;
+use words::wide;
+ghost use mathlib.Core.Path.{_≡_};
+ghost use Prim.Native.Nat.{_+_, _≤_, _<_};
+ghost use lib.ListN.{drop};
+ghost use lib.IntN.{_*ℤ_};
+ghost use Rattle.theory.specs.Diagrams.{meaning};
+ghost use Rattle.cost_laws.specs.Integers.{rise, fall, Fit, int};
+ghost use Rattle.cost_laws.specs.Operations.{scaled};
+ghost use Rattle.cost_laws.specs.Range.{Within, costMost};
+ghost use Rattle.words.specs.Words.{features, sizes};
+ghost use Rattle.settings.specs.Tells.{Tells};
+ghost use Rattle.cost_words.specs.Sums.{Stands};
+ghost use Rattle.cost_words.specs.Words.{branch, nodes};
+ghost use Rattle.cost_engine.specs.Joint.{together};
+ghost use Rattle.cost_range.specs.Ends.{tieOf, Reaches, Pair, ofTargets, ofBranches, Remembers, Furthest};
+ghost use Rattle.cost_range.specs.Operable.{Operable, Scalable};
+
+// The words of the lowest and of the highest amount, or that no base brings all amounts into range.
+enum Ends {
+    Are(u32, u32),
+    Lost,
+}
+
+// The word of the difference of two if `minus`, else of the sum; 0 if it lies outside ±2,000,000,000.
+fn tied_word(minus: bool, a: u32, b: u32) -> u32
+    ensures { λ r. ⌜ Stands (tieOf minus (int a) (int b)) r ⌝ }
+{
+    if minus {
+        return difference_or_lost(a, b);
+    }
+    sum_or_lost(a, b)
+}
+
+// The further of what the first v values gave and of one more; after none, the one more.
+fn furthest(up: bool, v: usize, a: u32, b: u32) -> u32
+    ensures { λ r. ⌜ Furthest up v a b r ⌝ }
+{
+    if v == 0 {
+        return b;
+    }
+    further(up, a, b)
+}
+
+// The ends of two targets from feature k on: one pair's result.
+fn rest_ends(t: &[u32], s: &mut [u32], minus: bool, k: usize, x: u32, y: u32) -> Ends
+    requires { ⌜ (Pair (now t) k x y) × (Remembers minus (now t) (now s)) ⌝ }
+    ensures { λ r. ⌜ (Reaches (drop k (sizes (now (t .entry)))) (ofTargets minus (now (t .entry)) k x y) r) × (Remembers minus (now (t .entry)) (now (s .exit))) ⌝ }
+{
+    if x + y == 0 {
+        return Ends::Are(2147483648, 2147483648);
+    }
+    let j = lowest(t, x, y);
+    let tag = narrow(j + 1);
+    let memo = recall(s, tag, x, y, 0);
+    if let Memo::Known(l, h) = memo {
+        return Ends::Are(l, h);
+    }
+    let Ends::Are(l, h) = fold_branches(t, s, minus, j, x, y) else {
+        return Ends::Lost;
+    };
+    remember(s, tag, x, y, 0, l, h);
+    Ends::Are(l, h)
+}
+
+// The same at a feature that is left: over the branches for its values in turn.
+fn fold_branches(t: &[u32], s: &mut [u32], minus: bool, k: usize, x: u32, y: u32) -> Ends
+    requires { ⌜ (Pair (now t) k x y) × (Remembers minus (now t) (now s)) × (k < features (now t)) ⌝ }
+    ensures { λ r. ⌜ (Reaches (drop k (sizes (now (t .entry)))) (ofTargets minus (now (t .entry)) k x y) r) × (Remembers minus (now (t .entry)) (now (s .exit))) ⌝ }
+{
+    let m = wide(head_word(t, 3 + k));
+    let mut low: u32 = 0;
+    let mut high: u32 = 0;
+    let mut v: usize = 0;
+    while v < m {
+        let a = arm_at(t, k, x, v);
+        let b = arm_at(t, k, y, v);
+        let Ends::Are(l, h) = branch_ends(t, s, minus, k + 1, a, b) else {
+            return Ends::Lost;
+        };
+        low = furthest(false, v, low, l);
+        high = furthest(true, v, high, h);
+        v += 1;
+    }
+    Ends::Are(low, high)
+}
+
+// The ends of two branches from feature k on: those of their targets, with what both add put before them.
+fn branch_ends(t: &[u32], s: &mut [u32], minus: bool, k: usize, a: Arm, b: Arm) -> Ends
+    requires { ⌜ (Pair (now t) k (a .to) (b .to)) × (Remembers minus (now t) (now s)) ⌝ }
+    ensures { λ r. ⌜ (Reaches (drop k (sizes (now (t .entry)))) (ofBranches minus (now (t .entry)) k (a .to) (a .adds) (b .to) (b .adds)) r) × (Remembers minus (now (t .entry)) (now (s .exit))) ⌝ }
+{
+    let base = tied_word(minus, a.adds, b.adds);
+    if base == 0 {
+        return Ends::Lost;
+    }
+    let Ends::Are(l, h) = rest_ends(t, s, minus, k, a.to, b.to) else {
+        return Ends::Lost;
+    };
+    let low = sum_or_lost(base, l);
+    if low == 0 {
+        return Ends::Lost;
+    }
+    let high = sum_or_lost(base, h);
+    if high == 0 {
+        return Ends::Lost;
+    }
+    Ends::Are(low, high)
+}
+
+// The ends of two branches over all features. Whatever the scratch holds, it is emptied first; where it is short, own words remember.
+fn whole_ends(t: &[u32], s: &mut [u32], minus: bool, a: Arm, b: Arm) -> Ends
+    requires { ⌜ Pair (now t) 0 (a .to) (b .to) ⌝ }
+    ensures { λ r. ⌜ Reaches (sizes (now (t .entry))) (ofBranches minus (now (t .entry)) 0 (a .to) (a .adds) (b .to) (b .adds)) r ⌝ }
+{
+    if s.len() < 6144 {
+        let mut own = [0u32; 6144];
+        return branch_ends(t, &mut own, minus, 0, a, b);
+    }
+    clear(s);
+    branch_ends(t, s, minus, 0, a, b)
+}
+
+// Whether the sum, or the difference, of two branches lies in the range of costs.
+fn tied_ok(t: &[u32], s: &mut [u32], minus: bool, a: Arm, b: Arm) -> bool
+    requires { ⌜ Pair (now t) 0 (a .to) (b .to) ⌝ }
+    ensures { λ r. ⌜ Tells r (Within costMost (sizes (now (t .entry))) (ofBranches minus (now (t .entry)) 0 (a .to) (a .adds) (b .to) (b .adds))) ⌝ }
+{
+    let Ends::Are(l, h) = whole_ends(t, s, minus, a, b) else {
+        return false;
+    };
+    if l < 1147483648 {
+        return false;
+    }
+    h <= 3147483648
+}
+
+// How far the integer of a word lies from 0.
+fn distance(a: u32) -> usize
+    requires { ⌜ Fit costMost (int a) ⌝ }
+    ensures { λ r. ⌜ (r ≡ rise (int a) + fall (int a)) × (r ≤ costMost) ⌝ }
+{
+    if a < 2147483648 {
+        return wide(2147483648 - a);
+    }
+    wide(a - 2147483648)
+}
+
+// Whether the product of two integers in range lies in range.
+fn product_ok(a: u32, c: u32) -> bool
+    requires { ⌜ (Fit costMost (int a)) × (Fit costMost (int c)) ⌝ }
+    ensures { λ r. ⌜ Tells r (Fit costMost (int a *ℤ int c)) ⌝ }
+{
+    distance(a) * distance(c) <= 1000000000
+}
+
+// Whether a cost in range stays there when it is scaled: by its lowest and its highest amount.
+fn scaled_ok(t: &[u32], s: &mut [u32], a: Arm, c: u32) -> bool
+    requires { ⌜ Scalable (now t) (branch (a .to) (a .adds)) c ⌝ }
+    ensures { λ r. ⌜ Tells r (Within costMost (sizes (now (t .entry))) (scaled (int c) (meaning (nodes (now (t .entry))) (branch (a .to) (a .adds))))) ⌝ }
+{
+    let none = Arm {
+        to: 0,
+        adds: 2147483648,
+    };
+    let Ends::Are(l, h) = whole_ends(t, s, false, a, none) else {
+        return false;
+    };
+    if !product_ok(l, c) {
+        return false;
+    }
+    product_ok(h, c)
+}
+
+// Whether the result of an operation on two costs lies in the range of costs at every setting.
+pub fn in_range(t: &[u32], s: &mut [u32], o: Operator, a: Arm, b: Arm) -> bool
+    requires { ⌜ Operable (now t) o (branch (a .to) (a .adds)) (branch (b .to) (b .adds)) ⌝ }
+    ensures { λ r. ⌜ Tells r (Within costMost (sizes (now (t .entry))) (together o (meaning (nodes (now (t .entry))) (branch (a .to) (a .adds))) (meaning (nodes (now (t .entry))) (branch (b .to) (b .adds))))) ⌝ }
+{
+    match o {
+        Operator::Add => tied_ok(t, s, false, a, b),
+        Operator::Subtract => tied_ok(t, s, true, a, b),
+        Operator::Smaller => true,
+        Operator::Larger => true,
+        Operator::Scale(c) => scaled_ok(t, s, a, c),
+    }
+}

@@ -1,0 +1,20 @@
+// The end of every call that builds: the result is put into its place, or what was built is taken back.
+use cost_collect::finish;
+use cost_nodes::Answer;
+use records::roll_back;
+use settings::Outcome;
+use settings::Refusal;
+ghost use Rattle.cost_settling.specs.Settling.{Asks, Settled};
+
+// What was built into a table of n nodes becomes the cost of the place; where there was no room it is taken back.
+pub fn settle(t: &mut [u32], place: usize, n: usize, r: Answer) -> Outcome
+    requires { ⌜ Asks place n (now t) r ⌝ }
+    ensures { λ o. ⌜ Settled place n (now (t .entry)) (now (t .exit)) r o ⌝ }
+{
+    let Answer::Is(x, a) = r else {
+        roll_back(t, n);
+        return Outcome::Refused(Refusal::NoRoom);
+    };
+    finish(t, place, x, a);
+    Outcome::Taken
+}

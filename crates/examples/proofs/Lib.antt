@@ -1,0 +1,3 @@
+pub mod Nexts
+pub mod Examples
+pub mod Further

@@ -1,0 +1,44 @@
+// The cost calls for C that only read.
+use crate::signed::put_cost;
+use c_results::put;
+use c_results::put_flag;
+use settings::outcome_number;
+ghost use Rattle.lampgrotto_costs.specs.Calls.{Looked, Compared, Tallied};
+
+// The cost that the place gives the setting.
+#[no_mangle]
+pub extern "C" fn lampgrotto_cost_look_up(
+    t: &[u32],
+    place: usize,
+    setting: &[u8],
+    out: &mut [u32],
+) -> u32
+    ensures { λ r. ⌜ Looked place (now (setting .entry)) (now (t .entry)) (now (out .entry)) (now (out .exit)) r ⌝ }
+{
+    let r = costs::look_up(t, place, setting);
+    put_cost(out, r.cost);
+    let o = r.outcome;
+    outcome_number(o)
+}
+
+// Whether the costs of two places agree at every setting: 1 or 0.
+#[no_mangle]
+pub extern "C" fn lampgrotto_cost_same(t: &[u32], a: usize, b: usize, out: &mut [u32]) -> u32
+    ensures { λ r. ⌜ Compared a b (now (t .entry)) (now (out .entry)) (now (out .exit)) r ⌝ }
+{
+    let r = costs::same(t, a, b);
+    put_flag(out, r.same);
+    let o = r.outcome;
+    outcome_number(o)
+}
+
+// The number of distinct rests of all 16 costs.
+#[no_mangle]
+pub extern "C" fn lampgrotto_cost_tally(t: &[u32], out: &mut [u32]) -> u32
+    ensures { λ r. ⌜ Tallied (now (t .entry)) (now (out .entry)) (now (out .exit)) r ⌝ }
+{
+    let r = costs::tally(t);
+    put(out, r.count);
+    let o = r.outcome;
+    outcome_number(o)
+}

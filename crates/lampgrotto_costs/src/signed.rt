@@ -1,0 +1,27 @@
+// Costs laid into lent words, as C reads signed numbers.
+use c_results::put;
+ghost use mathlib.Core.Path.{_≡_};
+ghost use mathlib.Core.List.{[], _∷_};
+ghost use Rattle.cost_laws.specs.Integers.{Fit};
+ghost use Rattle.cost_laws.specs.Range.{costMost};
+ghost use Rattle.c_results.specs.Results.{placed};
+ghost use Rattle.lampgrotto_costs.specs.Signed.{signed};
+
+// The word of a cost.
+fn signed_word(z: i64) -> u32
+    requires { ⌜ Fit costMost z ⌝ }
+    ensures { λ r. ⌜ r ≡ signed z ⌝ }
+{
+    if z < 0 {
+        return (z + 4294967296) as u32;
+    }
+    z as u32
+}
+
+// A cost as one word.
+pub fn put_cost(out: &mut [u32], z: i64)
+    requires { ⌜ Fit costMost z ⌝ }
+    ensures { λ _. ⌜ now (out .exit) ≡ placed (signed z ∷ []) (now (out .entry)) ⌝ }
+{
+    put(out, signed_word(z));
+}

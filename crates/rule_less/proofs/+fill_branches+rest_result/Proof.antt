@@ -1,0 +1,375 @@
+-- `rule_less::rest_result` and `fill_branches` meet their contracts: the remaining features fall; the first v branches are filled, and the memory is right for the rule table so far. Assumes nothing.
+use mathlib.Core.Path.{_≡_, refl, _∙_}
+use Prim.Native.Nat.{ℕ, _-_, _*_, _≤_, _<_}
+use native.Mathlib.Omega.{arith}
+use lib.ListN.{length, getD-replicate}
+use Rattle.words.specs.Words.{features, size}
+use Rattle.words.proofs.Words.{kept-features}
+use Rattle.cost_memory.specs.Memory.{Remembers}
+use Rattle.cost_nodes.specs.Nodes.{top}
+use Rattle.cost_nodes.proofs.Stepping.{good-small}
+use Rattle.rule_nodes.specs.Nodes.{Filling}
+use Rattle.rule_nodes.proofs.Filling.{gives-is, gives-none, fill-start, fill-more, fill-stop, stop-result, fill-listed, fill-make, filled, not-filled}
+use Rattle.rule_less.specs.Less.{lessFrom}
+use Rattle.rule_less.specs.Memory.{Recalled}
+use Rattle.rule_less.proofs.Walking.{same-features, same-size, beside-grown, first-place, second-place, onward-word, still-left, less-equal, skip-left, operands-skip, less-skip, sum-fits, onward-fits, operands-step, less-held}
+use Rattle.rule_less.proofs.Recalling.{hit, remembers-made, remembers-result, still, still-if}
+use borrow.Author.Needs.{needs}
+use borrow.Fn.Kinds.{In}
+use borrow.Fn.PlainCycle.{Measures, is, falls, and}
+use Rattle.rule_less.proofs.fill_branches.Reads as fill-branches
+use Rattle.rule_less.proofs.fill_branches.Kinds as fill-branches-kinds
+use Rattle.rule_less.proofs.+fill_branches+rest_result.Lts-fill_branches as fill-branches-lts
+use Rattle.rule_less.proofs.rest_result.Reads as rest-result
+use Rattle.rule_less.proofs.rest_result.Kinds as rest-result-kinds
+use Rattle.rule_less.proofs.+fill_branches+rest_result.Lts-rest_result as rest-result-lts
+use Rattle.cost_memory.proofs.recall.Reads as recall-reads
+use Rattle.cost_memory.proofs.remember.Reads as remember-reads
+use Rattle.cost_nodes.proofs.arm_at.Reads as arm-at-reads
+use Rattle.cost_nodes.proofs.top_of.Reads as top-of-reads
+use Rattle.cost_words.proofs.difference_word.Reads as difference-word-reads
+use Rattle.cost_words.proofs.sum_word.Reads as sum-word-reads
+use Rattle.rule_less.proofs.above_zero.Reads as above-zero-reads
+use Rattle.rule_nodes.proofs.make.Reads as make-reads
+use Rattle.words.proofs.head_word.Reads as head-word-reads
+use Rattle.words.proofs.narrow.Reads as narrow-reads
+use Rattle.words.proofs.wide.Reads as wide-reads
+use Rattle.rule_less.proofs.+fill_branches+rest_result.{statement}
+use Rattle.rule_less.proofs.+fill_branches+rest_result.Tie.{close}
+
+abbrev μ-fill-branches : Measures 3 fill-branches-kinds.ps ℕ
+μ-fill-branches κs a = 2 * (features (a .0 .now) - a .1 .1 .1 .0) - 1
+
+abbrev μ-rest-result : Measures 3 rest-result-kinds.ps ℕ
+μ-rest-result κs a = 2 * (features (a .0 .now) - a .1 .1 .1 .0)
+
+abbrev fill-branches-at : ℕ → In 3 fill-branches-kinds.ps
+fill-branches-at t =
+    and 3 fill-branches-kinds.ps (is 3 fill-branches-kinds.ps μ-fill-branches t) fill-branches.Pre
+
+abbrev fill-branches-below : ℕ → In 3 fill-branches-kinds.ps
+fill-branches-below t =
+    and
+    3
+    fill-branches-kinds.ps
+    (falls 3 fill-branches-kinds.ps _<_ μ-fill-branches t)
+    fill-branches.Pre
+
+abbrev rest-result-at : ℕ → In 3 rest-result-kinds.ps
+rest-result-at t =
+    and 3 rest-result-kinds.ps (is 3 rest-result-kinds.ps μ-rest-result t) rest-result.Pre
+
+abbrev rest-result-below : ℕ → In 3 rest-result-kinds.ps
+rest-result-below t =
+    and 3 rest-result-kinds.ps (falls 3 rest-result-kinds.ps _<_ μ-rest-result t) rest-result.Pre
+
+abbrev fill-branches-Inv-loop : fill-branches-lts.InvT-loop
+fill-branches-Inv-loop c t₀ s₀ k x y d m list₀ v₀ t s list v = (m ≡ size t₀ k) × (m ≡ size c k) × (v ≤ m) × Filling t₀ t k (lessFrom c k x y d) v list × Remembers (Recalled c t) s × (length s ≡ length s₀)
+
+abbrev fill-branches-μ-loop : fill-branches-lts.MeasureT-loop
+fill-branches-μ-loop c t₀ s₀ k x y d m list₀ v₀ t s list v = m - v
+
+abbrev fill-branches-claims : ℕ → fill-branches-lts.Claims
+fill-branches-claims t = (head-word-reads.Asked, head-word-reads.Learnt, wide-reads.Asked, wide-reads.Learnt, arm-at-reads.Asked, arm-at-reads.Learnt, sum-word-reads.Asked, sum-word-reads.Learnt, difference-word-reads.Asked, difference-word-reads.Learnt, rest-result-below t, rest-result.Post)
+
+abbrev rest-result-claims : ℕ → rest-result-lts.Claims
+rest-result-claims t = (above-zero-reads.Asked, above-zero-reads.Learnt, top-of-reads.Asked, top-of-reads.Learnt, rest-result-below t, rest-result.Post, narrow-reads.Asked, narrow-reads.Learnt, recall-reads.Asked, recall-reads.Learnt, fill-branches-below t, fill-branches.Post, make-reads.Asked, make-reads.Learnt, remember-reads.Asked, remember-reads.Learnt)
+
+fill-branches-add-head-word : (t : ℕ) → fill-branches-lts.Need-add-head-word (fill-branches-claims t) (fill-branches-at t) fill-branches.Post fill-branches-Inv-loop fill-branches-μ-loop
+fill-branches-add-head-word t c = search needs
+
+fill-branches-head-word-requires : (t : ℕ) → fill-branches-lts.Need-head-word-requires (fill-branches-claims t) (fill-branches-at t) fill-branches.Post fill-branches-Inv-loop fill-branches-μ-loop
+fill-branches-head-word-requires t c κs = search needs
+
+fill-branches-wide-requires : (t : ℕ) → fill-branches-lts.Need-wide-requires (fill-branches-claims t) (fill-branches-at t) fill-branches.Post fill-branches-Inv-loop fill-branches-μ-loop
+fill-branches-wide-requires t c κs = search needs
+
+fill-branches-loop-holds : (t : ℕ) → fill-branches-lts.Need-loop-holds (fill-branches-claims t) (fill-branches-at t) fill-branches.Post fill-branches-Inv-loop fill-branches-μ-loop
+fill-branches-loop-holds t c = let a = (c .before .before .before .before .before) in
+    let e : (c .wide) .result ≡ size (a .args .c .now) (a .args .k) = (c .wide) .ensures .0 ∙ (c .before .head-word) .ensures in
+    let n = same-features _ _ (a .pre .1 .1) in
+    (omega (arith, same-size _ _ (a .pre .1 .1) (a .args .k) (a .pre .1 .3)), e, omega arith, fill-start _ (a .args .k) _ (a .pre .1 .1 .holds) (omega (arith, n, a .pre .1 .3)) _ refl (λ u h. getD-replicate 12 u 0 0 h), a .pre .1 .2, refl)
+
+fill-branches-arm-at-requires : (t : ℕ) → fill-branches-lts.Need-arm-at-requires (fill-branches-claims t) (fill-branches-at t) fill-branches.Post fill-branches-Inv-loop fill-branches-μ-loop
+fill-branches-arm-at-requires t c κs = let a = (c .before .before .before .before .before .before .before) in
+    (first-place _ _ _ _ _ (a .pre .1 .0), a .pre .1 .3, omega (arith, (c .before .loop) .inv .1, (c .loop-test)))
+
+fill-branches-arm-at-requires-2 : (t : ℕ) → fill-branches-lts.Need-arm-at-requires-2 (fill-branches-claims t) (fill-branches-at t) fill-branches.Post fill-branches-Inv-loop fill-branches-μ-loop
+fill-branches-arm-at-requires-2 t c κs = let a = (c .before .before .before .before .before .before .before .before) in
+    (second-place _ _ _ _ _ (a .pre .1 .0), a .pre .1 .3, omega (arith, (c .before .before .loop) .inv .1, (c .before .loop-test)))
+
+fill-branches-sum-word-requires : (t : ℕ) → fill-branches-lts.Need-sum-word-requires (fill-branches-claims t) (fill-branches-at t) fill-branches.Post fill-branches-Inv-loop fill-branches-μ-loop
+fill-branches-sum-word-requires t c κs = let a = (c .before .before .before .before .before .before .before .before .before) in
+    let hv : (c .before .before .before .loop) .v < size (a .args .c .now) (a .args .k) = omega (arith, (c .before .before .before .loop) .inv .1, (c .before .before .loop-test)) in
+    sum-fits _ _ _ _ _ (a .pre .1 .0) (a .pre .1 .3) ((c .before .before .before .loop) .v) _ _ _ _ hv ((c .before .arm-at) .ensures) ((c .arm-at2) .ensures)
+
+fill-branches-difference-word-requires : (t : ℕ) → fill-branches-lts.Need-difference-word-requires (fill-branches-claims t) (fill-branches-at t) fill-branches.Post fill-branches-Inv-loop fill-branches-μ-loop
+fill-branches-difference-word-requires t c κs = let a = (c .before .before .before .before .before .before .before .before .before .before) in
+    let hv : (c .before .before .before .before .loop) .v < size (a .args .c .now) (a .args .k) = omega (arith, (c .before .before .before .before .loop) .inv .1, (c .before .before .before .loop-test)) in
+    onward-fits _ _ _ _ _ (a .pre .1 .0) (a .pre .1 .3) ((c .before .before .before .before .loop) .v) _ _ _ _ hv ((c .before .before .arm-at) .ensures) ((c .before .arm-at2) .ensures) _ ((c .sum-word) .ensures)
+
+fill-branches-add-rest-result : (t : ℕ) → fill-branches-lts.Need-add-rest-result (fill-branches-claims t) (fill-branches-at t) fill-branches.Post fill-branches-Inv-loop fill-branches-μ-loop
+fill-branches-add-rest-result t c = omega (arith, (c .before .before .before .before .before .before .before .before .before .before .before .before .before) .pre .1 .3, (c .before .before .before .before .before .before .before .before .before .before .before .before .before) .pre .1 .0 .holds .laid .laid .few)
+
+fill-branches-rest-result-requires : (t : ℕ) → fill-branches-lts.Need-rest-result-requires (fill-branches-claims t) (fill-branches-at t) fill-branches.Post fill-branches-Inv-loop fill-branches-μ-loop
+fill-branches-rest-result-requires t c κs = let a = (c .before .before .before .before .before .before .before .before .before .before .before .before .before) in
+    let l = (c .before .before .before .before .before .before .before .loop) in
+    let fl = l .inv .3 in
+    let hk = a .pre .1 .3 in
+    let hv : l .v < size (a .args .c .now) (a .args .k) = omega (arith, l .inv .1, (c .before .before .before .before .before .before .loop-test)) in
+    let g = onward-word _ _ _ _ _ ((c .before .before .before .sum-word) .ensures) ((c .before .before .difference-word) .ensures) in
+    (omega arith, (operands-step _ _ _ _ _ (a .pre .1 .0) hk (l .v) _ _ _ _ hv ((c .before .before .before .before .before .arm-at) .ensures) ((c .before .before .before .before .arm-at2) .ensures) _ g, beside-grown _ _ (a .pre .1 .1) _ (fl .filled .grown .well) (fl .filled .grown .kept), l .inv .4))
+
+fill-branches-enum-known-z : (t : ℕ) → fill-branches-lts.Need-enum-known-z (fill-branches-claims t) (fill-branches-at t) fill-branches.Post fill-branches-Inv-loop fill-branches-μ-loop
+fill-branches-enum-known-z t c = search needs
+
+fill-branches-enum-told : (t : ℕ) → fill-branches-lts.Need-enum-told (fill-branches-claims t) (fill-branches-at t) fill-branches.Post fill-branches-Inv-loop fill-branches-μ-loop
+fill-branches-enum-told t c = search needs
+
+fill-branches-same-length : (t : ℕ) → fill-branches-lts.Need-same-length (fill-branches-claims t) (fill-branches-at t) fill-branches.Post fill-branches-Inv-loop fill-branches-μ-loop
+fill-branches-same-length t c = search needs
+
+fill-branches-same-length-2 : (t : ℕ) → fill-branches-lts.Need-same-length-2 (fill-branches-claims t) (fill-branches-at t) fill-branches.Post fill-branches-Inv-loop fill-branches-μ-loop
+fill-branches-same-length-2 t c = search needs
+
+fill-branches-returns : (t : ℕ) → fill-branches-lts.Need-returns (fill-branches-claims t) (fill-branches-at t) fill-branches.Post fill-branches-Inv-loop fill-branches-μ-loop
+fill-branches-returns t c = let a = (c .before .before .before .before .before .before .before .before .before .before .before .before .before .before .before .before .before .before .before .before) in
+    let l = (c .before .before .before .before .before .before .before .before .before .before .before .before .before .before .loop) in
+    let hv : l .v < size (a .args .c .now) (a .args .k) = omega (arith, l .inv .1, (c .before .before .before .before .before .before .before .before .before .before .before .before .before .loop-test)) in
+    let g = onward-word _ _ _ _ _ ((c .before .before .before .before .before .before .before .before .before .before .sum-word) .ensures) ((c .before .before .before .before .before .before .before .before .before .difference-word) .ensures) in
+    let n = same-features _ _ (a .pre .1 .1) in (
+      fill-stop (a .args .t .now) (a .args .k) _ (a .pre .1 .1 .holds) (omega (arith, n, a .pre .1 .3)) (l .t) _ (l .v) (l .list) _ _ (l .inv .3) (omega (arith, l .inv .0, (c .before .before .before .before .before .before .before .before .before .before .before .before .before .loop-test)))
+          (less-held _ _ _ _ _ (a .pre .1 .0) (a .pre .1 .3) (l .v) _ _ _ _ hv ((c .before .before .before .before .before .before .before .before .before .before .before .before .arm-at) .ensures) ((c .before .before .before .before .before .before .before .before .before .before .before .arm-at2) .ensures) _ g)
+          ((c .before .before .before .before .before .before .rest-result) .ensures .0) ((c .enum-told) .given .1),
+      tt,
+    )
+
+fill-branches-mul-list : (t : ℕ) → fill-branches-lts.Need-mul-list (fill-branches-claims t) (fill-branches-at t) fill-branches.Post fill-branches-Inv-loop fill-branches-μ-loop
+fill-branches-mul-list t c = search needs
+
+fill-branches-array-write-list : (t : ℕ) → fill-branches-lts.Need-array-write-list (fill-branches-claims t) (fill-branches-at t) fill-branches.Post fill-branches-Inv-loop fill-branches-μ-loop
+fill-branches-array-write-list t c = let a = (c .before .before .before .before .before .before .before .before .before .before .before .before .before .before .before .before .before .before .before .before .before) in
+    omega (arith, a .pre .1 .0 .holds .laid .laid .large (a .args .k) (a .pre .1 .3), (c .before .before .before .before .before .before .before .before .before .before .before .before .before .before .before .loop) .inv .1, (c .before .before .before .before .before .before .before .before .before .before .before .before .before .before .before .loop) .inv .3 .long, (c .before .before .before .before .before .before .before .before .before .before .before .before .before .before .loop-test))
+
+fill-branches-add-v : (t : ℕ) → fill-branches-lts.Need-add-v (fill-branches-claims t) (fill-branches-at t) fill-branches.Post fill-branches-Inv-loop fill-branches-μ-loop
+fill-branches-add-v t c = search needs
+
+fill-branches-loop-less : (t : ℕ) → fill-branches-lts.Need-loop-less (fill-branches-claims t) (fill-branches-at t) fill-branches.Post fill-branches-Inv-loop fill-branches-μ-loop
+fill-branches-loop-less t c = search needs
+
+fill-branches-loop-again : (t : ℕ) → fill-branches-lts.Need-loop-again (fill-branches-claims t) (fill-branches-at t) fill-branches.Post fill-branches-Inv-loop fill-branches-μ-loop
+fill-branches-loop-again t c = let a = (c .before .before .before .before .before .before .before .before .before .before .before .before .before .before .before .before .before .before .before .before .before) in
+    let l = (c .before .before .before .before .before .before .before .before .before .before .before .before .before .before .before .loop) in
+    let hv : l .v < size (a .args .c .now) (a .args .k) = omega (arith, l .inv .1, (c .before .before .before .before .before .before .before .before .before .before .before .before .before .before .loop-test)) in
+    let g = onward-word _ _ _ _ _ ((c .before .before .before .before .before .before .before .before .before .before .before .sum-word) .ensures) ((c .before .before .before .before .before .before .before .before .before .before .difference-word) .ensures) in
+    let n = same-features _ _ (a .pre .1 .1) in (
+      l .inv .0,
+      l .inv .1,
+      omega (arith, (c .before .before .before .before .before .before .before .before .before .before .before .before .before .before .loop-test)),
+      fill-more (a .args .t .now) (a .args .k) _ (a .pre .1 .1 .holds) (omega (arith, n, a .pre .1 .3)) (l .t) _ (l .v) _ (l .list) _ _ (l .inv .3) (omega (arith, l .inv .0, (c .before .before .before .before .before .before .before .before .before .before .before .before .before .before .loop-test)))
+          (less-held _ _ _ _ _ (a .pre .1 .0) (a .pre .1 .3) (l .v) _ _ _ _ hv ((c .before .before .before .before .before .before .before .before .before .before .before .before .before .arm-at) .ensures) ((c .before .before .before .before .before .before .before .before .before .before .before .before .arm-at2) .ensures) _ g)
+          ((c .before .before .before .before .before .before .before .rest-result) .ensures .0) ((c .before .z) .given .1),
+      still _ _ _ _ _ ((c .before .z) .given .1) ((c .before .before .before .before .before .before .before .rest-result) .ensures .1),
+      search needs,
+    )
+
+fill-branches-same-length-3 : (t : ℕ) → fill-branches-lts.Need-same-length-3 (fill-branches-claims t) (fill-branches-at t) fill-branches.Post fill-branches-Inv-loop fill-branches-μ-loop
+fill-branches-same-length-3 t c = search needs
+
+fill-branches-same-length-4 : (t : ℕ) → fill-branches-lts.Need-same-length-4 (fill-branches-claims t) (fill-branches-at t) fill-branches.Post fill-branches-Inv-loop fill-branches-μ-loop
+fill-branches-same-length-4 t c = search needs
+
+fill-branches-returns-2 : (t : ℕ) → fill-branches-lts.Need-returns-2 (fill-branches-claims t) (fill-branches-at t) fill-branches.Post fill-branches-Inv-loop fill-branches-μ-loop
+fill-branches-returns-2 t c = let a = (c .before .before .before .before .before .before .before) in
+    let l = (c .before .loop) in
+    let e : l .v ≡ size (a .args .t .now) (a .args .k) = omega (arith, l .inv .0, l .inv .2, (c .loop-test)) in
+    (rw e at (l .inv .3), l .inv .4)
+
+rest-result-above-zero-requires : (t : ℕ) → rest-result-lts.Need-above-zero-requires (rest-result-claims t) (rest-result-at t) rest-result.Post
+rest-result-above-zero-requires t c κs = search needs
+
+rest-result-returns : (t : ℕ) → rest-result-lts.Need-returns (rest-result-claims t) (rest-result-at t) rest-result.Post
+rest-result-returns t c = let a = (c .before .before .before .before .before) in
+    (less-equal _ _ _ _ _ (a .pre .1 .0) _ _ (a .pre .1 .1) ((c .before .if1) .taken) ((c .above-zero) .ensures), a .pre .1 .2)
+
+rest-result-top-of-requires : (t : ℕ) → rest-result-lts.Need-top-of-requires (rest-result-claims t) (rest-result-at t) rest-result.Post
+rest-result-top-of-requires t c κs = let a = (c .before .before .before .before) in
+    (a .pre .1 .0 .holds .laid .laid, good-small _ _ _ (a .pre .1 .0 .first))
+
+rest-result-top-of-requires-2 : (t : ℕ) → rest-result-lts.Need-top-of-requires-2 (rest-result-claims t) (rest-result-at t) rest-result.Post
+rest-result-top-of-requires-2 t c κs = let a = (c .before .before .before .before .before .before) in
+    (a .pre .1 .0 .holds .laid .laid, good-small _ _ _ (a .pre .1 .0 .second))
+
+rest-result-add-rest-result : (t : ℕ) → rest-result-lts.Need-add-rest-result (rest-result-claims t) (rest-result-at t) rest-result.Post
+rest-result-add-rest-result t c = search needs
+
+rest-result-rest-result-requires : (t : ℕ) → rest-result-lts.Need-rest-result-requires (rest-result-claims t) (rest-result-at t) rest-result.Post
+rest-result-rest-result-requires t c κs = let a = (c .before .before .before .before .before .before .before .before .before .before) in
+    let hx : a .args .k < top (a .args .c .now) (a .args .x) = omega (arith, (c .before .before .before .before .before .top-of) .ensures, (c .before .before .before .before .if2)) in
+    let hy : a .args .k < top (a .args .c .now) (a .args .y) = omega (arith, (c .before .before .before .top-of2) .ensures, (c .before .before .if3)) in
+    let hk = skip-left _ _ _ _ _ (a .pre .1 .0) hx hy in
+    (omega arith, (operands-skip _ _ _ _ _ (a .pre .1 .0) hx hy, a .pre .1 .1, a .pre .1 .2))
+
+rest-result-same-length : (t : ℕ) → rest-result-lts.Need-same-length (rest-result-claims t) (rest-result-at t) rest-result.Post
+rest-result-same-length t c = search needs
+
+rest-result-same-length-2 : (t : ℕ) → rest-result-lts.Need-same-length-2 (rest-result-claims t) (rest-result-at t) rest-result.Post
+rest-result-same-length-2 t c = search needs
+
+rest-result-returns-2 : (t : ℕ) → rest-result-lts.Need-returns-2 (rest-result-claims t) (rest-result-at t) rest-result.Post
+rest-result-returns-2 t c = let a = (c .before .before .before .before .before .before .before .before .before .before .before .before .before .before .before) in
+    let hx : a .args .k < top (a .args .c .now) (a .args .x) = omega (arith, (c .before .before .before .before .before .before .before .before .before .before .top-of) .ensures, (c .before .before .before .before .before .before .before .before .before .if2)) in
+    let hy : a .args .k < top (a .args .c .now) (a .args .y) = omega (arith, (c .before .before .before .before .before .before .before .before .top-of2) .ensures, (c .before .before .before .before .before .before .before .if3)) in
+    (less-skip _ _ _ _ _ (a .pre .1 .0) hx hy _ _ ((c .before .before .before .before .rest-result) .result) (a .pre .1 .1) ((c .before .before .before .before .rest-result) .ensures .0), (c .before .before .before .before .rest-result) .ensures .1)
+
+rest-result-add-narrow : (t : ℕ) → rest-result-lts.Need-add-narrow (rest-result-claims t) (rest-result-at t) rest-result.Post
+rest-result-add-narrow t c = let a = (c .before .before .before .before .before .before) in
+    omega (arith, a .pre .1 .0 .upTo, a .pre .1 .0 .holds .laid .laid .few)
+
+rest-result-narrow-requires : (t : ℕ) → rest-result-lts.Need-narrow-requires (rest-result-claims t) (rest-result-at t) rest-result.Post
+rest-result-narrow-requires t c κs = let a = (c .before .before .before .before .before .before) in
+    omega (arith, a .pre .1 .0 .upTo, a .pre .1 .0 .holds .laid .laid .few)
+
+rest-result-recall-requires : (t : ℕ) → rest-result-lts.Need-recall-requires (rest-result-claims t) (rest-result-at t) rest-result.Post
+rest-result-recall-requires t c κs = search needs
+
+rest-result-enum-known-memo : (t : ℕ) → rest-result-lts.Need-enum-known-memo (rest-result-claims t) (rest-result-at t) rest-result.Post
+rest-result-enum-known-memo t c = search needs
+
+rest-result-same-length-3 : (t : ℕ) → rest-result-lts.Need-same-length-3 (rest-result-claims t) (rest-result-at t) rest-result.Post
+rest-result-same-length-3 t c = search needs
+
+rest-result-returns-3 : (t : ℕ) → rest-result-lts.Need-returns-3 (rest-result-claims t) (rest-result-at t) rest-result.Post
+rest-result-returns-3 t c = let a = (c .before .before .before .before .before .before .before .before .before .before .before .before) in
+    (hit _ _ (a .args .k) (a .args .x) (a .args .y) (a .args .d) (a .args .s .now) _ _ _ _ ((c .before .before .before .before .before .narrow) .ensures) (a .pre .1 .2) ((c .before .before .before .recall) .ensures) ((c .before .memo) .given .1), a .pre .1 .2)
+
+rest-result-enum-told : (t : ℕ) → rest-result-lts.Need-enum-told (rest-result-claims t) (rest-result-at t) rest-result.Post
+rest-result-enum-told t c = search needs
+
+rest-result-fill-branches-requires : (t : ℕ) → rest-result-lts.Need-fill-branches-requires (rest-result-claims t) (rest-result-at t) rest-result.Post
+rest-result-fill-branches-requires t c κs = let a = (c .before .before .before .before .before .before .before .before .before .before .before .before .before) in
+    let hk = still-left _ _ _ _ _ (a .pre .1 .0) ((c .before .before .before .before .before .before .before .before .before .if1) .left) in
+    (omega arith, (a .pre .1 .0, a .pre .1 .1, a .pre .1 .2, hk))
+
+rest-result-make-requires : (t : ℕ) → rest-result-lts.Need-make-requires (rest-result-claims t) (rest-result-at t) rest-result.Post
+rest-result-make-requires t c κs = let a = (c .before .before .before .before .before .before .before .before .before .before .before .before .before .before .before .before .before .before .before .before .before) in
+    let hk = still-left _ _ _ _ _ (a .pre .1 .0) ((c .before .before .before .before .before .before .before .before .before .before .before .before .before .before .before .before .before .if1) .left) in
+    let n = same-features _ _ (a .pre .1 .1) in
+    let fl = filled _ _ _ _ _ _ ((c .before .before .if4) .taken) ((c .before .before .before .before .before .before .before .fill-branches) .ensures .0) in
+    (fl .filled .grown .well, omega (arith, kept-features _ _ (fl .filled .grown .kept)), fill-listed (a .args .t .now) (a .args .k) _ (a .pre .1 .1 .holds) (omega arith) _ _ fl)
+
+rest-result-enum-known-z : (t : ℕ) → rest-result-lts.Need-enum-known-z (rest-result-claims t) (rest-result-at t) rest-result.Post
+rest-result-enum-known-z t c = search needs
+
+rest-result-enum-told-2 : (t : ℕ) → rest-result-lts.Need-enum-told-2 (rest-result-claims t) (rest-result-at t) rest-result.Post
+rest-result-enum-told-2 t c = search needs
+
+rest-result-same-length-4 : (t : ℕ) → rest-result-lts.Need-same-length-4 (rest-result-claims t) (rest-result-at t) rest-result.Post
+rest-result-same-length-4 t c = search needs
+
+rest-result-same-length-5 : (t : ℕ) → rest-result-lts.Need-same-length-5 (rest-result-claims t) (rest-result-at t) rest-result.Post
+rest-result-same-length-5 t c = search needs
+
+rest-result-returns-4 : (t : ℕ) → rest-result-lts.Need-returns-4 (rest-result-claims t) (rest-result-at t) rest-result.Post
+rest-result-returns-4 t c = let a = (c .before .before .before .before .before .before .before .before .before .before .before .before .before .before .before .before .before .before .before .before .before .before .before .before .before .before) in
+    let hk = still-left _ _ _ _ _ (a .pre .1 .0) ((c .before .before .before .before .before .before .before .before .before .before .before .before .before .before .before .before .before .before .before .before .before .before .if1) .left) in
+    let n = same-features _ _ (a .pre .1 .1) in
+    let fl = filled _ _ _ _ _ _ ((c .before .before .before .before .before .before .before .if4) .taken) ((c .before .before .before .before .before .before .before .before .before .before .before .before .fill-branches) .ensures .0) in
+    (gives-none ((c .enum-told2) .given .1) (fill-make (a .args .t .now) (a .args .k) _ (a .pre .1 .1 .holds) (omega arith) _ _ _ _ fl ((c .before .before .before .before .make) .ensures)), tt)
+
+rest-result-remember-requires : (t : ℕ) → rest-result-lts.Need-remember-requires (rest-result-claims t) (rest-result-at t) rest-result.Post
+rest-result-remember-requires t c κs = omega (arith, (c .before .before .before .before .before .before .before .before .before .before .before .before .before .before .before .before .before .before .before .before .before .narrow) .ensures)
+
+rest-result-same-length-6 : (t : ℕ) → rest-result-lts.Need-same-length-6 (rest-result-claims t) (rest-result-at t) rest-result.Post
+rest-result-same-length-6 t c = search needs
+
+rest-result-same-length-7 : (t : ℕ) → rest-result-lts.Need-same-length-7 (rest-result-claims t) (rest-result-at t) rest-result.Post
+rest-result-same-length-7 t c = search needs
+
+rest-result-returns-5 : (t : ℕ) → rest-result-lts.Need-returns-5 (rest-result-claims t) (rest-result-at t) rest-result.Post
+rest-result-returns-5 t c = let a = (c .before .before .before .before .before .before .before .before .before .before .before .before .before .before .before .before .before .before .before .before .before .before .before .before .before .before .before .before .before .before .before) in
+    let hk = still-left _ _ _ _ _ (a .pre .1 .0) ((c .before .before .before .before .before .before .before .before .before .before .before .before .before .before .before .before .before .before .before .before .before .before .before .before .before .before .before .if1) .left) in
+    let n = same-features _ _ (a .pre .1 .1) in
+    let fl = filled _ _ _ _ _ _ ((c .before .before .before .before .before .before .before .before .before .before .before .before .if4) .taken) ((c .before .before .before .before .before .before .before .before .before .before .before .before .before .before .before .before .before .fill-branches) .ensures .0) in
+    let q = (c .before .before .before .before .before .z) .given .1 in
+    let re = gives-is q (fill-make (a .args .t .now) (a .args .k) _ (a .pre .1 .1 .holds) (omega arith) _ _ _ _ fl ((c .before .before .before .before .before .before .before .before .before .make) .ensures)) in
+    let so = still-if _ _ _ _ ((c .before .before .before .before .before .before .before .before .before .before .before .before .if4) .taken) ((c .before .before .before .before .before .before .before .before .before .before .before .before .before .before .before .before .before .fill-branches) .ensures .1) in (
+      re,
+      remembers-result _ _ _ (a .args .k) (a .args .x) (a .args .y) (a .args .d) _ _ _ _ (a .pre .1 .1 .holds) ((c .before .before .before .before .before .before .before .before .before .before .before .before .before .before .before .before .before .before .before .before .before .before .before .before .narrow) .ensures) re
+          (remembers-made _ _ _ (a .args .k) ((c .before .before .before .before .before .before .before .before .before .before .before .before .before .before .before .before .before .fill-branches) .result .list) _ ((c .before .before .before .before .before .z) .given .0 .0) _ (fl .filled .grown .well) ((c .before .before .before .before .before .before .before .before .before .make) .ensures) q so) ((c .before .before .remember) .ensures),
+    )
+
+rest-result-same-length-8 : (t : ℕ) → rest-result-lts.Need-same-length-8 (rest-result-claims t) (rest-result-at t) rest-result.Post
+rest-result-same-length-8 t c = search needs
+
+rest-result-same-length-9 : (t : ℕ) → rest-result-lts.Need-same-length-9 (rest-result-claims t) (rest-result-at t) rest-result.Post
+rest-result-same-length-9 t c = search needs
+
+rest-result-returns-6 : (t : ℕ) → rest-result-lts.Need-returns-6 (rest-result-claims t) (rest-result-at t) rest-result.Post
+rest-result-returns-6 t c = let a = (c .before .before .before .before .before .before .before .before .before .before .before .before .before .before .before .before .before .before .before) in
+    let hk = still-left _ _ _ _ _ (a .pre .1 .0) ((c .before .before .before .before .before .before .before .before .before .before .before .before .before .before .before .if1) .left) in
+    let n = same-features _ _ (a .pre .1 .1) in
+    (stop-result (a .args .t .now) (a .args .k) _ (a .pre .1 .1 .holds) (omega arith) _ (not-filled _ _ _ _ _ _ ((c .if4) .left) ((c .before .before .before .before .before .fill-branches) .ensures .0)), tt)
+
+pub +fill-branches+rest-result-spec : {M : Type 1} → statement M
++fill-branches+rest-result-spec = close μ-fill-branches μ-rest-result (λ t. fill-branches-lts.spec (fill-branches-claims t)
+    (fill-branches-at t)
+    fill-branches.Post
+    fill-branches-Inv-loop
+    fill-branches-μ-loop
+    (fill-branches-add-head-word t)
+    (fill-branches-head-word-requires t)
+    (fill-branches-wide-requires t)
+    (fill-branches-loop-holds t)
+    (fill-branches-arm-at-requires t)
+    (fill-branches-arm-at-requires-2 t)
+    (fill-branches-sum-word-requires t)
+    (fill-branches-difference-word-requires t)
+    (fill-branches-add-rest-result t)
+    (fill-branches-rest-result-requires t)
+    (fill-branches-enum-known-z t)
+    (fill-branches-enum-told t)
+    (fill-branches-same-length t)
+    (fill-branches-same-length-2 t)
+    (fill-branches-returns t)
+    (fill-branches-mul-list t)
+    (fill-branches-array-write-list t)
+    (fill-branches-add-v t)
+    (fill-branches-loop-less t)
+    (fill-branches-loop-again t)
+    (fill-branches-same-length-3 t)
+    (fill-branches-same-length-4 t)
+    (fill-branches-returns-2 t))
+    λ t. rest-result-lts.spec (rest-result-claims t)
+    (rest-result-at t)
+    rest-result.Post
+    (rest-result-above-zero-requires t)
+    (rest-result-returns t)
+    (rest-result-top-of-requires t)
+    (rest-result-top-of-requires-2 t)
+    (rest-result-add-rest-result t)
+    (rest-result-rest-result-requires t)
+    (rest-result-same-length t)
+    (rest-result-same-length-2 t)
+    (rest-result-returns-2 t)
+    (rest-result-add-narrow t)
+    (rest-result-narrow-requires t)
+    (rest-result-recall-requires t)
+    (rest-result-enum-known-memo t)
+    (rest-result-same-length-3 t)
+    (rest-result-returns-3 t)
+    (rest-result-enum-told t)
+    (rest-result-fill-branches-requires t)
+    (rest-result-make-requires t)
+    (rest-result-enum-known-z t)
+    (rest-result-enum-told-2 t)
+    (rest-result-same-length-4 t)
+    (rest-result-same-length-5 t)
+    (rest-result-returns-4 t)
+    (rest-result-remember-requires t)
+    (rest-result-same-length-6 t)
+    (rest-result-same-length-7 t)
+    (rest-result-returns-5 t)
+    (rest-result-same-length-8 t)
+    (rest-result-same-length-9 t)
+    (rest-result-returns-6 t)
