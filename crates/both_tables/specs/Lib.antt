@@ -1,0 +1,4 @@
+pub mod Lending
+pub mod Choosing
+pub mod Comparing
+pub mod Seeking
