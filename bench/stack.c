@@ -1,5 +1,5 @@
-/* How much stack the calls take, on rules whose nodes lie sixteen deep: how far below its caller's frame a call touches a thread's
-   painted stack. */
+/* How much stack the calls take, on rules and costs whose nodes lie sixteen deep: how far below its caller's frame a call touches a
+   thread's painted stack. */
 #include "lampgrotto.h"
 #include <pthread.h>
 #include <stdio.h>
@@ -7,8 +7,9 @@
 #include <string.h>
 
 enum { CAPACITY = 512, WORDS = 32 * CAPACITY + 8192, SCRATCH = 8192, LENT = 1 << 20, PAINT = 0xa5 };
-enum { FIRST, SECOND, LITERAL, RESULT }; /* places */
-static uint32_t words[WORDS], scratch[SCRATCH], out[16];
+enum { COST_CAPACITY = 1024, COST_WORDS = 32 * COST_CAPACITY + 8192 };
+enum { FIRST, SECOND, LITERAL, RESULT }; /* places of both tables */
+static uint32_t words[WORDS], cost_words[COST_WORDS], scratch[SCRATCH], out[17];
 static uint8_t sheet[8192];
 static size_t sheet_length;
 static const uint8_t features[16] = {8, 8, 8, 8, 8, 8, 8, 8, 8, 8, 8, 8, 8, 8, 8, 8}, setting[16];
@@ -26,6 +27,16 @@ static void odd(size_t place, uint32_t bits) {
     for (size_t k = 0; k < 16; k++) {
         expect(!lampgrotto_literal(words, WORDS, LITERAL, k, bits, out, 1), "literal");
         expect(!lampgrotto_apply(words, WORDS, scratch, SCRATCH, place, 5, place, LITERAL), "apply");
+    }
+}
+
+/* the place costs as many as there are features with the value */
+static void many(size_t place, size_t value) {
+    int64_t prices[8] = {0};
+    prices[value] = 1;
+    for (size_t k = 0; k < 16; k++) {
+        expect(!lampgrotto_price(cost_words, COST_WORDS, LITERAL, k, prices, 8), "price");
+        expect(!lampgrotto_add(cost_words, COST_WORDS, scratch, SCRATCH, place, place, LITERAL), "add");
     }
 }
 
@@ -52,6 +63,20 @@ THREAD(tallying, lampgrotto_tally(words, WORDS, out, 1))
 THREAD(writing, lampgrotto_write(words, WORDS, FIRST, sheet, sizeof sheet, out, 1))
 THREAD(reading, lampgrotto_read(words, WORDS, RESULT, sheet, sheet_length))
 
+/* the cost calls, with no scratch: then those that join keep their remembered results on the stack */
+static const int64_t prices[8] = {0, 1, 2, 3, 4, 5, 6, 7};
+THREAD(cost_looking, lampgrotto_cost_look_up(cost_words, COST_WORDS, FIRST, setting, 16, out, 1))
+THREAD(cost_constant, lampgrotto_cost_constant(cost_words, COST_WORDS, RESULT, 7))
+THREAD(pricing, lampgrotto_price(cost_words, COST_WORDS, RESULT, 15, prices, 8))
+THREAD(adding, lampgrotto_add(cost_words, COST_WORDS, scratch, 0, RESULT, FIRST, SECOND))
+THREAD(adding_lent, lampgrotto_add(cost_words, COST_WORDS, scratch, SCRATCH, RESULT, FIRST, SECOND))
+THREAD(smaller, lampgrotto_smaller(cost_words, COST_WORDS, scratch, 0, RESULT, FIRST, SECOND))
+THREAD(scaling, lampgrotto_scale(cost_words, COST_WORDS, scratch, 0, RESULT, FIRST, -3))
+THREAD(cost_tallying, lampgrotto_cost_tally(cost_words, COST_WORDS, out, 1))
+THREAD(cost_choosing, lampgrotto_choose(cost_words, COST_WORDS, words, WORDS, scratch, 0, RESULT, FIRST, FIRST, SECOND))
+THREAD(comparing, lampgrotto_less(words, WORDS, cost_words, COST_WORDS, scratch, 0, RESULT, FIRST, SECOND))
+THREAD(lowest, lampgrotto_lowest(cost_words, COST_WORDS, words, WORDS, scratch, 0, FIRST, FIRST, out, 17))
+
 static size_t stack_of(void *(*call)(void *)) {
     static uint8_t stack[LENT] __attribute__((aligned(4096)));
     pthread_attr_t attributes;
@@ -68,6 +93,23 @@ static void row(const char *name, void *(*call)(void *)) {
     size_t bytes = stack_of(call);
     expect(ending == 0, name);
     printf("| %s | %zu |\n", name, bytes);
+}
+
+static void cost_rows(void) {
+    expect(!lampgrotto_cost_open(cost_words, COST_WORDS, features, 16, COST_CAPACITY), "open");
+    many(FIRST, 7);
+    many(SECOND, 6);
+    row("cost look up", cost_looking);
+    row("cost constant", cost_constant);
+    row("price list", pricing);
+    row("add, with scratch", adding_lent);
+    row("add", adding);
+    row("smaller", smaller);
+    row("scale", scaling);
+    row("cost tally", cost_tallying);
+    row("choose", cost_choosing);
+    row("less", comparing);
+    row("lowest", lowest);
 }
 
 int main(void) {
@@ -89,5 +131,6 @@ int main(void) {
     sheet_length = out[0];
     row("read", reading);
     row("the phone's look up", phone);
+    cost_rows();
     return 0;
 }

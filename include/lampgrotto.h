@@ -1,4 +1,4 @@
-/* Lampgrotto for C: rules over features, kept as decision diagrams in words that the caller lends.
+/* Lampgrotto for C: rules and costs over features, kept as decision diagrams in words that the caller lends.
 
    A slice of the library is a pointer and a length here. A pointer must be good for its length (any pointer that is not null will
    do where the length is 0), and a slice that a call writes must not overlap another of that call. Everything else a call tests
@@ -20,13 +20,13 @@ extern "C" {
 enum lampgrotto_ending {
     LAMPGROTTO_TAKEN = 0,
     LAMPGROTTO_DAMAGED = 1,        /* the words are no sound table */
-    LAMPGROTTO_BAD_PLACE = 2,      /* a place of 32 or more */
+    LAMPGROTTO_BAD_PLACE = 2,      /* a place beyond its table: 32 or more of rules, 16 or more of costs */
     LAMPGROTTO_NEWER = 3,          /* a sheet of a later edition */
     LAMPGROTTO_BAD_SHEET = 4,      /* the bytes are no sheet of any rule */
-    LAMPGROTTO_OTHER_FEATURES = 5, /* the sheet's feature list is not the table's */
+    LAMPGROTTO_OTHER_FEATURES = 5, /* the feature list of the sheet, or of the second table, is not the table's */
     LAMPGROTTO_BAD_ARGUMENT = 6,   /* a feature, value, set, operator, list length, setting or number outside its range */
     LAMPGROTTO_BAD_SELECTOR = 7,   /* a selector that chooses a branch which the list has not */
-    LAMPGROTTO_RANGE = 8,          /* a cost outside its range */
+    LAMPGROTTO_RANGE = 8,          /* a resulting cost outside its range at some setting */
     LAMPGROTTO_NO_ROOM = 9,        /* the nodes of all places, with those of the result, are more than the capacity */
     LAMPGROTTO_NO_SPACE = 10,      /* the output is shorter than the sheet */
     LAMPGROTTO_NONE = 11,          /* there is no such setting */
@@ -45,11 +45,12 @@ uint32_t lampgrotto_look_up(const uint8_t *sheet, size_t sheet_len, const uint8_
    65,535. Every call answers how it ended, and takes
      t         the table's words; words past LAMPGROTTO_WORDS(capacity) are neither read nor written;
      scratch   words for remembered results, any number of them, 0 too, with anything in them. No answer and no table depends on
-               them, only the time: with too few a call does its work again and again, and all of them are cleared first. About
-               16 for each node do well;
+               them, only the time: all of them are cleared first, and with fewer than 6,144 a call remembers on its own stack
+               instead. About 16 for each node do well in large tables;
      place     the place that gets the result; it may be one of those that the call reads;
      out       words for results. They are laid over its front, as many as fit; a refused call lays 0s. Words past them stay.
-   Every call but open refuses DAMAGED words. A call takes up to 18 KB of stack, if its comment does not say more. */
+   Every call but open refuses DAMAGED words. A call that is lent scratch takes up to 37 KB of stack, any other up to
+   18 KB, if its comment does not say more. */
 
 /* How many words a table of this capacity (1 to 4,096 nodes) needs. */
 #define LAMPGROTTO_WORDS(capacity) (32 * (size_t)(capacity) + 8192)
@@ -123,13 +124,80 @@ uint32_t lampgrotto_write(const uint32_t *t, size_t t_len, size_t place, uint8_t
    Refuses: BAD_PLACE; NEWER; BAD_SHEET; OTHER_FEATURES; NO_ROOM. It takes 67 KB of stack. */
 uint32_t lampgrotto_read(uint32_t *t, size_t t_len, size_t place, const uint8_t *sheet, size_t sheet_len);
 
-/* ---- settings in dictionary order, with no table */
+/* ---- settings in dictionary order, with no table (liblampgrotto.a) */
 
 /* out[0]: 1 if the setting is the last of its features, else 0; out[1] to out[16]: the next one, a word for each feature, and 0 past
    them; after the last all 0.
    Refuses: BAD_ARGUMENT, no feature list or no setting of it. */
 uint32_t lampgrotto_step(const uint8_t *features, size_t features_len, const uint8_t *setting, size_t setting_len, uint32_t *out,
                          size_t out_len);
+
+/* ---- liblampgrotto_costs.a: a cost table in lent words, and the calls on both tables
+
+   A table has 16 places, 0 to 15, and each holds a cost. A cost gives each setting an integer from -1,000,000,000 to 1,000,000,000.
+   It has as many words as a rule table of its capacity, LAMPGROTTO_WORDS(capacity); no sound rule table is a sound cost table, nor
+   the other way round. The calls take t, scratch, place and out as those of a rule table do, and end as they do. A cost is one word
+   of out, to be read as a signed number: (int32_t)out[0]. */
+
+/* Makes a fresh table over 1 to 16 features of 2 to 8 values: all places hold the constant 0. The words may hold anything before.
+   Refuses: BAD_OPENING. */
+uint32_t lampgrotto_cost_open(uint32_t *t, size_t t_len, const uint8_t *features, size_t features_len, size_t capacity);
+
+/* The place gives every setting the amount.
+   Refuses: BAD_PLACE; BAD_ARGUMENT, an amount beyond 1,000,000,000 or below -1,000,000,000. */
+uint32_t lampgrotto_cost_constant(uint32_t *t, size_t t_len, size_t place, int64_t amount);
+
+/* The place gets the cost of another.
+   Refuses: BAD_PLACE. */
+uint32_t lampgrotto_cost_copy(uint32_t *t, size_t t_len, size_t place, size_t from);
+
+/* The place gives each setting the price of its feature's value, prices[v] for value v.
+   Refuses: BAD_PLACE; BAD_ARGUMENT, no such feature, more or fewer prices than it has values, or a price beyond 1,000,000,000 or
+   below -1,000,000,000; NO_ROOM. */
+uint32_t lampgrotto_price(uint32_t *t, size_t t_len, size_t place, size_t feature, const int64_t *prices, size_t prices_len);
+
+/* At each setting the place gives the sum of the costs of places a and b; the first less the second; the smaller; the larger.
+   Refuses: BAD_PLACE; RANGE; NO_ROOM. */
+uint32_t lampgrotto_add(uint32_t *t, size_t t_len, uint32_t *scratch, size_t scratch_len, size_t place, size_t a, size_t b);
+uint32_t lampgrotto_subtract(uint32_t *t, size_t t_len, uint32_t *scratch, size_t scratch_len, size_t place, size_t a, size_t b);
+uint32_t lampgrotto_smaller(uint32_t *t, size_t t_len, uint32_t *scratch, size_t scratch_len, size_t place, size_t a, size_t b);
+uint32_t lampgrotto_larger(uint32_t *t, size_t t_len, uint32_t *scratch, size_t scratch_len, size_t place, size_t a, size_t b);
+
+/* The place gets the cost of place a times the factor.
+   Refuses: BAD_PLACE; BAD_ARGUMENT, a factor beyond 1,000,000,000 or below -1,000,000,000; RANGE; NO_ROOM. */
+uint32_t lampgrotto_scale(uint32_t *t, size_t t_len, uint32_t *scratch, size_t scratch_len, size_t place, size_t a, int64_t factor);
+
+/* out[0]: the cost that the place gives the setting.
+   Refuses: BAD_PLACE; BAD_ARGUMENT, no setting of the table's features. */
+uint32_t lampgrotto_cost_look_up(const uint32_t *t, size_t t_len, size_t place, const uint8_t *setting, size_t setting_len,
+                                 uint32_t *out, size_t out_len);
+
+/* out[0]: 1 where the costs of two places agree at every setting, else 0.
+   Refuses: BAD_PLACE. */
+uint32_t lampgrotto_cost_same(const uint32_t *t, size_t t_len, size_t a, size_t b, uint32_t *out, size_t out_len);
+
+/* out[0]: how many distinct rests the costs of all places have, which is the nodes in use. */
+uint32_t lampgrotto_cost_tally(const uint32_t *t, size_t t_len, uint32_t *out, size_t out_len);
+
+/* The calls on both tables are lent a rule table (rules; t of less) and a cost table (costs; t of choose) over one feature list. They
+   write to t alone, and refuse DAMAGED words of either. */
+
+/* The place of the cost table t gives, at each setting, the cost of place a where the rule of the rule table's place is not 0, else
+   that of place b.
+   Refuses: BAD_PLACE; OTHER_FEATURES; NO_ROOM. */
+uint32_t lampgrotto_choose(uint32_t *t, size_t t_len, const uint32_t *rules, size_t rules_len, uint32_t *scratch,
+                           size_t scratch_len, size_t place, size_t rule, size_t a, size_t b);
+
+/* The place of the rule table t gives 1 where the cost of the cost table's place a is below that of place b, else 0.
+   Refuses: BAD_PLACE; OTHER_FEATURES; NO_ROOM. */
+uint32_t lampgrotto_less(uint32_t *t, size_t t_len, const uint32_t *costs, size_t costs_len, uint32_t *scratch, size_t scratch_len,
+                         size_t place, size_t a, size_t b);
+
+/* out[0]: the lowest cost that the place gives a setting where the rule is not 0; out[1] to out[16]: the first setting that has it,
+   a word for each feature, and 0 past them.
+   Refuses: BAD_PLACE; OTHER_FEATURES; NONE, the rule is 0 at every setting. It takes 42 KB of stack. */
+uint32_t lampgrotto_lowest(const uint32_t *costs, size_t costs_len, const uint32_t *rules, size_t rules_len, uint32_t *scratch,
+                           size_t scratch_len, size_t place, size_t rule, uint32_t *out, size_t out_len);
 
 #ifdef __cplusplus
 }

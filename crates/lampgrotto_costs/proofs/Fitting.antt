@@ -1,7 +1,8 @@
 -- What a call that reads a cost answers lies within the range of costs. Assumes nothing.
 use mathlib.Core.Path.{_≡_, sym, subst}
+use mathlib.Core.Logic.{_⊎_, inl, inr}
 use mathlib.Core.List.{List}
-use Prim.Native.Nat.{ℕ, _≤_, _<_}
+use Prim.Native.Nat.{ℕ, _≤_}
 use native.Mathlib.Omega.{arith}
 use lib.IntN.{ℤ}
 use mir.Syntax.{w64}
@@ -16,10 +17,13 @@ use Rattle.cost_laws.proofs.Integers.{fit?, fit-zero}
 use Rattle.cost_amounts.proofs.Signed.{amount-back}
 use Rattle.words.specs.Words.{sizes}
 use Rattle.cost_words.specs.Words.{costOf}
+use Rattle.rule_sound.specs.Sound as R
 use Rattle.cost_sound.specs.Sound.{Sound}
 use Rattle.costs.specs.Reading.{Looks, look-cases}
 use Rattle.costs.specs.declared.reading.Looked.{Looked}
 use Rattle.costs.proofs.Theorems.{ended}
+use Rattle.both_tables.specs.Seeking.{Seeks, lowest-cases}
+use Rattle.both_tables.specs.declared.seeking.Found.{Found}
 
 -- what a place of a sound table gives a setting; a range can be decided, so that it may stand under two denials
 pub cost-fits : (p : ℕ) (s w : List ℕ) (z : ℤ) → ((Sound w → ⊥) → ⊥) → (16 ≤ p → ⊥) → ((Valid (sizes w) s → ⊥) → ⊥) → z ≡ costOf w p s .off → Fit costMost z
@@ -42,6 +46,20 @@ looked-fits p s w r a =
 
         place : 16 ≤ p → ⊥
         place h = not-refused (l .1 sound .0 h)
+
+-- lowest answers a cost, refused too
+pub found-fits : (a q : ℕ) (v w : List ℕ) (r : Found) → Seeks a q v w r → Fit costMost (r .cost)
+found-fits a q v w r f =
+    ended (r .outcome) (λ e. done e (subst (Ends (lowest-cases a q v w)) e (f .ends)))
+    (λ x e. subst (λ (y : Found). Fit costMost (y .cost)) (sym (f .refused x e)) (fit-zero costMost))
+  where
+    done : r .outcome ≡ Taken → Ends (lowest-cases a q v w) Taken → Fit costMost (r .cost)
+    done e l =
+        let g = f .gives e in
+        cost-fits a (g .0) w (r .cost) (λ n. damaged (inr n)) (λ h. not-refused (l .1 damaged .0 (inl h))) (λ n. n (g .2 .valid)) (sym (g .2 .gives))
+      where
+        damaged : (R.Sound v → ⊥) ⊎ (Sound w → ⊥) → ⊥
+        damaged d = not-refused (l .0 d)
 
 -- and keeps it in 64 bits
 pub fits-back : {z : ℤ} → Fit costMost z → Fit costMost (toZ w64 (ofZ w64 z))

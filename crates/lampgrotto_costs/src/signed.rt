@@ -1,5 +1,6 @@
 // Costs laid into lent words, as C reads signed numbers.
 use c_results::put;
+use c_results::put_before;
 ghost use mathlib.Core.Path.{_≡_};
 ghost use mathlib.Core.List.{[], _∷_};
 ghost use Rattle.cost_laws.specs.Integers.{Fit};
@@ -24,4 +25,12 @@ pub fn put_cost(out: &mut [u32], z: i64)
     ensures { λ _. ⌜ now (out .exit) ≡ placed (signed z ∷ []) (now (out .entry)) ⌝ }
 {
     put(out, signed_word(z));
+}
+
+// A cost as one word, then the values of a setting.
+pub fn put_found(out: &mut [u32], z: i64, values: [u8; 16])
+    requires { ⌜ Fit costMost z ⌝ }
+    ensures { λ _. ⌜ now (out .exit) ≡ placed (signed z ∷ values) (now (out .entry)) ⌝ }
+{
+    put_before(out, signed_word(z), values);
 }

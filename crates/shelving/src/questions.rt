@@ -1,86 +1,66 @@
-// The commands that only read the table: look, same, count, next, tally.
-use crate::answers::Answer;
-use crate::numbers::as_size;
-use crate::numbers::as_word;
-use crate::words::bytes_of;
+// The commands that answer a number: literal, same, count, tally.
+use crate::names::COUNT;
+use crate::names::LITERAL;
+use crate::names::SAME;
+use lines::as_word;
+use lines::say;
+use lines::say_flag;
+use lines::say_number;
+use lines::say_word;
+use lines::size_at;
 
-// `look P V0 V1 ..`
-fn look(n: &[u64], table: &[u32]) -> Answer {
-    if n.len() < 1 {
-        return Answer::unknown();
-    }
-    if 65 < n.len() {
-        return Answer::unknown();
-    }
-    let mut values = [0u8; 64];
-    let count = bytes_of(&n[1..], &mut values);
-    let looked = rules::look_up(table, as_size(n[0]), &values[..count]);
-    let outcome = looked.outcome;
-    Answer::of(outcome).word(looked.number)
+// `literal P FEATURE BITS`
+fn literal(place: usize, feature: usize, bits: usize, table: &mut [u32]) {
+    let made = operations::literal(table, place, feature, as_word(bits));
+    let outcome = made.outcome;
+    say(outcome);
+    say_word(made.size);
 }
 
 // `same P Q`
-fn same(n: &[u64], table: &[u32]) -> Answer {
-    if n.len() != 2 {
-        return Answer::unknown();
-    }
-    let compared = rules::same(table, as_size(n[0]), as_size(n[1]));
+fn same(a: usize, b: usize, table: &[u32]) {
+    let compared = rules::same(table, a, b);
     let outcome = compared.outcome;
-    Answer::of(outcome).flag(compared.same)
+    say(outcome);
+    say_flag(compared.same);
 }
 
 // `count P NUMBER`
-fn count(n: &[u64], table: &[u32]) -> Answer {
-    if n.len() != 2 {
-        return Answer::unknown();
-    }
-    let counted = operations::count(table, as_size(n[0]), as_word(n[1]));
+fn count(place: usize, number: usize, table: &[u32]) {
+    let counted = operations::count(table, place, as_word(number));
     let outcome = counted.outcome;
-    Answer::of(outcome).number(counted.count)
-}
-
-// `next P NUMBER V0 V1 ..`: the setting is printed with as many values as there are features.
-fn next(n: &[u64], table: &[u32], features: usize) -> Answer {
-    if n.len() < 2 {
-        return Answer::unknown();
-    }
-    if 66 < n.len() {
-        return Answer::unknown();
-    }
-    let mut values = [0u8; 64];
-    let count = bytes_of(&n[2..], &mut values);
-    let met = operations::next(table, as_size(n[0]), as_word(n[1]), &values[..count]);
-    let outcome = met.outcome;
-    let setting = met.setting;
-    Answer::of(outcome).values(setting, features)
+    say(outcome);
+    say_number(counted.count);
 }
 
 // `tally`
-fn tally(n: &[u64], table: &[u32]) -> Answer {
-    if n.len() != 0 {
-        return Answer::unknown();
-    }
+fn tally(table: &[u32]) {
     let tallied = rules::tally(table);
     let outcome = tallied.outcome;
-    Answer::of(outcome).word(tallied.count)
+    say(outcome);
+    say_word(tallied.count);
 }
 
-// The command of this name that only reads the table, if there is one.
-pub fn ask(name: &[u8], n: &[u64], table: &[u32], features: usize) -> Answer {
-    if check::same(name, b"look") {
-        return look(n, table);
+// `same`, `count` or `tally`.
+fn asked(code: usize, place: usize, a: usize, table: &[u32]) {
+    if code == SAME {
+        same(place, a, table);
+        return;
     }
-    if check::same(name, b"same") {
-        return same(n, table);
+    if code == COUNT {
+        count(place, a, table);
+        return;
     }
-    if check::same(name, b"count") {
-        return count(n, table);
+    tally(table);
+}
+
+// The one of this code.
+pub fn ask(code: usize, n: &[u64], table: &mut [u32]) {
+    let place = size_at(n, 0);
+    let a = size_at(n, 1);
+    if code == LITERAL {
+        literal(place, a, size_at(n, 2), table);
+        return;
     }
-    if check::same(name, b"next") {
-        return next(n, table, features);
-    }
-    if check::same(name, b"tally") {
-        return tally(n, table);
-    }
-    Answer::unknown()
+    asked(code, place, a, table);
 }

@@ -1,20 +1,29 @@
 //! Random arguments of calls: most of them good, some outside their range in every way.
 
+use crate::kind::{Kind, MOST_COST};
 use crate::rng::Rng;
 use crate::shape::Shape;
 
 const PAST_32_BITS: i64 = 1 << 32;
-const BAD_PLACES: [i64; 9] = [32, 33, 63, -1, 4294967295, PAST_32_BITS, PAST_32_BITS + 1, i64::MAX, i64::MIN];
 const BAD_NUMBERS: [i64; 8] = [65536, 65537, 131072, -1, 4294967295, PAST_32_BITS, PAST_32_BITS + 1, i64::MIN];
 const BAD_OPERATORS: [i64; 7] = [0, 6, -1, 255, 257, PAST_32_BITS + 1, i64::MIN];
+const BAD_AMOUNTS: [i64; 8] =
+    [MOST_COST + 1, 2 * MOST_COST, 1 << 31, PAST_32_BITS, PAST_32_BITS + 1, PAST_32_BITS - 3, i64::MAX - 1, i64::MAX];
+
+/// A table's feature list, and the places that the script works on.
+pub struct Lot {
+    pub shape: Shape,
+    pub places: Vec<i64>,
+}
 
 pub struct Args {
     pub rng: Rng,
-    pub shape: Shape,
-    /// The places that the script works on.
-    pub places: Vec<i64>,
+    pub rules: Lot,
+    pub costs: Lot,
     /// One argument in so many is bad.
     pub bad: usize,
+    /// One amount in so many is large.
+    pub large: usize,
 }
 
 /// A line: a command and its numbers.
@@ -24,16 +33,36 @@ pub fn line(name: &str, numbers: &[i64]) -> String {
 }
 
 impl Args {
+    pub fn lot(&self, kind: Kind) -> &Lot {
+        match kind {
+            Kind::Rules => &self.rules,
+            Kind::Costs => &self.costs,
+        }
+    }
+
+    pub fn lot_mut(&mut self, kind: Kind) -> &mut Lot {
+        match kind {
+            Kind::Rules => &mut self.rules,
+            Kind::Costs => &mut self.costs,
+        }
+    }
+
+    fn sizes(&self, kind: Kind) -> &[usize] {
+        &self.lot(kind).shape.sizes
+    }
+
     fn is_bad(&mut self) -> bool {
         self.rng.once_in(self.bad)
     }
 
-    pub fn place(&mut self) -> i64 {
+    pub fn place(&mut self, kind: Kind) -> i64 {
+        let past = kind.places() as i64;
         if self.is_bad() {
-            return self.rng.pick(&BAD_PLACES);
+            let far = [4294967295, PAST_32_BITS, PAST_32_BITS + 1, i64::MAX, i64::MIN];
+            return self.rng.pick(&[&[past, past + 1, 2 * past - 1, 63, -1][..], &far].concat());
         }
-        let i = self.rng.below(self.places.len());
-        self.places[i]
+        let i = self.rng.below(self.lot(kind).places.len());
+        self.lot(kind).places[i]
     }
 
     /// A phrase number: most are small, so that places agree and selectors are in reach.
@@ -48,8 +77,56 @@ impl Args {
         }
     }
 
-    pub fn feature(&mut self) -> i64 {
-        let n = self.shape.features();
+    /// An amount: small, near the ends of the range or half as far, any, or outside.
+    pub fn amount(&mut self) -> i64 {
+        let sign = self.rng.pick(&[1, -1]);
+        if self.is_bad() {
+            return sign * self.rng.pick(&BAD_AMOUNTS);
+        }
+        if !self.rng.once_in(self.large) {
+            let most = self.rng.pick(&[3, 9, 60]);
+            return sign * self.rng.below(most) as i64;
+        }
+        let off = self.rng.below(4) as i64;
+        match self.rng.below(6) {
+            0..=2 => sign * (MOST_COST - off),
+            3 => sign * (MOST_COST / 2 + off),
+            4 => sign * (MOST_COST / 3 + off),
+            _ => sign * self.rng.below(MOST_COST as usize) as i64,
+        }
+    }
+
+    /// A price for each value of a feature, often 0 for the first; of another length where it is bad.
+    pub fn prices(&mut self, k: i64) -> Vec<i64> {
+        let size = self.size(Kind::Costs, k);
+        let length = if self.is_bad() { self.rng.pick(&[0, size - 1, size + 1, 8, 9, 64, 65]) } else { size };
+        let mut prices: Vec<i64> = (0..length).map(|_| self.amount()).collect();
+        if length > 0 && self.rng.once_in(2) {
+            prices[0] = 0;
+        }
+        if self.rng.once_in(12) {
+            prices.fill(self.rng.below(3) as i64);
+        }
+        prices
+    }
+
+    /// What a cost is scaled by, where its amounts reach so far from 0: small, large, just within the range or just not.
+    pub fn factor(&mut self, reach: i64) -> i64 {
+        let sign = self.rng.pick(&[1, -1]);
+        let edge = MOST_COST / reach.max(1);
+        match self.rng.below(8) {
+            0 => 0,
+            1..=2 => sign,
+            3 => sign * self.rng.within(2, 5) as i64,
+            4 => sign * edge,
+            5 => sign * (edge + 1),
+            6 => sign * (MOST_COST - self.rng.below(2) as i64),
+            _ => self.amount(),
+        }
+    }
+
+    pub fn feature(&mut self, kind: Kind) -> i64 {
+        let n = self.sizes(kind).len();
         if self.is_bad() {
             return self.rng.pick(&[n as i64, n as i64 + 1, 16, 255, 256, -1, PAST_32_BITS]);
         }
@@ -57,12 +134,12 @@ impl Args {
     }
 
     /// The size of a feature, 8 for one that there is not.
-    fn size(&self, k: i64) -> usize {
-        usize::try_from(k).ok().and_then(|k| self.shape.sizes.get(k).copied()).unwrap_or(8)
+    fn size(&self, kind: Kind, k: i64) -> usize {
+        usize::try_from(k).ok().and_then(|k| self.sizes(kind).get(k).copied()).unwrap_or(8)
     }
 
     pub fn value(&mut self, k: i64) -> i64 {
-        let size = self.size(k);
+        let size = self.size(Kind::Rules, k);
         if self.is_bad() {
             return self.rng.pick(&[size as i64, 8, 255, 256, -1, PAST_32_BITS, i64::MAX]);
         }
@@ -70,7 +147,7 @@ impl Args {
     }
 
     pub fn bits(&mut self, k: i64) -> i64 {
-        let past = 1 << self.size(k);
+        let past = 1 << self.size(Kind::Rules, k);
         if self.is_bad() {
             return self.rng.pick(&[past, past + 1, past * 2 - 1, 1 << 31, PAST_32_BITS, PAST_32_BITS + 1, -1]);
         }
@@ -108,8 +185,8 @@ impl Args {
         values
     }
 
-    pub fn setting(&mut self) -> Vec<i64> {
-        let sizes = self.shape.sizes.clone();
+    pub fn setting(&mut self, kind: Kind) -> Vec<i64> {
+        let sizes = self.sizes(kind).to_vec();
         self.setting_of(&sizes)
     }
 
@@ -133,8 +210,8 @@ impl Args {
     }
 
     /// A line that opens a table anew in vain: a list or capacity outside the numbers.
-    pub fn bad_opening(&mut self) -> String {
-        let mut sizes: Vec<i64> = self.shape.sizes.iter().map(|&s| s as i64).collect();
+    pub fn bad_opening(&mut self, kind: Kind) -> String {
+        let mut sizes: Vec<i64> = self.sizes(kind).iter().map(|&s| s as i64).collect();
         let mut capacity = self.rng.within(1, 256) as i64;
         let k = self.rng.below(sizes.len());
         match self.rng.below(7) {
@@ -147,6 +224,6 @@ impl Args {
             _ => capacity = self.rng.pick(&[-1, 65537, PAST_32_BITS, PAST_32_BITS + 1, i64::MAX, i64::MIN]),
         }
         sizes.insert(0, capacity);
-        line("open", &sizes)
+        line(&kind.command("open"), &sizes)
     }
 }

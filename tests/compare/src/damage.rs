@@ -1,15 +1,17 @@
 //! Damage: every change of one word of a small sound table is either refused as DAMAGED by every call, or gives another
-//! sound table with the rules that its words say.
+//! sound table with the rules or costs that its words say.
 
-use crate::desk::BUFFER;
-use crate::model::Table;
+use crate::kind::{Kind, Number, MOST_COST};
+use crate::model::{Costs, Rules, Table};
 use crate::parts::Parts;
-use crate::picture;
+use crate::picture::{self, HEADS, RECORDS, ROOTS};
+use crate::scope::Scope;
 use crate::shape::Shape;
+use crate::side::BUFFER;
 use crate::sound;
 
 /// The calls, in turn, on words that are not sound: each must answer DAMAGED, bad arguments or not.
-const CALLS: [&str; 20] = [
+const RULE_CALLS: [&str; 20] = [
     "look 0 0 0",
     "same 0 1",
     "constant 0 1",
@@ -31,24 +33,54 @@ const CALLS: [&str; 20] = [
     "read 0 0001010002020300000001000007",
     "read 32 000102",
 ];
-/// How many of them need no operations.
-const WITHOUT_OPERATIONS: usize = 8;
+const COST_CALLS: [&str; 18] = [
+    "clook 0 0 0",
+    "csame 0 1",
+    "cconstant 0 1",
+    "ccopy 1 0",
+    "clook 16",
+    "csame 16 0",
+    "cconstant 16 1000000001",
+    "ccopy 0 16",
+    "price 0 1 5 0 5",
+    "add 0 0 1",
+    "subtract 0 0 1",
+    "smaller 0 0 1",
+    "larger 0 0 1",
+    "scale 0 0 2",
+    "price 16 9",
+    "add 16 0 1",
+    "scale 16 0 1000000001",
+    "scale 0 0 1000000000",
+];
+const BOTH_CALLS: [&str; 6] =
+    ["choose 0 0 0 1", "less 0 0 1", "lowest 0 0", "choose 16 32 0 0", "less 32 16 0", "lowest 16 32"];
 
-/// The words of a number of changes: up and down by one, the bit between phrases and nodes, all bits off and on.
-fn changes(old: u32) -> Vec<u32> {
+/// The words of a number of changes of word i: up and down by one, the bit between phrases and nodes or between halves,
+/// all bits off and on; in a cost table the integer 0 too, and the ends of the range for a base.
+fn changes(kind: Kind, i: usize, old: u32) -> Vec<u32> {
     let mut new = vec![old.wrapping_add(1), old.wrapping_sub(1), old ^ 0x10000, 0, u32::MAX];
+    let zero = 1 << 31;
+    if kind == Kind::Costs && !(HEADS..RECORDS).contains(&i) {
+        new.push(zero);
+    }
+    if kind == Kind::Costs && (ROOTS + 16..ROOTS + 32).contains(&i) {
+        let most = MOST_COST as u32;
+        new.extend([zero - most - 1, zero - most, zero + most, zero + most + 1]);
+    }
     new.sort_unstable();
     new.dedup();
     new.retain(|&x| x != old);
     new
 }
 
-/// The small tables: one node in use at capacity 1 and 2, and document 01's a, b and c.
-fn bases() -> Vec<Table> {
-    let fresh = |capacity| Table::fresh(Shape { sizes: vec![2, 3] }, capacity);
-    let mut one = fresh(1);
-    let mut two = fresh(2);
-    let mut three = fresh(3);
+fn fresh<N: Number>(capacity: usize) -> Table<N> {
+    Table::fresh(Shape { sizes: vec![2, 3] }, capacity)
+}
+
+/// The small tables: document 01's a, b and c, and one node in use at capacity 1 and 2.
+fn small_rules() -> [Rules; 3] {
+    let (mut three, mut one, mut two) = (fresh(3), fresh(1), fresh(2));
     let made = one.literal(0, 1, 5).is_ok()
         && two.literal(7, 0, 2).is_ok()
         && two.constant(1, 65535).is_ok()
@@ -56,61 +88,103 @@ fn bases() -> Vec<Table> {
         && three.literal(1, 0, 2).is_ok()
         && three.apply(2, 1, 0, 1).is_ok();
     assert!(made, "the small tables have room");
-    vec![one, two, three]
+    [three, one, two]
 }
 
-struct Damage {
+/// The same of costs: P, Q and their sum, and one node with ends of the range.
+fn small_costs() -> [Costs; 3] {
+    let (mut three, mut one, mut two) = (fresh(3), fresh(1), fresh(2));
+    let made = one.price(0, 1, &[0, 5, -3]).is_ok()
+        && two.price(7, 0, &[-MOST_COST, MOST_COST]).is_ok()
+        && two.constant(1, MOST_COST).is_ok()
+        && three.price(0, 0, &[10, 4]).is_ok()
+        && three.price(1, 1, &[0, 5, -3]).is_ok()
+        && three.add(2, 0, 1).is_ok();
+    assert!(made, "the small tables have room");
+    [three, one, two]
+}
+
+/// Calls in turn that find damage.
+fn calls(kind: Kind, scope: Scope) -> Vec<&'static str> {
+    let own = if kind == Kind::Rules { &RULE_CALLS[..] } else { &COST_CALLS };
+    let both = BOTH_CALLS.iter().filter(|_| scope == Scope::All);
+    own.iter().chain(both).copied().collect()
+}
+
+struct Damage<N> {
+    table: Table<N>,
     words: Vec<u32>,
-    operations: bool,
+    calls: Vec<&'static str>,
     parts: Parts,
 }
 
-impl Damage {
-    fn new(table: &Table, operations: bool) -> Damage {
-        let mut words = picture::words(table);
+impl<N: Number> Damage<N> {
+    /// Beside the table there is a sound one of the other kind.
+    fn new(table: Table<N>, scope: Scope) -> Damage<N> {
+        let mut words = picture::words(&table);
         words.resize(BUFFER, 0);
-        Damage { words, operations, parts: Parts::on(table) }
+        let mut parts = Parts::on(&table);
+        if scope != Scope::Rules {
+            parts.before(if N::KIND == Kind::Rules { "copen 1 2 3" } else { "open 1 2 3" }.to_string());
+        }
+        Damage { table, words, calls: calls(N::KIND, scope), parts }
     }
 
-    fn say(&mut self, line: String) {
-        self.parts.say(line);
+    /// A command that both kinds have, by its name for rules.
+    fn say(&mut self, line: &str) {
+        self.parts.say(N::KIND.command(line));
     }
 
     /// One changed word: calls that find it, or the answers of the other sound table.
     fn change(&mut self, i: usize, new: u32, turn: usize) {
         let old = self.words[i];
-        self.say(format!("poke {i} {new}"));
+        self.say(&format!("poke {i} {new}"));
         self.words[i] = new;
-        let calls = if self.operations { CALLS.len() } else { WITHOUT_OPERATIONS };
-        let sound = sound::read(&self.words).is_some();
+        let sound = sound::read::<N>(&self.words).is_some();
         self.words[i] = old;
-        self.say("tally".to_string());
+        self.say("tally");
         if sound {
-            ["look 0 0 0", "look 0 1 2", "look 7 1 1", "same 0 7"].iter().for_each(|l| self.say(l.to_string()));
+            ["look 0 0 0", "look 0 1 2", "look 7 1 1", "same 0 7"].iter().for_each(|l| self.say(l));
         } else {
-            self.say(CALLS[turn % calls].to_string());
+            self.parts.say(self.calls[turn % self.calls.len()].to_string());
         }
     }
 
-    /// Every change of each word up to the bound, and of some past it.
-    fn all(mut self, end: usize) -> Vec<Vec<String>> {
+    /// Every change of each of the words.
+    fn all(mut self, indices: impl Iterator<Item = usize>) -> Vec<Vec<String>> {
         let mut turn = 0;
-        for i in (0..end + 4).chain([BUFFER - 1]) {
-            for new in changes(self.words[i]) {
+        for i in indices {
+            for new in changes(N::KIND, i, self.words[i]) {
                 self.change(i, new, turn);
                 turn += 1;
             }
-            self.say(format!("poke {i} {}", self.words[i]));
+            self.say(&format!("poke {i} {}", self.words[i]));
             self.parts.rest();
         }
         self.parts.done()
     }
+
+    /// Of the first table each word up to the bound, of others those that are not far from words in use; some past it.
+    fn scripts(self, whole: bool) -> Vec<Vec<String>> {
+        let end = picture::bound(self.table.capacity);
+        let near = |i: &usize| whole || *i < 2 * ROOTS + 8 || (HEADS - 2..HEADS + 2).contains(i) || *i >= RECORDS - 2;
+        let used: Vec<usize> = (HEADS + 2..RECORDS - 2).filter(|&i| !whole && self.words[i] != 0).collect();
+        self.all((0..end + 4).filter(near).chain(used).chain([BUFFER - 1]))
+    }
+}
+
+fn scripts_of<N: Number>(tables: [Table<N>; 3], scope: Scope) -> Vec<Vec<String>> {
+    let each = tables.into_iter().enumerate();
+    each.flat_map(|(i, t)| Damage::new(t, scope).scripts(i == 0)).collect()
 }
 
 /// The scripts of every change of one word of each small table.
-pub fn scripts(operations: bool) -> Vec<Vec<String>> {
-    let all = |t: Table| Damage::new(&t, operations).all(picture::bound(t.capacity));
-    bases().into_iter().flat_map(all).collect()
+pub fn scripts(scope: Scope) -> Vec<Vec<String>> {
+    let mut scripts = scripts_of(small_rules(), scope);
+    if scope != Scope::Rules {
+        scripts.extend(scripts_of(small_costs(), scope));
+    }
+    scripts
 }
 
 #[cfg(test)]
@@ -119,13 +193,18 @@ mod tests {
 
     #[test]
     fn changes_of_a_word() {
-        assert_eq!(changes(0), [1, 65536, u32::MAX]);
-        assert_eq!(changes(1), [0, 2, 65537, u32::MAX]);
+        assert_eq!(changes(Kind::Rules, 0, 0), [1, 65536, u32::MAX]);
+        assert_eq!(changes(Kind::Rules, 50, 1), [0, 2, 65537, u32::MAX]);
+        assert_eq!(changes(Kind::Costs, 5000, 0), [1, 65536, u32::MAX]);
+        assert_eq!(changes(Kind::Costs, 50, 1 << 31).len(), 9);
     }
 
     #[test]
     fn the_small_tables_are_sound() {
-        for t in bases() {
+        for t in small_rules() {
+            assert_eq!(sound::read(&picture::words(&t)), Some(t));
+        }
+        for t in small_costs() {
             assert_eq!(sound::read(&picture::words(&t)), Some(t));
         }
     }

@@ -1,36 +1,43 @@
 //! What `shelf` must answer: each line of a script, read as shared/SHELF.md says, against the model.
 
+use crate::both;
 use crate::hex;
-use crate::model::{Table, Told, BAD_ARGUMENT, BAD_OPENING, DAMAGED};
-use crate::picture::{self, bound};
+use crate::kind::{Kind, Number};
+use crate::model::{Told, BAD_ARGUMENT};
 use crate::shape::Shape;
-use crate::sound;
+use crate::side::{is_length, is_word, listed, plain, valued, Side, LIST};
 
-/// The words of the table buffer.
-pub const BUFFER: usize = 16384;
-/// The longest list after a command.
-const LIST: usize = 64;
 /// The longest output of `write`, and what its bytes are before.
 const OUTPUT: i64 = 8192;
 const BEFORE: u8 = 170;
 
-/// A foretold answer: a line, or the checksum of these words.
+/// A foretold answer: a line, or the checksum of these words of a buffer.
 #[derive(Debug)]
 pub enum Expected {
     Line(String),
-    Sum(Vec<u32>),
+    Sum(Kind, Vec<u32>),
 }
 
 pub struct Desk {
-    /// The table, where the buffer's words are sound.
-    table: Option<Table>,
-    /// The buffer's words; those of the table are older than it where `stale`.
-    words: Vec<u32>,
-    stale: bool,
-    /// How many words are lent to the calls.
-    lent: usize,
-    /// How many values of a setting are printed.
-    features: usize,
+    pub rules: Side<u16>,
+    pub costs: Side<i64>,
+}
+
+/// The side of the desk that a kind has.
+pub trait OnDesk: Number {
+    fn side(desk: &Desk) -> &Side<Self>;
+}
+
+impl OnDesk for u16 {
+    fn side(desk: &Desk) -> &Side<u16> {
+        &desk.rules
+    }
+}
+
+impl OnDesk for i64 {
+    fn side(desk: &Desk) -> &Side<i64> {
+        &desk.costs
+    }
 }
 
 /// The number that a word is: digits, with or without a minus sign, that 64 bits hold.
@@ -44,22 +51,6 @@ fn number(word: &str) -> Option<i64> {
 
 fn numbers<'a>(words: impl Iterator<Item = &'a str>) -> Option<Vec<i64>> {
     words.map(number).collect()
-}
-
-fn plain(told: Told<()>) -> String {
-    told.err().unwrap_or(0).to_string()
-}
-
-fn valued(told: Told<u64>) -> String {
-    match told {
-        Ok(x) => format!("0 {x}"),
-        Err(refusal) => format!("{refusal} 0"),
-    }
-}
-
-fn listed(first: &str, values: impl IntoIterator<Item = usize>) -> String {
-    let rest = values.into_iter().map(|v| format!(" {v}"));
-    std::iter::once(first.to_string()).chain(rest).collect()
 }
 
 /// `step S0,S1,.. V0 V1 ..` after its first word.
@@ -79,94 +70,89 @@ fn step(words: &[&str]) -> Option<String> {
 
 impl Desk {
     pub fn new() -> Desk {
-        Desk { table: None, words: vec![0; BUFFER], stale: false, lent: BUFFER, features: 0 }
+        Desk { rules: Side::new(), costs: Side::new() }
     }
 
-    /// The table of the buffer, sound or not lent in full.
-    pub fn table(&self) -> Option<&Table> {
-        self.table.as_ref()
-    }
-
-    /// The buffer's words.
-    pub fn words(&mut self) -> &[u32] {
-        if let (true, Some(table)) = (self.stale, &self.table) {
-            let words = picture::words(table);
-            self.words[..words.len()].copy_from_slice(&words);
-        }
-        self.stale = false;
-        &self.words
-    }
-
-    /// The table that a call finds in the lent words.
-    fn lent(&self) -> Told<&Table> {
-        match &self.table {
-            Some(t) if bound(t.capacity) <= self.lent => Ok(t),
-            _ => Err(DAMAGED),
+    /// The words of a buffer.
+    pub fn words(&mut self, kind: Kind) -> &[u32] {
+        match kind {
+            Kind::Rules => self.rules.words(),
+            Kind::Costs => self.costs.words(),
         }
     }
 
-    fn change<T>(&mut self, call: impl FnOnce(&mut Table) -> Told<T>) -> Told<T> {
-        self.lent()?;
-        let told = self.table.as_mut().map_or(Err(DAMAGED), call);
-        self.stale |= told.is_ok();
-        told
-    }
-
-    fn open(&mut self, capacity: i64, sizes: &[i64]) -> Told<()> {
-        let shape = Shape::of(sizes).ok_or(BAD_OPENING)?;
-        if !(1..=4096).contains(&capacity) || bound(capacity as usize) > self.lent {
-            return Err(BAD_OPENING);
+    /// Whether a buffer holds a sound table.
+    pub fn is_sound(&self, kind: Kind) -> bool {
+        match kind {
+            Kind::Rules => self.rules.table().is_some(),
+            Kind::Costs => self.costs.table().is_some(),
         }
-        self.words();
-        self.features = shape.features();
-        self.table = Some(Table::fresh(shape, capacity as usize));
-        self.stale = true;
-        Ok(())
     }
 
-    fn poke(&mut self, i: usize, word: u32) {
-        self.words();
-        self.words[i] = word;
-        self.table = sound::read(&self.words);
-    }
-
-    /// A setting is printed with as many values as the list of the last opening has.
     fn next(&self, p: i64, x: i64, values: &[i64]) -> String {
-        let told = self.lent().and_then(|t| t.next(p, x, values));
-        let (first, mut setting) = match told {
-            Ok(setting) => (0, setting),
-            Err(refusal) => (refusal, Vec::new()),
-        };
-        setting.resize(self.features, 0);
-        listed(&first.to_string(), setting)
+        match self.rules.lent().and_then(|t| t.next(p, x, values)) {
+            Ok(setting) => self.rules.printed("0", setting),
+            Err(refusal) => self.rules.printed(&refusal.to_string(), Vec::new()),
+        }
     }
 
-    /// The calls that write a place.
-    fn write(&mut self, name: &str, n: &[i64]) -> Option<String> {
+    /// The calls of a rule table alone.
+    fn rule_call(&mut self, name: &str, n: &[i64]) -> Option<String> {
+        let rules = &mut self.rules;
         Some(match (name, n) {
-            ("constant", &[p, x]) => plain(self.change(|t| t.constant(p, x))),
-            ("copy", &[p, from]) => plain(self.change(|t| t.copy(p, from))),
-            ("literal", &[p, k, bits]) => valued(self.change(|t| t.literal(p, k, bits))),
+            ("literal", &[p, k, bits]) => valued(rules.change(|t| t.literal(p, k, bits))),
             ("case", [p, selector, list @ ..]) if list.len() <= LIST => {
-                plain(self.change(|t| t.case(*p, *selector, list)))
+                plain(rules.change(|t| t.case(*p, *selector, list)))
             }
-            ("apply", &[p, o, a, b]) => plain(self.change(|t| t.apply(p, o, a, b))),
-            ("restrict", &[p, from, k, v]) => plain(self.change(|t| t.restrict(p, from, k, v))),
-            ("forget", &[p, from, k]) => plain(self.change(|t| t.forget(p, from, k))),
-            ("open", [capacity, sizes @ ..]) if sizes.len() <= LIST => plain(self.open(*capacity, sizes)),
+            ("apply", &[p, o, a, b]) => plain(rules.change(|t| t.apply(p, o, a, b))),
+            ("restrict", &[p, from, k, v]) => plain(rules.change(|t| t.restrict(p, from, k, v))),
+            ("forget", &[p, from, k]) => plain(rules.change(|t| t.forget(p, from, k))),
+            ("count", &[p, x]) => valued(rules.lent().and_then(|t| t.count(p, x))),
+            ("next", [p, x, values @ ..]) if values.len() <= LIST => self.next(*p, *x, values),
+            ("write", &[p, length]) => self.sheet(p, length)?,
             _ => return None,
         })
     }
 
-    /// The calls that only read.
-    fn ask(&self, name: &str, n: &[i64]) -> Option<String> {
+    /// The calls of a cost table alone.
+    fn cost_call(&mut self, name: &str, n: &[i64]) -> Option<String> {
+        let costs = &mut self.costs;
+        Some(plain(match (name, n) {
+            ("price", [p, k, prices @ ..]) if prices.len() <= LIST => costs.change(|t| t.price(*p, *k, prices)),
+            ("add", &[p, a, b]) => costs.change(|t| t.add(p, a, b)),
+            ("subtract", &[p, a, b]) => costs.change(|t| t.subtract(p, a, b)),
+            ("smaller", &[p, a, b]) => costs.change(|t| t.smaller(p, a, b)),
+            ("larger", &[p, a, b]) => costs.change(|t| t.larger(p, a, b)),
+            ("scale", &[p, a, factor]) => costs.change(|t| t.scale(p, a, factor)),
+            _ => return None,
+        }))
+    }
+
+    fn choose(&mut self, p: i64, rule: i64, a: i64, b: i64) -> Told<()> {
+        let rules = self.rules.lent()?;
+        self.costs.change(|costs| both::choose(rules, costs, p, rule, a, b))
+    }
+
+    fn less(&mut self, p: i64, a: i64, b: i64) -> Told<()> {
+        let costs = self.costs.lent()?;
+        self.rules.change(|rules| both::less(rules, costs, p, a, b))
+    }
+
+    /// The setting is printed as one of the cost table.
+    fn lowest(&self, a: i64, rule: i64) -> String {
+        let lent = self.rules.lent().and_then(|rules| Ok((rules, self.costs.lent()?)));
+        match lent.and_then(|(rules, costs)| both::lowest(rules, costs, a, rule)) {
+            Ok((cost, setting)) => self.costs.printed(&format!("0 {cost}"), setting),
+            Err(refusal) => self.costs.printed(&format!("{refusal} 0"), Vec::new()),
+        }
+    }
+
+    /// The calls that are lent both tables.
+    fn both_call(&mut self, name: &str, n: &[i64]) -> Option<String> {
         Some(match (name, n) {
-            ("look", [p, values @ ..]) if values.len() <= LIST => valued(self.lent().and_then(|t| t.look(*p, values))),
-            ("same", &[p, q]) => valued(self.lent().and_then(|t| t.same(p, q))),
-            ("count", &[p, x]) => valued(self.lent().and_then(|t| t.count(p, x))),
-            ("next", [p, x, values @ ..]) if values.len() <= LIST => self.next(*p, *x, values),
-            ("write", &[p, length]) => self.sheet(p, length)?,
-            ("tally", []) => valued(self.lent().map(|t| t.tally())),
+            ("choose", &[p, rule, a, b]) => plain(self.choose(p, rule, a, b)),
+            ("less", &[p, a, b]) => plain(self.less(p, a, b)),
+            ("lowest", &[a, rule]) => self.lowest(a, rule),
             _ => return None,
         })
     }
@@ -177,7 +163,7 @@ impl Desk {
             return None;
         }
         let mut output = vec![BEFORE; length as usize];
-        let told = self.lent().and_then(|t| t.write(p, output.len()));
+        let told = self.rules.lent().and_then(|t| t.write(p, output.len()));
         let count = told.as_ref().map_or(0, |sheet| sheet.len());
         let ending = *told.as_ref().err().unwrap_or(&0);
         output[..count].copy_from_slice(&told.unwrap_or_default());
@@ -191,48 +177,31 @@ impl Desk {
         }
         let p = number(words[0])?;
         let bytes = hex::read(words[1])?;
-        Some(plain(self.change(|t| t.read(p, &bytes))))
+        Some(plain(self.rules.change(|t| t.read(p, &bytes))))
     }
 
-    /// The commands on the buffers. Scratch has no part in any answer.
-    fn handle(&mut self, name: &str, n: &[i64]) -> Option<String> {
-        let inside = |i: i64| (0..BUFFER as i64).contains(&i);
-        let length = |i: i64| (0..=BUFFER as i64).contains(&i);
-        let word = |x: i64| (0..=i64::from(u32::MAX)).contains(&x);
-        match (name, n) {
-            ("scratch", &[i, x]) if length(i) && word(x) => Some("0".to_string()),
-            ("lend", &[i]) if length(i) => {
-                self.lent = i as usize;
-                Some("0".to_string())
-            }
-            ("word", &[i]) if inside(i) => Some(format!("0 {}", self.words()[i as usize])),
-            ("poke", &[i, x]) if inside(i) && word(x) => {
-                self.poke(i as usize, x as u32);
-                Some("0".to_string())
-            }
-            _ => None,
-        }
-    }
-
+    /// A command and its numbers. Scratch has no part in any answer.
     fn command(&mut self, name: &str, n: &[i64]) -> Option<String> {
-        let handled = self.handle(name, n);
-        let written = handled.or_else(|| self.write(name, n));
-        written.or_else(|| self.ask(name, n))
+        if let ("scratch", &[i, x]) = (name, n) {
+            return Some("0".to_string()).filter(|_| is_length(i) && is_word(x));
+        }
+        if let Some(answer) = self.rules.command(name, n).or_else(|| self.rule_call(name, n)) {
+            return Some(answer);
+        }
+        let shared = name.strip_prefix('c').and_then(|shared| self.costs.command(shared, n));
+        shared.or_else(|| self.cost_call(name, n)).or_else(|| self.both_call(name, n))
     }
 
     /// What the line must be answered; the desk is then as after it.
     pub fn answer(&mut self, line: &str) -> Expected {
-        if line.is_empty() {
-            return Expected::Line(String::new());
-        }
-        if line == "sum" {
-            return Expected::Sum(self.words().to_vec());
-        }
         let words: Vec<&str> = line.split(' ').collect();
-        let answer = match words[0] {
-            "step" => step(&words[1..]),
-            "read" => self.read(&words[1..]),
-            name => numbers(words[1..].iter().copied()).and_then(|n| self.command(name, &n)),
+        let answer = match (line, words[0]) {
+            ("", _) => Some(String::new()),
+            ("sum", _) => return Expected::Sum(Kind::Rules, self.rules.words().to_vec()),
+            ("csum", _) => return Expected::Sum(Kind::Costs, self.costs.words().to_vec()),
+            (_, "step") => step(&words[1..]),
+            (_, "read") => self.read(&words[1..]),
+            (_, name) => numbers(words[1..].iter().copied()).and_then(|n| self.command(name, &n)),
         };
         Expected::Line(answer.unwrap_or_else(|| "?".to_string()))
     }
@@ -245,7 +214,7 @@ mod tests {
     fn says(desk: &mut Desk, line: &str) -> String {
         match desk.answer(line) {
             Expected::Line(text) => text,
-            Expected::Sum(_) => "sum".to_string(),
+            Expected::Sum(..) => "sum".to_string(),
         }
     }
 
@@ -310,5 +279,54 @@ mod tests {
         assert_eq!(says(&mut desk, "step 2,3 1 2"), "0 1 0 0");
         assert_eq!(says(&mut desk, "step 2,9 1 2"), "6 0");
         assert_eq!(says(&mut desk, "step 2,,3 1 2"), "?");
+    }
+
+    #[test]
+    fn costs_beside_rules() {
+        let mut desk = Desk::new();
+        assert_eq!(says(&mut desk, "ctally"), "1 0");
+        assert_eq!(says(&mut desk, "copen 257 2 3"), "12");
+        assert_eq!(says(&mut desk, "copen 1 2 3"), "0");
+        assert_eq!(says(&mut desk, "tally"), "1 0");
+        assert_eq!(says(&mut desk, "price 3 1 -5 7 0"), "0");
+        assert_eq!(says(&mut desk, "clook 3 1 0"), "0 -5");
+        assert_eq!(says(&mut desk, "clook 3 1 3"), "6 0");
+        assert_eq!(says(&mut desk, "scale 3 3 -200000000"), "8");
+        assert_eq!(says(&mut desk, "csame 3 0"), "0 0");
+        assert_eq!(says(&mut desk, "cword 51"), "0 2147483643");
+        assert_eq!(says(&mut desk, "cpoke 51 2147483644"), "0");
+        assert_eq!(says(&mut desk, "clook 3 1 0"), "0 -4");
+        assert_eq!(says(&mut desk, "word 51"), "0 0");
+        assert_eq!(says(&mut desk, "clend 8223"), "0");
+        assert_eq!(says(&mut desk, "ctally"), "1 0");
+        for line in ["price 0", "price 0 0 x", "add 1 2", "clend", "csum 0", "ccount 0 0", "cliteral 0 0 1", "lowest 0"]
+        {
+            assert_eq!(says(&mut desk, line), "?", "{line}");
+        }
+    }
+
+    #[test]
+    fn both_tables() {
+        let mut desk = Desk::new();
+        assert_eq!(says(&mut desk, "lowest 0 0"), "1 0");
+        says(&mut desk, "copen 2 2 3");
+        assert_eq!(says(&mut desk, "lowest 0 0"), "1 0 0 0", "no rule table");
+        assert_eq!(says(&mut desk, "choose 16 0 0 0"), "1");
+        says(&mut desk, "open 2 2");
+        assert_eq!(says(&mut desk, "lowest 0 0"), "5 0 0 0");
+        assert_eq!(says(&mut desk, "less 32 0 0"), "2");
+        assert_eq!(says(&mut desk, "less 31 0 0"), "5");
+        says(&mut desk, "open 2 2 3");
+        assert_eq!(says(&mut desk, "lowest 0 0"), "11 0 0 0");
+        says(&mut desk, "price 0 1 3 -4 -4");
+        says(&mut desk, "constant 0 9");
+        assert_eq!(says(&mut desk, "lowest 0 0"), "0 -4 0 1");
+        assert_eq!(says(&mut desk, "less 1 0 1"), "0");
+        assert_eq!(says(&mut desk, "count 1 1"), "0 4");
+        assert_eq!(says(&mut desk, "choose 2 1 0 1"), "0");
+        assert_eq!(says(&mut desk, "clook 2 0 0"), "0 0");
+        says(&mut desk, "lend 0");
+        assert_eq!(says(&mut desk, "choose 2 1 0 1"), "1");
+        assert_eq!(says(&mut desk, "clook 2 0 1"), "0 -4");
     }
 }

@@ -2,9 +2,10 @@
 //! cut at every length, changed at every byte, and with faults in what they say.
 
 use crate::hex;
-use crate::model::{Rule, Table};
+use crate::kind::{Branch, Number, To};
+use crate::model::{Rule, Rules};
 use crate::parts::Parts;
-use crate::picture::{self, Diagram, Node, NODE};
+use crate::picture::{self, Diagram, Node};
 use crate::rng::Rng;
 use crate::script;
 use crate::shape::Shape;
@@ -33,7 +34,7 @@ pub fn any_rule(rng: &mut Rng, shape: &Shape) -> Rule {
 
 struct Exchange {
     rng: Rng,
-    table: Table,
+    table: Rules,
     parts: Parts,
 }
 
@@ -42,9 +43,9 @@ impl Exchange {
         let mut rng = Rng::new(seed);
         let shape = Shape { sizes: rng.pick(&LISTS).to_vec() };
         let room = rng.within(1, 24);
-        let mut table = script::table(rng.next(), &shape, room);
+        let mut table = script::table::<u16>(rng.next(), &shape, room);
         // some more nodes than are in use, none too
-        table.capacity = table.tally().max(1) as usize + rng.pick(&[0, 1, 3, 8, 30]);
+        table.capacity = table.tally().max(1) + rng.pick(&[0, 1, 3, 8, 30]);
         Exchange { rng, parts: Parts::on(&table), table }
     }
 
@@ -64,7 +65,7 @@ impl Exchange {
 
     /// The place's sheet into outputs of every kind of length, and into other places.
     fn write(&mut self, p: usize) {
-        let length = sheet::written(&self.table.shape, &self.table.rules[p]).len();
+        let length = sheet::written(&self.table.shape, &self.table.places[p]).len();
         for space in [0, 1, length / 2, length - 1, length, length + 1, length + 9] {
             self.parts.say(format!("write {p} {space}"));
         }
@@ -93,7 +94,7 @@ impl Exchange {
     fn faulty(&mut self) {
         let shape = self.table.shape.clone();
         for i in 0..FAULTY {
-            let rule = if i % 2 == 0 { any_rule(&mut self.rng, &shape) } else { self.table.rules[i % 32].clone() };
+            let rule = if i % 2 == 0 { any_rule(&mut self.rng, &shape) } else { self.table.places[i % 32].clone() };
             let diagram = picture::diagram(&shape, &[rule]);
             let bytes = spoil::faulty(&mut self.rng, &shape, &diagram);
             self.read(&bytes);
@@ -104,7 +105,7 @@ impl Exchange {
     fn good(&mut self) {
         let own = self.table.shape.clone();
         for p in 0..32 {
-            self.read(&sheet::written(&own, &self.table.rules[p].clone()));
+            self.read(&sheet::written(&own, &self.table.places[p].clone()));
         }
         for list in LISTS {
             let shape = Shape { sizes: list.to_vec() };
@@ -121,13 +122,13 @@ impl Exchange {
 
     /// The place whose sheet is the longest of those that are not too long.
     fn rich(&self) -> usize {
-        let length = |p: &usize| sheet::written(&self.table.shape, &self.table.rules[*p]).len();
+        let length = |p: &usize| sheet::written(&self.table.shape, &self.table.places[*p]).len();
         (0..32).filter(|p| length(p) <= LONGEST).max_by_key(length).unwrap_or(0)
     }
 
     fn scripts(mut self) -> Vec<Vec<String>> {
         let p = self.rich();
-        let bytes = sheet::written(&self.table.shape, &self.table.rules[p]);
+        let bytes = sheet::written(&self.table.shape, &self.table.places[p]);
         self.write(p);
         self.good();
         if bytes.len() <= LONGEST {
@@ -141,7 +142,7 @@ impl Exchange {
 /// Every byte of document 01's two sheets changed to every other value.
 fn every_value() -> Vec<Vec<String>> {
     let shape = Shape { sizes: vec![2] };
-    let mut parts = Parts::on(&Table::fresh(shape.clone(), 1));
+    let mut parts = Parts::on(&Rules::fresh(shape.clone(), 1));
     for rule in [vec![7, 9], vec![5, 5]] {
         let good = sheet::written(&shape, &rule);
         for (i, &old) in good.iter().enumerate() {
@@ -179,10 +180,11 @@ fn large_scripts() -> Vec<Vec<String>> {
 /// A chain of nodes over all sixteen features, read with room for it and with room for one less.
 fn chain_scripts() -> Vec<Vec<String>> {
     let shape = Shape { sizes: vec![2; 16] };
-    let node = |k: usize, below: u32| Node { feature: k, branches: vec![below, 5] };
-    let mut nodes = vec![node(15, 4)];
-    (0..15).rev().for_each(|k| nodes.push(node(k, NODE + nodes.len() as u32 - 1)));
-    let chain = Diagram { nodes, roots: vec![NODE + 15] };
+    let to_node = |i: usize| Branch { adds: 0, to: To::Node(i) };
+    let node = |k: usize, below: Branch| Node { feature: k, branches: vec![below, 5u16.end()] };
+    let mut nodes = vec![node(15, 4u16.end())];
+    (0..15).rev().for_each(|k| nodes.push(node(k, to_node(nodes.len() - 1))));
+    let chain = Diagram { nodes, roots: vec![to_node(15)] };
     let read = |d: &Diagram| format!("read 0 {}", hex::written(&sheet::lay_out(&shape, d)));
     let open = |capacity: usize| format!("open {capacity}{}", " 2".repeat(16));
     vec![vec![open(16), read(&chain), "tally".to_string(), "write 0 140".to_string(), open(15), read(&chain)]]

@@ -1,7 +1,12 @@
 //! Lines that are no commands, or that look like none and are.
 
-pub const JUNK: [&str; 40] = [
+pub const JUNK: [&str; 45] = [
     "",
+    "none",
+    "none 1",
+    "none 1 2",
+    "none 1 2 3",
+    "none 1 2 3 4",
     "tally ",
     " tally",
     "tally 0",
@@ -41,4 +46,44 @@ pub const JUNK: [&str; 40] = [
     "read 1 0A",
     "read 1 00 01",
     "read x 00",
+];
+
+/// The same about costs.
+pub const COST_JUNK: [&str; 36] = [
+    "",
+    "ctally ",
+    " ctally",
+    "ctally 0",
+    "Ctally",
+    "clook",
+    "cconstant 1",
+    "cconstant 1 2 3",
+    "cconstant 0 00000000000000000000000000007",
+    "cconstant -0 -0",
+    "cconstant 1 9223372036854775808",
+    "cconstant 1 -9223372036854775809",
+    "cconstant 1 -9223372036854775808",
+    "cconstant 1 1.5",
+    "ccopy 1  2",
+    "ccopy +1 2",
+    "price 1",
+    "price 1 0 x",
+    "price 1 0 --1",
+    "add 1 2",
+    "subtract 1 2 3 4",
+    "smaller",
+    "larger 1 2 -",
+    "scale 1 2",
+    "scale 1 2 9223372036854775808",
+    "choose 1 2 3",
+    "less 1 2",
+    "lowest 1",
+    "lowest 1 2 3",
+    "csum 0",
+    "cword 16384",
+    "cpoke 1 4294967296",
+    "clend 16385",
+    "copen",
+    "cliteral 0 0 1",
+    "ccount 0 0",
 ];

@@ -2,9 +2,14 @@
 //!
 //! usage: compare PROGRAM [SEED [SCRIPTS]]
 //! PROGRAM is the script tests/program. Script i has the seed SEED + i, so a failing script is run again by its own
-//! seed and the number 1. With COMPARE=rules in the environment only commands that need no operations are used.
+//! seed and the number 1. With COMPARE=apart in the environment choose, less and lowest are left out, with COMPARE=rules
+//! every command on costs.
 
 mod args;
+mod both;
+mod buffer_lines;
+mod cost_lines;
+mod costs;
 mod damage;
 mod desk;
 mod examples;
@@ -12,25 +17,34 @@ mod exchange;
 mod forge;
 mod hex;
 mod junk;
+mod kind;
 mod model;
 mod parts;
 mod picture;
 mod rests;
 mod rng;
+mod rule_lines;
+mod rules;
+mod scatter;
+mod scope;
 mod script;
 mod shape;
 mod sheet;
 mod shelf;
 mod shrink;
+mod side;
 mod sound;
 mod spoil;
 mod style;
+mod wide;
 
+use scope::Scope;
 use shelf::Shelf;
 use std::process::ExitCode;
 
 const SEED: u64 = 1000;
-const SCRIPTS: u64 = 300;
+/// Random scripts, of which half are on rules alone; scripts of forged tables, of each kind; of sheets.
+const SCRIPTS: u64 = 320;
 const FORGED: u64 = 12;
 const EXCHANGES: u64 = 20;
 
@@ -56,13 +70,13 @@ fn shown(script: &[String], line: usize) -> &str {
 }
 
 /// The examples, against the answers by hand.
-fn examples_agree(shelf: &Shelf, operations: bool) -> bool {
-    if let Some(wrong) = examples::foretold_otherwise() {
+fn examples_agree(shelf: &Shelf, scope: Scope) -> bool {
+    if let Some(wrong) = examples::foretold_otherwise(scope) {
         println!("{wrong}");
         return false;
     }
-    let commands = examples::lines().into_iter().map(|(command, _)| command).collect();
-    !operations || agrees(shelf, "examples", commands)
+    let commands = examples::lines(scope).into_iter().map(|(command, _)| command).collect();
+    agrees(shelf, "examples", commands)
 }
 
 /// Runs the scripts in turn up to the first that fails.
@@ -79,14 +93,15 @@ fn part(shelf: &Shelf, name: &str, scripts: impl Iterator<Item = (String, Vec<St
     true
 }
 
-fn all_agree(shelf: &Shelf, seed: u64, scripts: u64, operations: bool) -> bool {
-    let random = (seed..seed + scripts).map(|s| (format!("seed {s}"), script::script(s, operations)));
-    let forged = forge::scripts(seed, FORGED).into_iter().map(|s| (format!("forged tables of seed {seed}"), s));
-    let damage = damage::scripts(operations).into_iter().map(|s| ("damage".to_string(), s));
-    let sheets = exchange::scripts(seed, if operations { EXCHANGES } else { 0 });
-    let sheets = sheets.map(|s| (format!("sheets of seed {seed}"), s)).filter(|_| operations);
-    examples_agree(shelf, operations)
+fn all_agree(shelf: &Shelf, seed: u64, scripts: u64, scope: Scope) -> bool {
+    let random = (seed..seed + scripts).map(|s| (format!("seed {s}"), script::script(s, scope)));
+    let forged = forge::scripts(seed, FORGED, scope).into_iter().map(|s| (format!("forged tables of seed {seed}"), s));
+    let damage = damage::scripts(scope).into_iter().map(|s| ("damage".to_string(), s));
+    let sheets = exchange::scripts(seed, EXCHANGES).map(|s| (format!("sheets of seed {seed}"), s));
+    let wide = wide::scripts(scope).into_iter().map(|s| ("sixteen features".to_string(), s));
+    examples_agree(shelf, scope)
         && part(shelf, "random calls", random)
+        && part(shelf, "sixteen features", wide)
         && part(shelf, "sheets", sheets)
         && part(shelf, "forged tables", forged)
         && part(shelf, "damage", damage)
@@ -102,14 +117,14 @@ fn main() -> ExitCode {
         }
     };
     let mut number = |default| args.next().map_or(Some(default), |a| a.parse::<u64>().ok());
-    let (seed, scripts) = match (number(SEED), number(SCRIPTS)) {
-        (Some(seed), Some(scripts)) => (seed, scripts),
+    let name = std::env::var("COMPARE").unwrap_or_else(|_| "all".to_string());
+    let (seed, scripts, scope) = match (number(SEED), number(SCRIPTS), Scope::named(&name)) {
+        (Some(seed), Some(scripts), Some(scope)) => (seed, scripts, scope),
         _ => {
-            println!("the seed and the number of scripts are numbers");
+            println!("the seed and the number of scripts are numbers, COMPARE is all, apart or rules");
             return ExitCode::from(2);
         }
     };
-    let operations = std::env::var("COMPARE").map_or(true, |only| only != "rules");
-    println!("seed {seed}{}", if operations { "" } else { ", rules alone" });
-    ExitCode::from(u8::from(!all_agree(&Shelf { program }, seed, scripts, operations)))
+    println!("seed {seed}, {name}");
+    ExitCode::from(u8::from(!all_agree(&Shelf { program }, seed, scripts, scope)))
 }

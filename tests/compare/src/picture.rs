@@ -1,7 +1,8 @@
-//! The words of a table, laid out from its rules alone: one node for each rest, as a walk from the roots in turn
+//! The words of a table, laid out from its rules or costs alone: one node for each rest, as a walk from the roots in turn
 //! finishes them, branch 0 first. A sound table has just these words, so `word` and `sum` lines can be foretold.
 
-use crate::model::{Rule, Table};
+use crate::kind::{Branch, Number, To, ROOT_WORDS};
+use crate::model::Table;
 use crate::shape::Shape;
 use std::collections::HashMap;
 
@@ -13,8 +14,6 @@ pub const BODY: usize = 12;
 pub const LINK: usize = 13;
 pub const COUNT: usize = 19;
 pub const SIZES: usize = 3;
-/// A branch word from here on says a node: this number and its index.
-pub const NODE: u32 = 65536;
 
 /// How many words a table of a capacity needs.
 pub fn bound(capacity: usize) -> usize {
@@ -27,82 +26,134 @@ pub fn hash(feature: u32, body: &[u32]) -> usize {
     (body.iter().fold(feature, step) >> 20) as usize
 }
 
-/// A node: its feature and its branch words.
 #[derive(Clone)]
 pub struct Node {
     pub feature: usize,
-    pub branches: Vec<u32>,
+    pub branches: Vec<Branch>,
 }
 
-/// Nodes in order, and the root words: of the 32 places, or of one rule.
+/// Nodes in order, and the roots: of all places, or of one rule.
 #[derive(Clone)]
 pub struct Diagram {
     pub nodes: Vec<Node>,
-    pub roots: Vec<u32>,
+    pub roots: Vec<Branch>,
 }
 
-struct Layout<'a> {
+impl Diagram {
+    /// All branches, the roots with them.
+    pub fn branches(&mut self) -> impl Iterator<Item = &mut Branch> {
+        self.nodes.iter_mut().flat_map(|n| n.branches.iter_mut()).chain(self.roots.iter_mut())
+    }
+
+    /// The indices of the nodes that branches go to.
+    pub fn targets(&mut self) -> impl Iterator<Item = &mut usize> {
+        self.branches().filter_map(|b| match &mut b.to {
+            To::Node(i) => Some(i),
+            To::End(_) => None,
+        })
+    }
+
+    /// The branch that a branch leads to at value v of feature k, what both add together: itself if it skips k.
+    fn step(&self, branch: Branch, k: usize, v: usize) -> Branch {
+        match branch.to {
+            To::Node(i) if self.nodes[i].feature == k => {
+                let next = self.nodes[i].branches[v];
+                Branch { adds: branch.adds + next.adds, to: next.to }
+            }
+            _ => branch,
+        }
+    }
+
+    /// Adds the numbers that a branch gives the settings of the features k and up, in order.
+    fn tell(&self, shape: &Shape, k: usize, branch: Branch, numbers: &mut Vec<i64>) {
+        match branch.to {
+            To::End(x) if k == shape.features() => numbers.push(branch.adds + i64::from(x)),
+            _ => (0..shape.sizes[k]).for_each(|v| self.tell(shape, k + 1, self.step(branch, k, v), numbers)),
+        }
+    }
+
+    /// The functions of the roots, if they are in range at every setting. Branches go to higher features.
+    pub fn functions<N: Number>(&self, shape: &Shape) -> Option<Vec<Vec<N>>> {
+        let function = |&root: &Branch| {
+            let mut numbers = Vec::new();
+            self.tell(shape, 0, root, &mut numbers);
+            numbers.into_iter().map(N::of).collect()
+        };
+        self.roots.iter().map(function).collect()
+    }
+}
+
+struct Layout<'a, N> {
     shape: &'a Shape,
     nodes: Vec<Node>,
-    known: HashMap<(usize, &'a [u16]), u32>,
+    /// For each feature the nodes of the rests so far.
+    known: Vec<HashMap<Vec<N>, usize>>,
 }
 
-impl<'a> Layout<'a> {
-    /// The branch word of a function of the features k and up; nodes that it needs are laid first.
-    fn branch(&mut self, k: usize, function: &'a [u16]) -> u32 {
+impl<N: Number> Layout<'_, N> {
+    /// The branch of a function of the features k and up; nodes that it needs are laid first.
+    fn branch(&mut self, k: usize, function: &[N]) -> Branch {
+        let end = function[0].end();
         if k == self.shape.features() {
-            return u32::from(function[0]);
+            return end;
         }
         let part = self.shape.span(k + 1);
         if function.chunks(part).all(|p| p == &function[..part]) {
             return self.branch(k + 1, &function[..part]);
         }
-        if let Some(&word) = self.known.get(&(k, function)) {
-            return word;
-        }
-        let branches = function.chunks(part).map(|p| self.branch(k + 1, p)).collect();
-        let word = NODE + self.nodes.len() as u32;
+        let rest = N::rest(function);
+        let known = self.known[k].get(rest.as_ref()).copied();
+        let i = known.unwrap_or_else(|| self.node(k, &rest));
+        Branch { adds: end.adds, to: To::Node(i) }
+    }
+
+    /// A node is laid for a rest.
+    fn node(&mut self, k: usize, rest: &[N]) -> usize {
+        let part = self.shape.span(k + 1);
+        let branches = rest.chunks(part).map(|p| self.branch(k + 1, p)).collect();
         self.nodes.push(Node { feature: k, branches });
-        self.known.insert((k, function), word);
-        word
+        let i = self.nodes.len() - 1;
+        self.known[k].insert(rest.to_vec(), i);
+        i
     }
 }
 
 /// Lays record i, and links it before the chain of its hash.
-fn lay(words: &mut [u32], i: usize, node: &Node) {
+fn lay<N: Number>(words: &mut [u32], i: usize, node: &Node) {
     let at = RECORDS + RECORD * i;
     words[at] = node.feature as u32;
-    words[at + 1..at + 1 + node.branches.len()].copy_from_slice(&node.branches);
+    words[at + 1..at + 1 + BODY].copy_from_slice(&N::body(&node.branches));
     let h = hash(words[at], &words[at + 1..at + 1 + BODY]);
     words[at + LINK] = words[HEADS + h];
     words[HEADS + h] = i as u32 + 1;
 }
 
-/// The diagram of the rules.
-pub fn diagram(shape: &Shape, rules: &[Rule]) -> Diagram {
-    let mut layout = Layout { shape, nodes: Vec::new(), known: HashMap::new() };
-    let roots = rules.iter().map(|r| layout.branch(0, r)).collect();
+/// The diagram of the functions.
+pub fn diagram<N: Number>(shape: &Shape, functions: &[Vec<N>]) -> Diagram {
+    let known = vec![HashMap::new(); shape.features()];
+    let mut layout = Layout { shape, nodes: Vec::new(), known };
+    let roots = functions.iter().map(|f| layout.branch(0, f)).collect();
     Diagram { nodes: layout.nodes, roots }
 }
 
 /// The words of a diagram, its chains with it, up to the capacity's bound.
-pub fn lay_out(shape: &Shape, capacity: usize, diagram: &Diagram) -> Vec<u32> {
+pub fn lay_out<N: Number>(shape: &Shape, capacity: usize, diagram: &Diagram) -> Vec<u32> {
     let mut words = vec![0; bound(capacity)];
-    words[0] = 1;
+    words[0] = N::KIND.word();
     words[1] = capacity as u32;
     words[2] = shape.features() as u32;
     for (k, &size) in shape.sizes.iter().enumerate() {
         words[SIZES + k] = size as u32;
     }
     words[COUNT] = diagram.nodes.len() as u32;
-    words[ROOTS..ROOTS + diagram.roots.len()].copy_from_slice(&diagram.roots);
+    words[ROOTS..ROOTS + ROOT_WORDS].copy_from_slice(&N::root_words(&diagram.roots));
     for (i, node) in diagram.nodes.iter().enumerate() {
-        lay(&mut words, i, node);
+        lay::<N>(&mut words, i, node);
     }
     words
 }
 
 /// The words of the table, up to its bound.
-pub fn words(table: &Table) -> Vec<u32> {
-    lay_out(&table.shape, table.capacity, &diagram(&table.shape, &table.rules))
+pub fn words<N: Number>(table: &Table<N>) -> Vec<u32> {
+    lay_out::<N>(&table.shape, table.capacity, &diagram(&table.shape, &table.places))
 }

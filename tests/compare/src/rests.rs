@@ -1,29 +1,31 @@
-//! Distinct rests, straight from document 01: what a rule leaves once the features before k are fixed, kept where it
-//! depends on feature k. In a table of all settings in dictionary order each remainder is one run of entries.
+//! Distinct rests, straight from document 01: what a rule or a cost leaves once the features before k are fixed, kept
+//! where it depends on feature k. In a table of all settings in dictionary order each remainder is one run of entries.
 
+use crate::kind::Number;
 use crate::shape::Shape;
+use std::borrow::Cow;
 use std::collections::HashSet;
 
-type Rests<'a> = HashSet<(usize, &'a [u16])>;
+type Rests<'a, N> = HashSet<(usize, Cow<'a, [N]>)>;
 
-/// Adds the rests of a rule, each with its k.
-fn add<'a>(shape: &Shape, rule: &'a [u16], rests: &mut Rests<'a>) {
+/// Adds the rests of a function, each with its k.
+fn add<'a, N: Number>(shape: &Shape, function: &'a [N], rests: &mut Rests<'a, N>) {
     for k in 0..shape.features() {
         let part = shape.span(k + 1);
-        for rest in rule.chunks(shape.span(k)) {
+        for rest in function.chunks(shape.span(k)) {
             if rest.chunks(part).any(|p| p != &rest[..part]) {
-                rests.insert((k, rest));
+                rests.insert((k, N::rest(rest)));
             }
         }
     }
 }
 
-/// The number of distinct rests of all the rules together.
-pub fn distinct(shape: &Shape, rules: &[&[u16]]) -> usize {
+/// The number of distinct rests of all the functions together.
+pub fn distinct<N: Number>(shape: &Shape, functions: &[&[N]]) -> usize {
     let mut rests = Rests::new();
-    for (i, rule) in rules.iter().enumerate() {
-        if !rules[..i].contains(rule) {
-            add(shape, rule, &mut rests);
+    for (i, function) in functions.iter().enumerate() {
+        if !functions[..i].contains(function) {
+            add(shape, function, &mut rests);
         }
     }
     rests.len()
@@ -44,13 +46,31 @@ mod tests {
         assert_eq!(distinct(&shape, &[c]), 2);
         assert_eq!(distinct(&shape, &[a, b, c]), 3);
         assert_eq!(distinct(&shape, &[a, c]), 2);
-        assert_eq!(distinct(&shape, &[&[7; 6], &[0; 6]]), 0);
+        assert_eq!(distinct::<u16>(&shape, &[&[7; 6], &[0; 6]]), 0);
+    }
+
+    #[test]
+    fn the_rests_of_the_cost_examples() {
+        let shape = Shape::of(&[2, 3]).unwrap();
+        let p: &[i64] = &[10, 10, 10, 4, 4, 4];
+        let q: &[i64] = &[0, 5, -3, 0, 5, -3];
+        let sum: &[i64] = &[10, 15, 7, 4, 9, 1];
+        assert_eq!(distinct(&shape, &[p]), 1);
+        assert_eq!(distinct(&shape, &[q]), 1);
+        assert_eq!(distinct(&shape, &[sum]), 2);
+        assert_eq!(distinct(&shape, &[p, q, sum]), 3);
+        // one less everywhere is the same rest
+        assert_eq!(distinct(&shape, &[sum, &[9, 14, 6, 3, 8, 0]]), 2);
+        assert_eq!(distinct::<i64>(&shape, &[&[7; 6], &[0; 6]]), 0);
     }
 
     #[test]
     fn equal_functions_at_two_features_are_two_rests() {
         let shape = Shape::of(&[2, 2]).unwrap();
-        assert_eq!(distinct(&shape, &[&[0, 0, 1, 1], &[0, 1, 0, 1]]), 2);
-        assert_eq!(distinct(&shape, &[&[0, 1, 1, 0]]), 3);
+        assert_eq!(distinct::<u16>(&shape, &[&[0, 0, 1, 1], &[0, 1, 0, 1]]), 2);
+        assert_eq!(distinct::<u16>(&shape, &[&[0, 1, 1, 0]]), 3);
+        assert_eq!(distinct::<i64>(&shape, &[&[0, 1, 1, 0]]), 3);
+        // the halves 0 1 and 5 6 are one rest, so there are two with that of feature 0
+        assert_eq!(distinct::<i64>(&shape, &[&[0, 1, 5, 6]]), 2);
     }
 }

@@ -1,31 +1,39 @@
 //! Rule sheets, edition 1: the bytes of a rule from the table of all its numbers, and which bytes are such a sheet.
 
+use crate::kind::{Branch, Number, To};
 use crate::model::{Rule, Told, BAD_SHEET, NEWER};
-use crate::picture::{self, Diagram, Node, NODE};
+use crate::picture::{self, Diagram, Node};
 use crate::shape::Shape;
 
 /// The most rests that a sheet's rule may have.
 const MOST_RESTS: usize = 4096;
 /// The most settings of a list that the model can store.
-const MOST_SETTINGS: usize = 1 << 22;
+pub const MOST_SETTINGS: usize = 1 << 22;
 
 fn two(n: usize) -> [u8; 2] {
     [(n >> 8) as u8, n as u8]
 }
 
+fn three(branch: &Branch) -> [u8; 3] {
+    let (kind, number) = match branch.to {
+        To::End(x) => (0, usize::from(x)),
+        To::Node(i) => (1, i),
+    };
+    [kind, (number >> 8) as u8, number as u8]
+}
+
 /// The sections of a diagram as it is, good or not.
 pub fn lay_out(shape: &Shape, diagram: &Diagram) -> Vec<u8> {
-    let branch = |word: &u32| word.to_be_bytes()[1..].to_vec();
     let mut bytes = vec![0, 1, 1];
     bytes.extend(two(shape.features()));
     bytes.extend(shape.sizes.iter().map(|&s| s as u8));
     bytes.extend(two(diagram.nodes.len()));
     for node in &diagram.nodes {
         bytes.push(node.feature as u8);
-        bytes.extend(node.branches.iter().flat_map(branch));
+        bytes.extend(node.branches.iter().flat_map(three));
     }
     bytes.extend(two(diagram.roots.len()));
-    bytes.extend(diagram.roots.iter().flat_map(branch));
+    bytes.extend(diagram.roots.iter().flat_map(three));
     bytes
 }
 
@@ -57,12 +65,12 @@ impl Bytes<'_> {
     }
 
     /// A phrase, or one of the nodes so far, of feature k or higher: other branches have no number.
-    fn branch(&mut self, nodes: &[Node], k: usize) -> Option<u32> {
+    fn branch(&mut self, nodes: &[Node], k: usize) -> Option<Branch> {
         let kind = self.byte()?;
         let number = self.two()?;
         match kind {
-            0 => Some(number as u32),
-            1 if nodes.get(number)?.feature >= k => Some(NODE + number as u32),
+            0 => Some((number as u16).end()),
+            1 if nodes.get(number)?.feature >= k => Some(Branch { adds: 0, to: To::Node(number) }),
             _ => None,
         }
     }
@@ -73,7 +81,7 @@ impl Bytes<'_> {
         for _ in 0..count {
             let feature = self.byte()?;
             let size = *shape.sizes.get(feature)?;
-            let branches = (0..size).map(|_| self.branch(&nodes, feature + 1)).collect::<Option<Vec<u32>>>()?;
+            let branches = (0..size).map(|_| self.branch(&nodes, feature + 1)).collect::<Option<Vec<Branch>>>()?;
             nodes.push(Node { feature, branches });
         }
         if self.two()? != 1 {
@@ -99,27 +107,14 @@ fn parsed(bytes: &[u8]) -> Option<(Shape, Diagram)> {
     }
 }
 
-/// The number of every setting.
-fn numbers(shape: &Shape, diagram: &Diagram) -> Rule {
-    assert!(shape.settings() <= MOST_SETTINGS, "a list too long for the model");
-    let number = |rank| {
-        let mut word = diagram.roots[0];
-        while word >= NODE {
-            let node = &diagram.nodes[(word - NODE) as usize];
-            word = node.branches[shape.value(rank, node.feature)];
-        }
-        word as u16
-    };
-    (0..shape.settings()).map(number).collect()
-}
-
 /// The list and the rule whose sheet the bytes are: they say a rule, and are what the writer writes for it.
 pub fn read(bytes: &[u8]) -> Told<(Shape, Rule)> {
     if bytes.len() >= 3 && bytes[..2] == [0, 1] && bytes[2] >= 2 {
         return Err(NEWER);
     }
     let (shape, diagram) = parsed(bytes).ok_or(BAD_SHEET)?;
-    let rule = numbers(&shape, &diagram);
+    assert!(shape.settings() <= MOST_SETTINGS, "a list too long for the model");
+    let rule = diagram.functions(&shape).and_then(|mut rules| rules.pop()).ok_or(BAD_SHEET)?;
     if diagram.nodes.len() > MOST_RESTS || written(&shape, &rule) != bytes {
         return Err(BAD_SHEET);
     }
@@ -159,11 +154,20 @@ mod tests {
         assert_eq!(read(&equal), Err(BAD_SHEET));
     }
 
+    /// From here on a number says a node.
+    const NODE: usize = 65536;
+
+    fn branch(number: usize) -> Branch {
+        let to = if number < NODE { To::End(number as u16) } else { To::Node(number - NODE) };
+        Branch { adds: 0, to }
+    }
+
     /// Over the sizes 2, 2: nodes of feature 1, and one of feature 0 with these branches.
-    fn two_levels(leaves: &[[u32; 2]], root: [u32; 2]) -> Told<(Shape, Rule)> {
-        let mut nodes: Vec<Node> = leaves.iter().map(|b| Node { feature: 1, branches: b.to_vec() }).collect();
-        nodes.push(Node { feature: 0, branches: root.to_vec() });
-        let roots = vec![NODE + leaves.len() as u32];
+    fn two_levels(leaves: &[[usize; 2]], root: [usize; 2]) -> Told<(Shape, Rule)> {
+        let node = |feature, b: &[usize; 2]| Node { feature, branches: b.map(branch).to_vec() };
+        let mut nodes: Vec<Node> = leaves.iter().map(|b| node(1, b)).collect();
+        nodes.push(node(0, &root));
+        let roots = vec![branch(NODE + leaves.len())];
         read(&lay_out(&Shape { sizes: vec![2, 2] }, &Diagram { nodes, roots }))
     }
 

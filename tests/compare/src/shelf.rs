@@ -1,6 +1,7 @@
 //! The proved program, run on a script, and its answers held against the foretold ones.
 
 use crate::desk::{Desk, Expected};
+use crate::kind::Kind;
 use std::collections::HashMap;
 use std::io::Write;
 use std::process::{Command, Stdio};
@@ -57,7 +58,7 @@ impl Shelf {
     }
 }
 
-/// The sums so far: equal words have equal sums, and other words another sum.
+/// The sums of a buffer so far: equal words have equal sums, and other words another sum.
 #[derive(Default)]
 struct Sums {
     of: HashMap<Vec<u32>, (String, usize)>,
@@ -84,14 +85,14 @@ impl Sums {
 /// The first line whose answer is wrong.
 fn compare(script: &[String], answers: &[String]) -> Option<Failure> {
     let mut desk = Desk::new();
-    let mut sums = Sums::default();
+    let mut sums: HashMap<Kind, Sums> = HashMap::new();
     for (line, command) in script.iter().enumerate() {
         let came = match answers.get(line) {
             Some(answer) => answer.as_str(),
             None => "no line",
         };
         let wrong = match desk.answer(command) {
-            Expected::Sum(words) => sums.wrong(line, words, came),
+            Expected::Sum(kind, words) => sums.entry(kind).or_default().wrong(line, words, came),
             Expected::Line(text) if text == came => None,
             Expected::Line(text) => Some(text),
         };

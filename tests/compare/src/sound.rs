@@ -1,14 +1,18 @@
-//! Whether words are a sound table, condition by condition as docs/ define it, and the rules that they then say.
+//! Whether words are a sound table of a kind, condition by condition as docs/SOUND.md defines it, and the rules or costs
+//! that they then say.
 
-use crate::model::{Table, PLACES};
-use crate::picture::{bound, hash, BODY, COUNT, HEADS, LINK, NODE, RECORD, RECORDS, ROOTS, SIZES};
+use crate::kind::{Branch, Number, To, MOST_ADDED, ROOT_WORDS};
+use crate::model::Table;
+use crate::picture::{bound, hash, Diagram, Node, BODY, COUNT, HEADS, LINK, RECORD, RECORDS, ROOTS, SIZES};
 use crate::shape::Shape;
+use std::marker::PhantomData;
 
-struct Words<'a> {
+struct Words<'a, N> {
     words: &'a [u32],
+    kind: PhantomData<N>,
 }
 
-impl Words<'_> {
+impl<N: Number> Words<'_, N> {
     fn at(&self, i: usize) -> usize {
         self.words.get(i).map_or(0, |&w| w as usize)
     }
@@ -41,18 +45,22 @@ impl Words<'_> {
         self.record(i, 0)
     }
 
-    fn branches(&self, i: usize) -> Vec<usize> {
-        (0..self.size(self.feature(i))).map(|v| self.record(i, 1 + v)).collect()
+    fn body(&self, i: usize) -> &[u32] {
+        let at = RECORDS + RECORD * i + 1;
+        &self.words[at..at + BODY]
     }
 
-    fn hash(&self, i: usize) -> usize {
-        let at = RECORDS + RECORD * i;
-        hash(self.words[at], &self.words[at + 1..at + 1 + BODY])
+    fn branches(&self, i: usize) -> Vec<Branch> {
+        N::branches(self.body(i), self.size(self.feature(i)))
+    }
+
+    fn roots(&self) -> Vec<Branch> {
+        N::roots(&self.words[ROOTS..ROOTS + ROOT_WORDS])
     }
 
     /// Kind, capacity, features, nodes in use, sizes, and the words that are 0 in a table at rest.
     fn header(&self) -> bool {
-        self.at(0) == 1
+        self.at(0) == N::KIND.word() as usize
             && (1..=4096).contains(&self.capacity())
             && bound(self.capacity()) <= self.words.len()
             && (1..=16).contains(&self.features())
@@ -60,14 +68,16 @@ impl Words<'_> {
             && (0..self.features()).all(|k| (2..=8).contains(&self.size(k)))
             && self.zeros(SIZES + self.features(), COUNT)
             && self.zeros(COUNT + 1, ROOTS)
-            && self.zeros(ROOTS + PLACES, HEADS)
+            && self.zeros(ROOTS + ROOT_WORDS, HEADS)
             && self.zeros(RECORDS + RECORD * self.count(), bound(self.capacity()))
     }
 
-    /// The word says a phrase, or a node below m of feature k or higher.
-    fn sits(&self, m: usize, k: usize, word: usize) -> bool {
-        let node = NODE as usize;
-        word < node || (word - node < m && k <= self.feature(word - node))
+    /// The branch goes to the end, or to a node below m of feature k or higher.
+    fn sits(&self, m: usize, k: usize, branch: &Branch) -> bool {
+        match branch.to {
+            To::End(_) => true,
+            To::Node(i) => i < m && k <= self.feature(i),
+        }
     }
 
     fn node(&self, i: usize) -> bool {
@@ -77,9 +87,12 @@ impl Words<'_> {
         }
         let branches = self.branches(i);
         let at = RECORDS + RECORD * i;
-        branches.iter().all(|&b| self.sits(i, k + 1, b))
-            && branches.iter().any(|&b| b != branches[0])
-            && self.zeros(at + 1 + branches.len(), at + LINK)
+        branches.iter().all(|b| self.sits(i, k + 1, b))
+            && branches[0].adds == 0
+            && branches.iter().all(|b| (-MOST_ADDED..=MOST_ADDED).contains(&b.adds))
+            && branches.iter().any(|b| b != &branches[0])
+            // the words past its size are 0
+            && N::body(&branches) == self.body(i)
             && self.zeros(at + LINK + 1, at + RECORD)
     }
 
@@ -87,84 +100,93 @@ impl Words<'_> {
     fn chained(&self) -> bool {
         let mut heads = vec![0; 4096];
         for i in 0..self.count() {
-            let h = self.hash(i);
+            let h = hash(self.feature(i) as u32, self.body(i));
             if self.record(i, LINK) != heads[h] {
                 return false;
             }
             heads[h] = i + 1;
         }
-        let same = |i, j| (0..1 + BODY).all(|w| self.record(i, w) == self.record(j, w));
+        let same = |i, j| self.feature(i) == self.feature(j) && self.body(i) == self.body(j);
         heads.iter().enumerate().all(|(h, &head)| self.at(HEADS + h) == head)
             && (0..self.count()).all(|i| !(0..i).any(|j| same(i, j)))
     }
 
     /// The walk from a branch, the nodes below `done` met: how many are met after it, or none where one is out of turn.
-    fn walk(&self, word: usize, done: usize) -> Option<usize> {
-        let node = NODE as usize;
-        if word < node || word - node < done {
-            return Some(done);
-        }
-        let met = self.branches(word - node).iter().try_fold(done, |d, &b| self.walk(b, d))?;
-        if met == word - node {
-            Some(met + 1)
-        } else {
-            None
-        }
+    fn walk(&self, branch: &Branch, done: usize) -> Option<usize> {
+        let i = match branch.to {
+            To::Node(i) if i >= done => i,
+            _ => return Some(done),
+        };
+        let met = self.branches(i).iter().try_fold(done, |d, b| self.walk(b, d))?;
+        Some(met + 1).filter(|_| met == i)
     }
 
-    fn sound(&self) -> bool {
-        let roots = || (0..PLACES).map(|p| self.at(ROOTS + p));
+    /// All but the range.
+    fn shaped(&self) -> bool {
         self.header()
             && (0..self.count()).all(|i| self.node(i))
             && self.chained()
-            && roots().all(|r| self.sits(self.count(), 0, r))
-            && roots().try_fold(0, |d, r| self.walk(r, d)) == Some(self.count())
+            && self.roots().iter().all(|r| self.sits(self.count(), 0, r))
+            && self.roots().iter().try_fold(0, |d, r| self.walk(r, d)) == Some(self.count())
     }
 
-    /// The number that the branch gives a setting.
-    fn number(&self, mut word: usize, setting: &[usize]) -> u16 {
-        while word >= NODE as usize {
-            let i = word - NODE as usize;
-            word = self.record(i, 1 + setting[self.feature(i)]);
-        }
-        word as u16
+    fn diagram(&self) -> Diagram {
+        let node = |i| Node { feature: self.feature(i), branches: self.branches(i) };
+        Diagram { nodes: (0..self.count()).map(node).collect(), roots: self.roots() }
     }
 }
 
 /// The table that the words say, if they are sound.
-pub fn read(words: &[u32]) -> Option<Table> {
-    let w = Words { words };
-    if !w.sound() {
+pub fn read<N: Number>(words: &[u32]) -> Option<Table<N>> {
+    let w: Words<N> = Words { words, kind: PhantomData };
+    if !w.shaped() {
         return None;
     }
     let shape = Shape { sizes: (0..w.features()).map(|k| w.size(k)).collect() };
-    let settings: Vec<Vec<usize>> = (0..shape.settings()).map(|i| shape.setting(i)).collect();
-    let rule = |p| settings.iter().map(|s| w.number(w.at(ROOTS + p), s)).collect();
-    Some(Table { capacity: w.capacity(), rules: (0..PLACES).map(rule).collect(), shape })
+    let places = w.diagram().functions(&shape)?;
+    Some(Table { capacity: w.capacity(), places, shape })
 }
 
 #[cfg(test)]
 mod tests {
     use super::*;
+    use crate::kind::MOST_COST;
+    use crate::model::{Costs, Rules};
     use crate::picture;
 
-    fn examples() -> Table {
-        let mut t = Table::fresh(Shape::of(&[2, 3]).unwrap(), 4);
+    fn rules() -> Rules {
+        let mut t = Rules::fresh(Shape::of(&[2, 3]).unwrap(), 4);
         t.literal(0, 1, 5).unwrap();
         t.literal(1, 0, 2).unwrap();
         t.apply(2, 1, 0, 1).unwrap();
         t
     }
 
+    fn costs() -> Costs {
+        let mut t = Costs::fresh(Shape::of(&[2, 3]).unwrap(), 4);
+        t.price(0, 0, &[10, 4]).unwrap();
+        t.price(1, 1, &[0, 5, -3]).unwrap();
+        t.add(2, 0, 1).unwrap();
+        t
+    }
+
     #[test]
-    fn a_picture_is_sound_and_says_its_rules() {
-        let t = examples();
-        assert_eq!(read(&picture::words(&t)), Some(t));
+    fn a_picture_is_sound_and_says_its_numbers() {
+        assert_eq!(read(&picture::words(&rules())), Some(rules()));
+        assert_eq!(read(&picture::words(&costs())), Some(costs()));
+    }
+
+    #[test]
+    fn no_table_is_of_both_kinds() {
+        let (mut r, mut c) = (picture::words(&rules()), picture::words(&costs()));
+        assert_eq!((read::<i64>(&r), read::<u16>(&c)), (None, None));
+        (r[0], c[0]) = (2, 1);
+        assert_eq!((read::<i64>(&r), read::<u16>(&c)), (None, None));
     }
 
     #[test]
     fn the_words_of_the_examples() {
-        let words = picture::words(&examples());
+        let words = picture::words(&rules());
         assert_eq!(words[..5], [1, 4, 2, 2, 3]);
         assert_eq!(words[COUNT], 3);
         assert_eq!(words[ROOTS..ROOTS + 4], [65536, 65537, 65538, 0]);
@@ -174,13 +196,40 @@ mod tests {
     }
 
     #[test]
+    fn the_words_of_the_cost_examples() {
+        let words = picture::words(&costs());
+        let zero = 1 << 31;
+        assert_eq!(words[..5], [2, 4, 2, 2, 3]);
+        assert_eq!(words[COUNT], 3);
+        assert_eq!(words[ROOTS..ROOTS + 4], [1, 2, 3, 0]);
+        assert_eq!(words[ROOTS + 16..ROOTS + 20], [zero + 10, zero, zero + 10, zero]);
+        // P: to the end with 0 and -6; Q: to the end with 0, 5 and -3; the sum: to Q's node with 0 and -6
+        assert_eq!(words[RECORDS..RECORDS + 8], [0, 0, 0, 0, 0, zero, zero - 6, 0]);
+        assert_eq!(words[RECORDS + 16..RECORDS + 25], [1, 0, 0, 0, 0, zero, zero + 5, zero - 3, 0]);
+        assert_eq!(words[RECORDS + 32..RECORDS + 40], [0, 2 + (2 << 16), 0, 0, 0, zero, zero - 6, 0]);
+    }
+
+    #[test]
     fn one_word_off_is_not_sound() {
-        let good = picture::words(&examples());
+        let (r, c) = (picture::words(&rules()), picture::words(&costs()));
         for i in [0, 3, 5, 18, 19, 20, 31, 64, 4095, 4096, 8192, 8193, 8205, 8207, 8240, 8255, 8319] {
-            let mut words = good.clone();
-            words[i] ^= 0x10000;
-            assert_eq!(read(&words), None, "word {i}");
+            let (mut r, mut c) = (r.clone(), c.clone());
+            r[i] ^= 0x10000;
+            c[i] ^= 0x10000;
+            assert_eq!((read::<u16>(&r), read::<i64>(&c)), (None, None), "word {i}");
         }
-        assert_eq!(read(&good[..good.len() - 1]), None);
+        assert_eq!(read::<u16>(&r[..r.len() - 1]), None);
+        assert_eq!(read::<i64>(&c[..c.len() - 1]), None);
+    }
+
+    /// The base of the sum's place up to where its highest amount, 5 above, is the most, and one more.
+    #[test]
+    fn the_range_is_part_of_it() {
+        let mut words = picture::words(&costs());
+        words[ROOTS + 16 + 2] = (1 << 31) + MOST_COST as u32 - 5;
+        let found = read::<i64>(&words).expect("the highest is the most");
+        assert_eq!(found.places[2].iter().max(), Some(&MOST_COST));
+        words[ROOTS + 16 + 2] += 1;
+        assert_eq!(read::<i64>(&words), None);
     }
 }

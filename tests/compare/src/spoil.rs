@@ -1,10 +1,11 @@
 //! Sheets with one fault: in their bytes, or in what they say but laid out as it should be. Some faults leave a sheet.
 
 use crate::forge::{branch, swap};
-use crate::picture::{Diagram, Node, NODE};
+use crate::kind::{Branch, Kind, Number, To};
+use crate::picture::{Diagram, Node};
 use crate::rng::Rng;
 use crate::shape::Shape;
-use crate::sheet;
+use crate::sheet::{self, MOST_SETTINGS};
 
 /// What a byte is changed to: up and down by one, one bit, the kinds of branches, the bounds.
 pub fn others(rng: &mut Rng, old: u8) -> Vec<u8> {
@@ -33,25 +34,19 @@ pub fn longer_and_shorter(rng: &mut Rng, bytes: &[u8]) -> Vec<Vec<u8>> {
     all
 }
 
-/// All branch words, the root with them.
-fn words(diagram: &mut Diagram) -> impl Iterator<Item = &mut u32> {
-    diagram.nodes.iter_mut().flat_map(|n| n.branches.iter_mut()).chain(diagram.roots.iter_mut())
-}
-
 /// A node goes in at an index: those from there on are numbered one higher.
 fn insert(diagram: &mut Diagram, i: usize, node: Node) {
-    words(diagram).filter(|w| **w >= NODE + i as u32).for_each(|w| *w += 1);
+    diagram.targets().filter(|t| **t >= i).for_each(|t| *t += 1);
     diagram.nodes.insert(i, node);
 }
 
 /// A node goes in after node i, and one of the branches to that leads to it instead, not one of its own.
 fn insert_above(rng: &mut Rng, diagram: &mut Diagram, i: usize, node: Node) {
-    let to = NODE + i as u32;
-    let count = words(diagram).filter(|w| **w == to).count();
+    let count = diagram.targets().filter(|t| **t == i).count();
     let chosen = rng.below(count.max(1));
     insert(diagram, i + 1, Node { feature: node.feature, branches: Vec::new() });
-    if let Some(word) = words(diagram).filter(|w| **w == to).nth(chosen) {
-        *word = to + 1;
+    if let Some(target) = diagram.targets().filter(|t| **t == i).nth(chosen) {
+        *target = i + 1;
     }
     diagram.nodes[i + 1] = node;
 }
@@ -59,13 +54,13 @@ fn insert_above(rng: &mut Rng, diagram: &mut Diagram, i: usize, node: Node) {
 /// A node of a feature with any branches to phrases and to the nodes before.
 fn any_node(rng: &mut Rng, shape: &Shape, before: usize) -> Node {
     let feature = rng.below(shape.features());
-    Node { feature, branches: (0..shape.sizes[feature]).map(|_| branch(rng, before)).collect() }
+    Node { feature, branches: (0..shape.sizes[feature]).map(|_| branch(rng, Kind::Rules, before)).collect() }
 }
 
 /// A node whose branches all lead to node i, of a feature before that one's where there is one.
 fn all_equal(rng: &mut Rng, shape: &Shape, diagram: &Diagram, i: usize) -> Node {
     let feature = rng.below(diagram.nodes[i].feature.max(1));
-    Node { feature, branches: vec![NODE + i as u32; shape.sizes[feature]] }
+    Node { feature, branches: vec![Branch { adds: 0, to: To::Node(i) }; shape.sizes[feature]] }
 }
 
 /// One fault in the nodes.
@@ -89,10 +84,10 @@ fn fault_in_nodes(rng: &mut Rng, shape: &Shape, diagram: &mut Diagram) {
         4 => diagram.nodes[i].branches.rotate_left(1),
         5 => diagram.nodes[i].branches.reverse(),
         6 => diagram.nodes[i].feature = rng.below(shape.features() + 1),
-        7 => diagram.nodes[i].branches.fill(rng.below(3) as u32),
+        7 => diagram.nodes[i].branches.fill((rng.below(3) as u16).end()),
         _ => {
             let v = rng.below(diagram.nodes[i].branches.len());
-            diagram.nodes[i].branches[v] = branch(rng, n);
+            diagram.nodes[i].branches[v] = branch(rng, Kind::Rules, n);
         }
     }
 }
@@ -101,12 +96,14 @@ fn fault_in_nodes(rng: &mut Rng, shape: &Shape, diagram: &mut Diagram) {
 fn fault_around(rng: &mut Rng, shape: &mut Shape, diagram: &mut Diagram) {
     let n = diagram.nodes.len();
     let k = rng.below(shape.features());
+    // a list too long for the model becomes one too long for a sheet
+    let longest = if shape.settings() << (16 - shape.features()) <= MOST_SETTINGS { 16 } else { 17 };
     match rng.below(8) {
         0 => shape.sizes[k] = rng.pick(&[0, 1, 2, 3, 8, 9]),
         1 => shape.sizes.push(2),
-        2 => shape.sizes.resize(rng.pick(&[0, 16, 17]), 2),
-        3 => diagram.roots[0] = branch(rng, n),
-        4 => diagram.roots.push(branch(rng, n)),
+        2 => shape.sizes.resize(rng.pick(&[0, longest, 17]), 2),
+        3 => diagram.roots[0] = branch(rng, Kind::Rules, n),
+        4 => diagram.roots.push(branch(rng, Kind::Rules, n)),
         5 => diagram.roots.clear(),
         6 => diagram.nodes.push(any_node(rng, shape, n)),
         _ => {}
@@ -130,10 +127,14 @@ mod tests {
     use crate::model::BAD_SHEET;
     use crate::picture;
 
+    fn to_node(i: usize) -> Branch {
+        Branch { adds: 0, to: To::Node(i) }
+    }
+
     /// Sizes 2, 2: three nodes, that of feature 0 the last.
     fn base() -> (Shape, Diagram) {
         let shape = Shape { sizes: vec![2, 2] };
-        let diagram = picture::diagram(&shape, &[vec![7, 9, 9, 7]]);
+        let diagram = picture::diagram(&shape, &[vec![7u16, 9, 9, 7]]);
         (shape, diagram)
     }
 
@@ -142,7 +143,7 @@ mod tests {
         let (shape, mut diagram) = base();
         let twin = diagram.nodes[0].clone();
         insert_above(&mut Rng::new(1), &mut diagram, 0, twin);
-        assert_eq!(diagram.nodes[3].branches, [NODE + 1, NODE + 2]);
+        assert_eq!(diagram.nodes[3].branches, [to_node(1), to_node(2)]);
         assert_eq!(sheet::read(&sheet::lay_out(&shape, &diagram)), Err(BAD_SHEET));
     }
 
@@ -151,8 +152,8 @@ mod tests {
         let (shape, mut diagram) = base();
         let node = all_equal(&mut Rng::new(1), &shape, &diagram, 1);
         insert_above(&mut Rng::new(1), &mut diagram, 1, node);
-        assert_eq!(diagram.nodes[2].branches, [NODE + 1, NODE + 1]);
-        assert_eq!(diagram.nodes[3].branches, [NODE, NODE + 2]);
+        assert_eq!(diagram.nodes[2].branches, [to_node(1), to_node(1)]);
+        assert_eq!(diagram.nodes[3].branches, [to_node(0), to_node(2)]);
     }
 
     #[test]

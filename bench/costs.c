@@ -1,0 +1,73 @@
+/* The cost calls, and those on both tables, with more and more scratch: two costs that each add up prices over sixteen features of
+   size 8, so sixteen nodes each, and what is worked out of them. The unit is the sum of the table's words. */
+#include "lampgrotto.h"
+#include "timing.h"
+#include <stdio.h>
+#include <stdlib.h>
+
+enum { CAPACITY = 1024, WORDS = 32 * CAPACITY + 8192, LENT = 65536 };
+enum { FIRST, SECOND, PRICE, RESULT, SMALLER, LARGER, CHOSEN }; /* places of the cost table */
+enum { BELOW, WORKED };                                         /* places of the rule table */
+static uint32_t costs[WORDS], rules[WORDS], lent[LENT], out[17];
+static size_t lent_length = LENT;
+static const uint8_t features[16] = {8, 8, 8, 8, 8, 8, 8, 8, 8, 8, 8, 8, 8, 8, 8, 8}, setting[16];
+
+static void taken(uint32_t ending) {
+    if (ending) exit(1);
+}
+
+/* the place adds up a price of 0 to 3 for each feature */
+static void sum_of_prices(size_t place, uint32_t seed) {
+    int64_t prices[8];
+    taken(lampgrotto_cost_constant(costs, WORDS, place, 0));
+    for (size_t k = 0; k < 16; k++) {
+        for (size_t v = 0; v < 8; v++) {
+            seed = seed * 1103515245u + 12345u;
+            prices[v] = (seed >> 16) % 4;
+        }
+        taken(lampgrotto_price(costs, WORDS, PRICE, k, prices, 8));
+        taken(lampgrotto_add(costs, WORDS, lent, LENT, place, place, PRICE));
+    }
+}
+
+static uint32_t tally(void) {
+    taken(lampgrotto_cost_tally(costs, WORDS, out, 1));
+    return out[0];
+}
+
+/* ---- each call, on results that are there, so that it can be made again and again */
+static void adding(void) { sink += lampgrotto_add(costs, WORDS, lent, lent_length, RESULT, FIRST, SECOND); }
+static void scaling(void) { sink += lampgrotto_scale(costs, WORDS, lent, lent_length, RESULT, FIRST, -3); }
+static void lesser(void) { sink += lampgrotto_smaller(costs, WORDS, lent, lent_length, SMALLER, FIRST, SECOND); }
+static void comparing(void) { sink += lampgrotto_less(rules, WORDS, costs, WORDS, lent, lent_length, WORKED, FIRST, SECOND); }
+static void choosing(void) { sink += lampgrotto_choose(costs, WORDS, rules, WORDS, lent, lent_length, SMALLER, BELOW, FIRST, SECOND); }
+static void seeking(void) { sink += lampgrotto_lowest(costs, WORDS, rules, WORDS, lent, lent_length, LARGER, BELOW, out, 17); }
+static void looking(void) { sink += lampgrotto_cost_look_up(costs, WORDS, LARGER, setting, 16, out, 1); }
+static void constant(void) { sink += lampgrotto_cost_constant(costs, WORDS, RESULT, 7); }
+static void summing(void) { sum_words(costs, WORDS); }
+
+static void (*const jobs[])(void) = {looking, constant, adding, scaling, lesser, comparing, choosing, seeking};
+
+int main(void) {
+    taken(lampgrotto_cost_open(costs, WORDS, features, 16, CAPACITY));
+    taken(lampgrotto_open(rules, WORDS, features, 16, CAPACITY));
+    sum_of_prices(FIRST, 1);
+    sum_of_prices(SECOND, 2);
+    taken(lampgrotto_smaller(costs, WORDS, lent, LENT, SMALLER, FIRST, SECOND));
+    taken(lampgrotto_larger(costs, WORDS, lent, LENT, LARGER, FIRST, SECOND));
+    taken(lampgrotto_less(rules, WORDS, costs, WORDS, lent, LENT, BELOW, FIRST, SECOND));
+    uint32_t nodes = tally();
+    taken(lampgrotto_tally(rules, WORDS, out, 1));
+    double unit = best(summing);
+    printf("%u nodes of costs and %u of rules in use; the sum of %d words takes %.0f us\n\n", nodes, out[0], WORDS, unit / 1000);
+    printf("| scratch words | look up | constant | add | scale | smaller | less | choose | lowest |\n|---|---|---|---|---|---|---|---|---|\n");
+    for (lent_length = 0; lent_length <= LENT; lent_length = lent_length ? 4 * lent_length : 1024) {
+        printf("| %zu |", lent_length);
+        for (size_t j = 0; j < sizeof jobs / sizeof *jobs; j++) {
+            printf(" %.1f |", best(jobs[j]) / unit);
+            fflush(stdout);
+        }
+        printf("\n");
+    }
+    return 0;
+}

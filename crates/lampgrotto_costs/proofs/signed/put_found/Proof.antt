@@ -1,0 +1,25 @@
+-- `lampgrotto_costs::signed::put_found` meets its contract: the first word laid is the cost's. Assumes nothing.
+use mathlib.Core.Path.{ap, _∙_}
+use mathlib.Core.List.{_∷_}
+use Prim.Native.Nat.{ℕ}
+use mir.Facts.{toZ-ofZ}
+use Rattle.c_results.specs.Results.{placed}
+use Rattle.lampgrotto_costs.specs.Signed.{signed}
+use borrow.Author.Needs.{needs}
+use Rattle.lampgrotto_costs.proofs.signed.put_found.Statement.{statement}
+use Rattle.lampgrotto_costs.proofs.signed.put_found.Tie as tie
+
+signed-word-requires : tie.Need-signed-word-requires
+signed-word-requires c κs = search needs
+
+put-before-requires : tie.Need-put-before-requires
+put-before-requires c κs = search needs
+
+same-length : tie.Need-same-length
+same-length c = search needs
+
+returns : tie.Need-returns
+returns c = (c .before .before) .put-before .ensures ∙ ap (λ (x : ℕ). placed (x ∷ (c .before .before .before .before .before .before) .args .values) ((c .before .before .before .before .before .before) .args .out .now)) ((c .before .before .before) .signed-word .ensures ∙ ap signed (toZ-ofZ ((c .before .before .before .before .before .before) .fits .z)))
+
+pub put-found-spec : {M : Type 1} → statement M
+put-found-spec = tie.close (tie.spec signed-word-requires put-before-requires same-length returns)

@@ -1,0 +1,58 @@
+// The calls for C that are lent a rule table and a cost table.
+use crate::signed::put_found;
+use settings::outcome_number;
+ghost use Rattle.c_results.specs.Calls.{Wrote};
+ghost use Rattle.both_tables.specs.Choosing.{Chooses};
+ghost use Rattle.both_tables.specs.Comparing.{Compares};
+ghost use Rattle.lampgrotto_costs.specs.Calls.{Found};
+
+// The cost of the place becomes that of the first place where the rule is not 0, else that of the second.
+#[no_mangle]
+pub extern "C" fn lampgrotto_choose(
+    t: &mut [u32],
+    rules: &[u32],
+    scratch: &mut [u32],
+    place: usize,
+    rule: usize,
+    a: usize,
+    b: usize,
+) -> u32
+    ensures { λ r. ⌜ Wrote (Chooses place rule a b (now (rules .entry)) (now (t .entry)) (now (t .exit))) r ⌝ }
+{
+    outcome_number(both_tables::choose(t, rules, scratch, place, rule, a, b))
+}
+
+// The rule of the place becomes 1 where the cost of the first place is below that of the second, else 0.
+#[no_mangle]
+pub extern "C" fn lampgrotto_less(
+    t: &mut [u32],
+    costs: &[u32],
+    scratch: &mut [u32],
+    place: usize,
+    a: usize,
+    b: usize,
+) -> u32
+    ensures { λ r. ⌜ Wrote (Compares place a b (now (costs .entry)) (now (t .entry)) (now (t .exit))) r ⌝ }
+{
+    outcome_number(both_tables::less(t, costs, scratch, place, a, b))
+}
+
+// The lowest cost that the place gives where the rule is not 0, then the first setting that has it: 16 words, its values and 0 past them.
+#[no_mangle]
+pub extern "C" fn lampgrotto_lowest(
+    costs: &[u32],
+    rules: &[u32],
+    scratch: &mut [u32],
+    place: usize,
+    rule: usize,
+    out: &mut [u32],
+) -> u32
+    ensures { λ r. ⌜ Found place rule (now (rules .entry)) (now (costs .entry)) (now (out .entry)) (now (out .exit)) r ⌝ }
+{
+    let r = both_tables::lowest(costs, rules, scratch, place, rule);
+    let s = r.setting;
+    let values = s.values;
+    put_found(out, r.cost, values);
+    let o = r.outcome;
+    outcome_number(o)
+}
