@@ -2,13 +2,12 @@
 use calls::same_features;
 use cost_nodes::arm_of;
 use cost_sound::sound;
+use rule_lending::begin;
 use rule_less::below;
 use rule_sound::sound as rules_sound;
 use settings::Outcome;
 use settings::Refusal;
 use settling::settle;
-use words::head_word;
-use words::wide;
 ghost use mathlib.Core.Path.{_≡_};
 ghost use Prim.Native.Nat.{_<_};
 ghost use Rattle.words.specs.Words.{sizes};
@@ -29,7 +28,7 @@ fn put_below(
     requires { ⌜ (R.Sound (now t)) × (Sound (now costs)) × (sizes (now t) ≡ sizes (now costs)) × (place < 32) × (a < 16) × (b < 16) ⌝ }
     ensures { λ r. ⌜ Puts place (belowAt a b (now (costs .entry))) (now (t .entry)) (now (t .exit)) r ⌝ }
 {
-    let used = wide(head_word(t, 19));
+    let used = begin(t);
     let x = arm_of(costs, a);
     let y = arm_of(costs, b);
     let r = below(costs, t, scratch, x, y);

@@ -1,11 +1,22 @@
-// What a rule table lends to the part above it: the branch of a place, steps down from it, and the feature that it tests.
+// What a rule table lends to the part above it: the branch of a place, steps down from it, the feature that it tests, and where building begins.
 use rule_nodes::child_of;
 use rule_nodes::top_of;
 use rule_words::root_word;
+use words::head_word;
+use words::wide;
+ghost use mathlib.Core.Path.{_≡_};
 ghost use Prim.Native.Nat.{ℕ, _<_};
-ghost use Rattle.words.specs.Words.{features, size};
+ghost use Rattle.words.specs.Words.{features, size, count};
 ghost use Rattle.rule_sound.specs.Sound.{Sound};
 ghost use Rattle.rule_lending.specs.Lending.{Lent, Lends, Roots, Goes, Tops};
+
+// How many nodes there are before a call builds: those after them are what it takes back where there is no room.
+pub fn begin(t: &[u32]) -> usize
+    requires { ⌜ Sound (now t) ⌝ }
+    ensures { λ r. ⌜ r ≡ count (now (t .entry)) ⌝ }
+{
+    wide(head_word(t, 19))
+}
 
 // The branch word of a place.
 pub fn root_of(t: &[u32], place: usize) -> u32
