@@ -114,13 +114,15 @@ impl Args {
     pub fn factor(&mut self, reach: i64) -> i64 {
         let sign = self.rng.pick(&[1, -1]);
         let edge = MOST_COST / reach.max(1);
-        match self.rng.below(8) {
+        match self.rng.below(9) {
             0 => 0,
             1..=2 => sign,
             3 => sign * self.rng.within(2, 5) as i64,
             4 => sign * edge,
             5 => sign * (edge + 1),
             6 => sign * (MOST_COST - self.rng.below(2) as i64),
+            // a divisor of one more than the most
+            7 => sign * ((MOST_COST + 1) / self.rng.pick(&[7, 11, 13, 19])),
             _ => self.amount(),
         }
     }

@@ -221,3 +221,88 @@ pub fn script(seed: u64, scope: Scope) -> Vec<String> {
     }
     maker.lines
 }
+
+#[cfg(test)]
+mod tests {
+    use super::*;
+    use crate::kind::MOST_COST;
+    use std::collections::HashMap;
+
+    /// What commands on costs may be answered: taken, and every refusal that document 01 has for them.
+    const ENDINGS: [(&str, &[&str]); 17] = [
+        ("copen", &["0", "12"]),
+        ("cconstant", &["0", "1", "2", "6"]),
+        ("ccopy", &["0", "1", "2"]),
+        ("price", &["0", "1", "2", "6", "9"]),
+        ("add", &["0", "1", "2", "8", "9"]),
+        ("subtract", &["0", "1", "2", "8", "9"]),
+        ("smaller", &["0", "1", "2", "9"]),
+        ("larger", &["0", "1", "2", "9"]),
+        ("scale", &["0", "1", "2", "6", "8", "9"]),
+        ("choose", &["0", "1", "2", "5", "9"]),
+        ("less", &["0", "1", "2", "5", "9"]),
+        ("lowest", &["0", "1", "2", "5", "11"]),
+        ("clook", &["0", "1", "2", "6"]),
+        ("csame", &["0", "1", "2"]),
+        ("ctally", &["0", "1"]),
+        ("cpoke", &["0"]),
+        ("cword", &["0"]),
+    ];
+
+    /// The seeds of scripts on costs, among so many.
+    fn seeds(count: u64) -> impl Iterator<Item = u64> {
+        (1000..1000 + count).filter(|&s| Scope::All.of(s) == Scope::All)
+    }
+
+    fn ending(desk: &mut Desk, line: &str) -> String {
+        match desk.answer(line) {
+            Expected::Line(answer) => answer.split(' ').take(1).collect(),
+            Expected::Sum(..) => String::new(),
+        }
+    }
+
+    #[test]
+    fn every_ending_is_met() {
+        let mut met: HashMap<(String, String), usize> = HashMap::new();
+        for seed in seeds(160) {
+            let mut desk = Desk::new();
+            for line in script(seed, Scope::All) {
+                let name = line.split(' ').take(1).collect();
+                *met.entry((name, ending(&mut desk, &line))).or_default() += 1;
+            }
+        }
+        for (name, endings) in ENDINGS {
+            let unmet = |e: &&&str| !met.contains_key(&(name.to_string(), e.to_string()));
+            assert_eq!(endings.iter().find(unmet), None, "{name}");
+        }
+    }
+
+    /// The sum of two places at the first setting, where the line adds them.
+    fn first_sum(desk: &Desk, line: &str) -> Option<i64> {
+        let numbers: Vec<usize> = line.strip_prefix("add ")?.split(' ').filter_map(|n| n.parse().ok()).collect();
+        let first = |i: usize| desk.costs.table()?.places.get(*numbers.get(i)?).map(|cost| cost[0]);
+        Some(first(1)? + first(2)?)
+    }
+
+    #[test]
+    fn sums_leave_the_range_at_inner_settings_only() {
+        let mut inner = 0;
+        for seed in seeds(160) {
+            let mut desk = Desk::new();
+            for line in script(seed, Scope::All) {
+                let first = first_sum(&desk, &line);
+                let refused = ending(&mut desk, &line) == "8";
+                inner += usize::from(refused && first.map_or(false, |sum| sum.abs() <= MOST_COST));
+            }
+        }
+        assert!(inner > 30, "{inner}");
+    }
+
+    #[test]
+    fn no_script_is_longer_than_shelf_reads() {
+        for seed in 1000..1064 {
+            let bytes: usize = script(seed, Scope::All).iter().map(|line| line.len() + 1).sum();
+            assert!(bytes <= crate::shelf::MOST_BYTES, "seed {seed}: {bytes}");
+        }
+    }
+}
