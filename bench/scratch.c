@@ -1,4 +1,4 @@
-/* Apply and CASE with more and more scratch: too little makes a call do its work again, and all of it is cleared first. */
+/* Apply and CASE with more and more scratch, which is cleared first; with little, a call remembers on its stack or in the far records. */
 #include "filling.h"
 #include "lampgrotto.h"
 #include "timing.h"
@@ -18,7 +18,7 @@ int main(void) {
     printf("| nodes in use | scratch words | apply us | CASE us |\n|---|---|---|---|\n");
     for (size_t capacity = 256; capacity <= 4096; capacity *= 4) {
         uint32_t nodes = fill(8, capacity, &at);
-        for (size_t each = 4; each <= 256; each *= 4) {
+        for (size_t each = 0; each <= 256; each = each ? 4 * each : 4) {
             lent_length = each * capacity;
             double a = best(applying);
             printf("| %u | %zu | %.0f | %.0f |\n", nodes, lent_length, a / 1000, best(choosing) / 1000);

@@ -22,6 +22,7 @@ use Rattle.cost_sound.specs.Sound.{Sound}
 use Rattle.costs.proofs.Sounding.{sound-root}
 use Rattle.settling.proofs.Settling.{sound-holds as rules-hold}
 use Rattle.cost_settling.proofs.Settling.{sound-holds}
+use Rattle.cost_operations.proofs.Operands.{sound-rest}
 use Rattle.rule_lending.specs.Lending.{lent, Roots}
 use Rattle.cost_choose.specs.Choice.{Choosable}
 use Rattle.rule_less.specs.Less.{Comparable}
@@ -60,6 +61,7 @@ module _ (v w : List ℕ) (q a b : ℕ) {c : ℕ} {x y : Branch costs} (ec : Roo
   pub choosable : Sound w → sizes v ≡ sizes w → a < 16 → b < 16 → Choosable v w c x y
   choosable s e ha hb = record {
     holds = sound-holds s;
+    rest = sound-rest s;
     alike = e;
     rule = ec .there;
     first = place-ok s a ex ha;

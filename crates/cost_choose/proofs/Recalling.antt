@@ -15,6 +15,8 @@ use Rattle.cost_laws.specs.Relative.{bare}
 use Rattle.words.specs.Words.{size, sizes}
 use Rattle.words.proofs.Filling.{grown-nodes}
 use Rattle.words.proofs.Words.{kept-sizes}
+use Rattle.notes.specs.Far.{memory, Aside}
+use Rattle.notes.specs.Plain.{plain}
 use Rattle.rule_lending.specs.Lending.{lent}
 use Rattle.cost_words.specs.Words.{target, branch, nodes}
 use Rattle.cost_nodes.specs.Nodes.{Holds, Good, Makes, Result, arms}
@@ -26,8 +28,9 @@ use Rattle.cost_memory.specs.Memory as M
 use Rattle.cost_memory.specs.declared.Memo.{Memo}
 use Rattle.cost_memory.specs.declared.Memo.the-variants.{Known}
 use Rattle.cost_memory.proofs.Remembering as L
+use Rattle.cost_notes.proofs.Remembering as N
 use Rattle.cost_choose.specs.Choice.{choice, Choices}
-use Rattle.cost_choose.specs.Memory.{Recalled, tagOf, Says, Remembers, Still, StillIf}
+use Rattle.cost_choose.specs.Memory.{Recalled, tagOf, Says, Remembers, Noted, Still, StillIf}
 use Rattle.cost_choose.proofs.Choices.{choice-ext}
 
 -- ---- one result, in a table that holds more
@@ -61,7 +64,7 @@ says-tag v w tag k b x y d z e h g c = record { recalled = go }
         rw (← ek, ← eb) c
 
 -- after `make`
-pub remembers-made : (v w t : List ℕ) (k : ℕ) (xs ys : List ℕ) (r : Answer) (z e : ℕ) (s : List ℕ) → Holds w → Makes w t k xs ys r → r ≡ Is z e → Remembers v w s → Remembers v t s
+remembers-made : (v w t : List ℕ) (k : ℕ) (xs ys : List ℕ) (r : Answer) (z e : ℕ) (s : List ℕ) → Holds w → Makes w t k xs ys r → r ≡ Is z e → Remembers v w s → Remembers v t s
 remembers-made v w t k xs ys r z e s ok m q h =
     let y = gives-is q m in
     let n : Ext (nodes w) (nodes t) = rw (grown-nodes lawful w t _ (y .grown) (y .answers .1)) (make-grows k (arms (size w k) xs ys) (nodes w)) in
@@ -74,19 +77,23 @@ pub hit : (v w : List ℕ) (tag k b x y d : ℕ) (s : List ℕ) (z e : ℕ) (r :
 hit v w tag k b x y d s z e r p h g m c q =
     mean-result w k _ z e (p .holds) (L.hit s tag x y d z e r m c q (omega arith) .recalled k b h g .mean)
 
+-- after `make_in`, wherever the walk remembers
+pub noted-made : (v w t : List ℕ) (k : ℕ) (xs ys : List ℕ) (r : Answer) (z e : ℕ) (s : List ℕ) → Holds (plain w) → Makes (plain w) (plain t) k xs ys r × Aside w t → r ≡ Is z e → Noted v w s → Noted v t s
+noted-made v w t k xs ys r z e s ok m q n = N.noted-made w t s n (m .0 .grown .kept) (m .1) (remembers-made v (plain w) (plain t) k xs ys r z e (memory w s) ok (m .0) q)
+
 -- one more result is remembered
-pub remembers-stored : (v w t : List ℕ) (tag k b x y d z e : ℕ) (s s′ : List ℕ) → Choices v w k b x y (int d) → k < 16 → tag ≡ tagOf k b → Remembers v t s → M.Stored s s′ tag x y d z e →
-    Result w t k (choice (lent v k b) (nodes w) k (target x) (target y) (int d)) (Is z e) → Remembers v t s′
-remembers-stored v w t tag k b x y d z e s s′ p h g m st r =
-    L.remembers-stored tag x y d z e s s′ m st (says-tag v t tag k b x y d z e h g (result-recalled v w t k b x y d z e p r))
+pub noted-stored : (v w t t′ s s′ : List ℕ) (tag k b x y d z e : ℕ) → Choices v (plain w) k b x y (int d) → k < 16 → tag ≡ tagOf k b → Noted v t s → (plain t′ ≡ plain t) × M.Stored (memory t s) (memory t′ s′) tag x y d z e →
+    Result (plain w) (plain t) k (choice (lent v k b) (nodes (plain w)) k (target x) (target y) (int d)) (Is z e) → Noted v t′ s′
+noted-stored v w t t′ s s′ tag k b x y d z e p h g n m r =
+    N.noted-stored t t′ s s′ tag x y d z e n m (says-tag v (plain t) tag k b x y d z e h g (result-recalled v (plain w) (plain t) k b x y d z e p r))
 
 -- ---- what the calls leave
-pub still : (v w s : List ℕ) (a : Answer) (z e : ℕ) → a ≡ Is z e → Still v w s a → Remembers v w s
+pub still : (v w s : List ℕ) (a : Answer) (z e : ℕ) → a ≡ Is z e → Still v w s a → Noted v w s
 still v w s a z e q h = subst (λ (y : Answer). Still v w s y) q h
 
-pub still-there : (v w s : List ℕ) (a : Answer) → Remembers v w s → Still v w s a
+pub still-there : (v w s : List ℕ) (a : Answer) → Noted v w s → Still v w s a
 still-there v w s (Is z e) m = m
 still-there v w s NoRoom m = tt
 
-pub still-if : (v w s : List ℕ) (b : Bool) → b ≡ true → StillIf v w s b → Remembers v w s
+pub still-if : (v w s : List ℕ) (b : Bool) → b ≡ true → StillIf v w s b → Noted v w s
 still-if v w s b e h = subst (λ (y : Bool). StillIf v w s y) e h

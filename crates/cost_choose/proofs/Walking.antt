@@ -6,7 +6,7 @@ use Prim.Native.Nat.{ℕ, zero, suc, _+_, _-_, _≤_, _<_}
 use native.Mathlib.Numerals.{add-one}
 use native.Mathlib.Omega.{arith}
 use lib.IntN.{ℤ, pos, _+ℤ_, _-ℤ_, +ℤ-idl}
-use lib.ListN.{length, drop}
+use lib.ListN.{drop}
 use Rattle.theory.specs.Build.{Built, Ext}
 use Rattle.theory.specs.Costs.{Cost, costs}
 use Rattle.theory.specs.Diagrams.{Branch, Node, meaning, up}
@@ -33,7 +33,10 @@ use Rattle.words.specs.Holding.{built as builtOf}
 use Rattle.words.specs.Words.{features, size, sizes}
 use Rattle.words.proofs.Filling as F
 use Rattle.words.proofs.Tab.{split}
-use Rattle.words.proofs.Words.{length-sizes, at-sizes, kept-features, kept-sizes}
+use Rattle.words.proofs.Words.{length-sizes, kept-features, kept-sizes}
+use Rattle.calls.proofs.Lists.{as-long, as-large}
+use Rattle.notes.specs.Plain.{Resting, plain}
+use Rattle.notes.proofs.Plain.{plain-of}
 use Rattle.rule_lending.specs.Lending.{Lent, lent, Goes, Tops}
 use Rattle.rule_lending.proofs.Lending.{lent-up-to, lent-end, lent-phrase}
 use Rattle.cost_words.specs.Words.{target, branch, nodes}
@@ -46,13 +49,6 @@ use Rattle.cost_nodes.proofs.Stepping.{good-small, top-good, top-most}
 use Rattle.cost_nodes.proofs.Filling.{filling-ext}
 use Rattle.cost_choose.specs.Choice.{by, Choosable, choice, choiceOf, endOf, Choices, Branches, Lowest}
 use Rattle.cost_choose.proofs.Choices.{by-moves, choice-step, choice-wait, choice-ext, choice-first, choice-second, choice-spread, choice-adds}
-
--- ---- two tables over the same features
-same-features : (v w : List ℕ) → sizes v ≡ sizes w → features v ≡ features w
-same-features v w e = sym (length-sizes v) ∙ ap length e ∙ length-sizes w
-
-same-size : (v w : List ℕ) (k : ℕ) → sizes v ≡ sizes w → k < features w → size v k ≡ size w k
-same-size v w k e h = sym (at-sizes v k (omega (arith, same-features v w e))) ∙ rw e (at-sizes w k h)
 
 -- ---- features that none of the three tests
 pub lowest-is : (v w : List ℕ) (b x y m n : ℕ) → ((k : ℕ) → Lent v k b → Tops v k b n) → m ≤ n → m ≤ top w x → m ≤ top w y → Lowest v w b x y m
@@ -151,7 +147,7 @@ module _ (v w : List ℕ) (k b x y : ℕ) (d : ℤ) (p : Choices v w k b x y d) 
   pub still-left : (b < 65536 → ⊥) → k < features w
   still-left n = ⊎-elim (λ l. l)
       (λ l.
-      let e : k ≡ features v = omega (arith, lent-up-to (p .rule), same-features v w (p .alike)) in
+      let e : k ≡ features v = omega (arith, lent-up-to (p .rule), as-long v w (p .alike)) in
       absurd (n (lent-end (subst (λ (j : ℕ). Lent v j b) e (p .rule)))))
       (split k (features w))
 
@@ -163,7 +159,7 @@ module _ (v w : List ℕ) (k b x y : ℕ) (d : ℤ) (p : Choices v w k b x y d) 
 
   -- `branch_at` may be asked
   pub rule-step : (u : ℕ) → k < features w → u < size w k → (k < features v) × (u < size v k)
-  rule-step u h l = (omega (arith, same-features v w (p .alike)), omega (arith, same-size v w k (p .alike) h))
+  rule-step u h l = let f : k < features v = omega (arith, as-long v w (p .alike)) in (f, omega (arith, as-large v w (p .alike) k f h))
 
   -- the branch of the choice at u is the choice of the branches at u, ..
   held-at : (N : List (Node costs)) (u c xa a yb e : ℕ) → Goes v k b u c → branch xa a ≡ branchAt N k (target x) u → branch yb e ≡ branchAt N k (target y) u → (s : List ℕ) →
@@ -311,3 +307,14 @@ module _ (v w : List ℕ) (b x a y c : ℕ) (p : Choosable v w b (branch x a) (b
 
   pub choice-start : (d : ℤ) → d ≡ pos 0 → (t : List ℕ) (r : Answer) → Result w t 0 (choiceOf (lent v 0 b) (nodes w) 0 (branch x a) (branch y c) d) r → Result w t 0 X r
   choice-start d e t r q = F.gives-eq lawful (built-start d e) q
+
+-- at rest the walk starts from the words without notes ..
+pub choosable-plain : (v w : List ℕ) (b : ℕ) (x y : Branch costs) → Choosable v w b x y → Choosable v (plain w) b x y
+choosable-plain v w b x y p = subst (λ (u : List ℕ). Choosable v u b x y) (sym (plain-of w (p .rest .empty))) p
+
+-- .. and its result, with the far records 0 again, is that of the table
+pub choice-cleared : (v w t u : List ℕ) (b : ℕ) (x y : Branch costs) (r : Answer) → Resting w → u ≡ plain t → Result (plain w) (plain t) 0 (chosen (lent v 0 b) (meaning (nodes (plain w)) x) (meaning (nodes (plain w)) y)) r →
+    Result w u 0 (chosen (lent v 0 b) (meaning (nodes w) x) (meaning (nodes w) y)) r
+choice-cleared v w t u b x y r z e g =
+    subst (λ (o : List ℕ). Result w o 0 (chosen (lent v 0 b) (meaning (nodes w) x) (meaning (nodes w) y)) r) (sym e)
+    (subst (λ (o : List ℕ). Result o (plain t) 0 (chosen (lent v 0 b) (meaning (nodes o) x) (meaning (nodes o) y)) r) (plain-of w (z .empty)) g)

@@ -15,15 +15,17 @@ use Rattle.cost_laws.specs.Operations.{chosenOf}
 use Rattle.cost_laws.specs.Range.{Within, addMost, costMost}
 use Rattle.cost_laws.specs.Relative.{apartFrom, onward}
 use Rattle.words.specs.Words.{features, sizes}
+use Rattle.notes.specs.Plain.{Resting}
 use Rattle.rule_lending.specs.Lending.{Lent, lent}
 use Rattle.cost_words.specs.Words.{target, branch, nodes}
 use Rattle.cost_nodes.specs.Nodes.{Holds, Good, built, top}
 use Rattle.cost_nodes.specs.declared.Answer.{Answer}
 use Rattle.cost_nodes.specs.declared.Answer.the-variants.{Is}
 
--- what `choose_costs` requires: a branch of the rule table v and two of the cost table w over the same features, both costs in range
+-- what `choose_costs` requires: a branch of the rule table v and two of the cost table w, which is at rest, over the same features, both costs in range
 pub record Choosable (v w : List ℕ) (b : ℕ) (x y : Branch costs) : Type 0 where
   pub holds : Holds w
+  pub rest : Resting w
   pub alike : sizes v ≡ sizes w
   pub rule : Lent v 0 b
   pub first : Ok (nodes w) 0 x

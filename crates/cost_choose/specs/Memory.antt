@@ -1,4 +1,4 @@
--- What the scratch words remember of CHOOSE: under the tag of a feature and a branch of the rule, two targets and their difference, the result's words. Assumes nothing.
+-- What is remembered of CHOOSE: under the tag of a feature and a branch of the rule, two targets and their difference, the result's words. Assumes nothing.
 use mathlib.Core.Bool.{Bool, true, false}
 use mathlib.Core.Path.{_≡_}
 use mathlib.Core.List.{List}
@@ -13,6 +13,7 @@ use Rattle.cost_nodes.specs.Nodes.{Good}
 use Rattle.cost_nodes.specs.declared.Answer.{Answer}
 use Rattle.cost_nodes.specs.declared.Answer.the-variants.{Is, NoRoom}
 use Rattle.cost_memory.specs.Memory as M
+use Rattle.cost_notes.specs.Noted as N
 use Rattle.cost_choose.specs.Choice.{choice}
 
 -- the branch of the words z and e is the choice, by the rule's branch b, of the targets x and y with the difference d, from feature k on
@@ -33,11 +34,15 @@ pub record Says (v w : List ℕ) (tag x y d z e : ℕ) : Type 0 where
 abbrev pub Remembers : List ℕ → List ℕ → List ℕ → Type 0
 Remembers v w s = M.Remembers (Says v w) s
 
--- after a call that had room the memory is right for the table that it left
+-- so is what a walk over the cost table w remembers, there or in the scratch s
+abbrev pub Noted : List ℕ → List ℕ → List ℕ → Type 0
+Noted v w s = N.Noted (Says v) w s
+
+-- as it is after a call that had room
 abbrev pub Still : List ℕ → List ℕ → List ℕ → Answer → Type 0
-Still v w s (Is z e) = Remembers v w s
+Still v w s (Is z e) = Noted v w s
 Still v w s NoRoom = Unit {0}
 
 abbrev pub StillIf : List ℕ → List ℕ → List ℕ → Bool → Type 0
-StillIf v w s true = Remembers v w s
+StillIf v w s true = Noted v w s
 StillIf v w s false = Unit {0}

@@ -1,15 +1,16 @@
-// The engine of CHOOSE: where a rule of a lent rule table is not 0 the first of two costs, else the second, with remembered results in lent scratch words.
+// The engine of CHOOSE: where a rule of a lent rule table is not 0 the first of two costs, else the second, with remembered results in lent scratch words or in the far records.
 use cost_memory::Memo;
-use cost_memory::clear;
-use cost_memory::recall;
-use cost_memory::remember;
 use cost_nodes::Answer;
 use cost_nodes::Arm;
-use cost_nodes::arm_at;
-use cost_nodes::make;
-use cost_nodes::top_of;
+use cost_notes::arm_in;
+use cost_notes::lowest;
+use cost_notes::make_in;
+use cost_notes::recall_in;
+use cost_notes::remember_in;
 use cost_words::difference_word;
 use cost_words::sum_word;
+use notes::clear;
+use notes::clear_far;
 use rule_lending::branch_at;
 use rule_lending::top_at;
 use words::head_word;
@@ -22,11 +23,12 @@ ghost use Rattle.cost_laws.specs.Integers.{int};
 ghost use Rattle.cost_laws.specs.Operations.{chosen};
 ghost use Rattle.words.specs.Words.{features, count};
 ghost use Rattle.records.specs.Laid.{Laid};
+ghost use Rattle.notes.specs.Plain.{plain};
 ghost use Rattle.rule_lending.specs.Lending.{lent, Lends};
 ghost use Rattle.cost_words.specs.Words.{target, branch, nodes};
 ghost use Rattle.cost_nodes.specs.Nodes.{Result, Fills};
 ghost use Rattle.cost_choose.specs.Choice.{Choosable, choice, choiceOf, endOf, Choices, Branches, Lowest};
-ghost use Rattle.cost_choose.specs.Memory.{tagOf, Remembers, Still, StillIf};
+ghost use Rattle.cost_choose.specs.Memory.{tagOf, Noted, Still, StillIf};
 
 // The lists of a node's branches, or that there was no room for them.
 struct Filled {
@@ -43,11 +45,11 @@ fn lower(a: usize, b: usize) -> usize
 }
 
 // The lowest feature that the rule's branch or one of two targets tests.
-fn lowest(r: &[u32], t: &[u32], b: u32, x: u32, y: u32) -> usize
-    requires { ⌜ (Lends (now r) b) × (Laid (now t)) × (x ≤ count (now t)) × (y ≤ count (now t)) ⌝ }
-    ensures { λ m. ⌜ Lowest (now (r .entry)) (now (t .entry)) b x y m ⌝ }
+fn lowest_of(r: &[u32], t: &[u32], b: u32, x: u32, y: u32) -> usize
+    requires { ⌜ (Lends (now r) b) × (Laid (plain (now t))) × (x ≤ count (plain (now t))) × (y ≤ count (plain (now t))) ⌝ }
+    ensures { λ m. ⌜ Lowest (now (r .entry)) (plain (now (t .entry))) b x y m ⌝ }
 {
-    lower(top_at(r, b), lower(top_of(t, x), top_of(t, y)))
+    lower(top_at(r, b), lowest(t, x, y))
 }
 
 // The tag that the results for feature k and the rule's branch b are remembered under.
@@ -79,18 +81,18 @@ fn rest_result(
     y: u32,
     d: u32,
 ) -> Answer
-    requires { ⌜ (Choices (now r) (now t) k b x y (int d)) × (Remembers (now r) (now t) (now s)) ⌝ }
-    ensures { λ a. ⌜ (Result (now (t .entry)) (now (t .exit)) k (choice (lent (now (r .entry)) k b) (nodes (now (t .entry))) k (target x) (target y) (int d)) a) × (Still (now (r .entry)) (now (t .exit)) (now (s .exit)) a) ⌝ }
+    requires { ⌜ (Choices (now r) (plain (now t)) k b x y (int d)) × (Noted (now r) (now t) (now s)) ⌝ }
+    ensures { λ a. ⌜ (Result (plain (now (t .entry))) (plain (now (t .exit))) k (choice (lent (now (r .entry)) k b) (nodes (plain (now (t .entry)))) k (target x) (target y) (int d)) a) × (Still (now (r .entry)) (now (t .exit)) (now (s .exit)) a) ⌝ }
 {
     if b < 65536 {
         return ended(b, x, y, d);
     }
-    let m = lowest(r, t, b, x, y);
+    let m = lowest_of(r, t, b, x, y);
     if k < m {
         return rest_result(r, t, s, m, b, x, y, d);
     }
     let tag = tag_of(k, b);
-    let memo = recall(s, tag, x, y, d);
+    let memo = recall_in(t, s, tag, x, y, d);
     if let Memo::Known(z, e) = memo {
         return Answer::Is(z, e);
     }
@@ -98,10 +100,10 @@ fn rest_result(
     if filled.ok {
         let goes = filled.goes;
         let adds = filled.adds;
-        let Answer::Is(z, e) = make(t, k, goes, adds) else {
+        let Answer::Is(z, e) = make_in(t, k, goes, adds) else {
             return Answer::NoRoom;
         };
-        remember(s, tag, x, y, d, z, e);
+        remember_in(t, s, tag, x, y, d, z, e);
         return Answer::Is(z, e);
     }
     Answer::NoRoom
@@ -118,8 +120,8 @@ fn fill_branches(
     y: u32,
     d: u32,
 ) -> Filled
-    requires { ⌜ (Choices (now r) (now t) k b x y (int d)) × (Remembers (now r) (now t) (now s)) × (k < features (now t)) ⌝ }
-    ensures { λ a. ⌜ (Fills (now (t .entry)) (now (t .exit)) k (choice (lent (now (r .entry)) k b) (nodes (now (t .entry))) k (target x) (target y) (int d)) (a .ok) (a .goes) (a .adds)) × (StillIf (now (r .entry)) (now (t .exit)) (now (s .exit)) (a .ok)) ⌝ }
+    requires { ⌜ (Choices (now r) (plain (now t)) k b x y (int d)) × (Noted (now r) (now t) (now s)) × (k < features (plain (now t))) ⌝ }
+    ensures { λ a. ⌜ (Fills (plain (now (t .entry))) (plain (now (t .exit))) k (choice (lent (now (r .entry)) k b) (nodes (plain (now (t .entry)))) k (target x) (target y) (int d)) (a .ok) (a .goes) (a .adds)) × (StillIf (now (r .entry)) (now (t .exit)) (now (s .exit)) (a .ok)) ⌝ }
 {
     let n = wide(head_word(t, 3 + k));
     let mut goes = [0u32; 8];
@@ -127,8 +129,8 @@ fn fill_branches(
     let mut v: usize = 0;
     while v < n {
         let c = branch_at(r, k, b, v);
-        let p = arm_at(t, k, x, v);
-        let q = arm_at(t, k, y, v);
+        let p = arm_in(t, k, x, v);
+        let q = arm_in(t, k, y, v);
         let Answer::Is(z, e) = branch_result(r, t, s, k + 1, c, p, q, d) else {
             return Filled {
                 ok: false,
@@ -158,8 +160,8 @@ fn branch_result(
     q: Arm,
     d: u32,
 ) -> Answer
-    requires { ⌜ (Branches (now r) (now t) k b (p .to) (p .adds) (q .to) (q .adds) (int d)) × (Remembers (now r) (now t) (now s)) ⌝ }
-    ensures { λ a. ⌜ (Result (now (t .entry)) (now (t .exit)) k (choiceOf (lent (now (r .entry)) k b) (nodes (now (t .entry))) k (branch (p .to) (p .adds)) (branch (q .to) (q .adds)) (int d)) a) × (Still (now (r .entry)) (now (t .exit)) (now (s .exit)) a) ⌝ }
+    requires { ⌜ (Branches (now r) (plain (now t)) k b (p .to) (p .adds) (q .to) (q .adds) (int d)) × (Noted (now r) (now t) (now s)) ⌝ }
+    ensures { λ a. ⌜ (Result (plain (now (t .entry))) (plain (now (t .exit))) k (choiceOf (lent (now (r .entry)) k b) (nodes (plain (now (t .entry)))) k (branch (p .to) (p .adds)) (branch (q .to) (q .adds)) (int d)) a) × (Still (now (r .entry)) (now (t .exit)) (now (s .exit)) a) ⌝ }
 {
     let g = difference_word(sum_word(d, q.adds), p.adds);
     let Answer::Is(z, e) = rest_result(r, t, s, k, b, p.to, q.to, g) else {
@@ -168,15 +170,28 @@ fn branch_result(
     Answer::Is(z, sum_word(p.adds, e))
 }
 
-// The chosen cost of two branches by the rule of the branch b, built after the table's nodes. Whatever the scratch holds, it is emptied first; where it is short, own words serve.
+// The chosen cost of two branches by the rule of the branch b, built after the table's nodes, with remembered results in s or in the far records,
+// which are 0 again.
+fn choose_in(r: &[u32], t: &mut [u32], s: &mut [u32], b: u32, x: Arm, y: Arm) -> Answer
+    requires { ⌜ Choosable (now r) (now t) b (branch (x .to) (x .adds)) (branch (y .to) (y .adds)) ⌝ }
+    ensures { λ a. ⌜ Result (now (t .entry)) (now (t .exit)) 0 (chosen (lent (now (r .entry)) 0 b) (meaning (nodes (now (t .entry))) (branch (x .to) (x .adds))) (meaning (nodes (now (t .entry))) (branch (y .to) (y .adds)))) a ⌝ }
+{
+    clear(s);
+    let a = branch_result(r, t, s, 0, b, x, y, 2147483648);
+    clear_far(t);
+    a
+}
+
+// The same; where the scratch and the far records are short, own words stand in for the scratch.
 pub fn choose_costs(r: &[u32], t: &mut [u32], s: &mut [u32], b: u32, x: Arm, y: Arm) -> Answer
     requires { ⌜ Choosable (now r) (now t) b (branch (x .to) (x .adds)) (branch (y .to) (y .adds)) ⌝ }
     ensures { λ a. ⌜ Result (now (t .entry)) (now (t .exit)) 0 (chosen (lent (now (r .entry)) 0 b) (meaning (nodes (now (t .entry))) (branch (x .to) (x .adds))) (meaning (nodes (now (t .entry))) (branch (y .to) (y .adds)))) a ⌝ }
 {
-    if s.len() < 6144 {
-        let mut own = [0u32; 6144];
-        return branch_result(r, t, &mut own, 0, b, x, y, 2147483648);
+    if head_word(t, 1) < 384 {
+        if s.len() < 6144 {
+            let mut own = [0u32; 6144];
+            return choose_in(r, t, &mut own, b, x, y);
+        }
     }
-    clear(s);
-    branch_result(r, t, s, 0, b, x, y, 2147483648)
+    choose_in(r, t, s, b, x, y)
 }

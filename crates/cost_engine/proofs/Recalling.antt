@@ -15,6 +15,7 @@ use Rattle.cost_laws.specs.Relative.{bare}
 use Rattle.words.specs.Words.{size, sizes}
 use Rattle.words.proofs.Filling.{grown-nodes}
 use Rattle.words.proofs.Words.{kept-sizes}
+use Rattle.notes.specs.Plain.{plain}
 use Rattle.cost_words.specs.Words.{target, branch, nodes}
 use Rattle.cost_nodes.specs.Nodes.{Holds, Makes, Result, arms}
 use Rattle.cost_nodes.specs.declared.Answer.{Answer}
@@ -23,7 +24,9 @@ use Rattle.cost_nodes.proofs.Reading.{lawful}
 use Rattle.cost_nodes.proofs.Filling.{gives-is, result-ext, result-mean, mean-result}
 use Rattle.cost_engine.specs.Joint.{jointFrom, Operands}
 use Rattle.cost_memory.proofs.Remembering.{remembers-map}
-use Rattle.cost_engine.specs.Memory.{Recalled, Right, Remembers, Still, StillIf}
+use Rattle.notes.specs.Far.{memory, Aside}
+use Rattle.cost_notes.proofs.Remembering as N
+use Rattle.cost_engine.specs.Memory.{Recalled, Right, Remembers, Noted, Still, StillIf}
 use Rattle.cost_engine.specs.declared.operators.Operator.{Operator}
 use Rattle.cost_engine.proofs.Joining.{joint-ext}
 
@@ -51,7 +54,7 @@ result-recalled w t o k x y d z e p r =
 
 -- ---- the memory
 -- an entry says one result
-pub right-here : (w : List ℕ) (o : Operator) (tag k x y d z e : ℕ) → tag ≡ k + 1 → Recalled w o k x y d z e → Right w o tag x y d z e
+pub right-here : (w : List ℕ) (o : Operator) (tag k x y d z e : ℕ) → tag ≡ k + 1 → Recalled w o k x y d z e → Right o w tag x y d z e
 right-here w o tag k x y d z e q c = record { at = λ j h. let n : k ≡ j = omega arith in rw (← n) c }
 
 remembers-more : (w t : List ℕ) (o : Operator) (s : List ℕ) → Holds w → sizes t ≡ sizes w → Ext (nodes w) (nodes t) → Remembers w o s → Remembers t o s
@@ -59,20 +62,24 @@ remembers-more w t o s ok z m h =
     remembers-map s (λ tag x y d a e r. record { at = λ k q. recalled-more w t o k x y d a e ok z m (r .at k q) }) h
 
 -- after `make`
-pub remembers-made : (w t : List ℕ) (k : ℕ) (xs ys : List ℕ) (r : Answer) (z e : ℕ) (o : Operator) (s : List ℕ) → Holds w → Makes w t k xs ys r → r ≡ Is z e → Remembers w o s → Remembers t o s
+remembers-made : (w t : List ℕ) (k : ℕ) (xs ys : List ℕ) (r : Answer) (z e : ℕ) (o : Operator) (s : List ℕ) → Holds w → Makes w t k xs ys r → r ≡ Is z e → Remembers w o s → Remembers t o s
 remembers-made w t k xs ys r z e o s ok m q h =
     let y = gives-is q m in
     remembers-more w t o s ok (kept-sizes w t (y .grown .kept) (ok .laid .laid .few))
     (rw (grown-nodes lawful w t _ (y .grown) (y .answers .1)) (make-grows k (arms (size w k) xs ys) (nodes w))) h
 
 -- a hit is the result
-pub recalled-result : (w : List ℕ) (o : Operator) (tag k x y d z e : ℕ) → Operands w o k x y (int d) → tag ≡ k + 1 → Right w o tag x y d z e →
+pub recalled-result : (w : List ℕ) (o : Operator) (tag k x y d z e : ℕ) → Operands w o k x y (int d) → tag ≡ k + 1 → Right o w tag x y d z e →
     Result w w k (jointFrom o (nodes w) k (target x) (target y) (int d)) (Is z e)
 recalled-result w o tag k x y d z e p q r = mean-result w k (jointFrom o (nodes w) k (target x) (target y) (int d)) z e (p .holds) (r .at k q .mean)
 
+-- after `make_in`, wherever the walk remembers
+pub noted-made : (w t : List ℕ) (k : ℕ) (xs ys : List ℕ) (r : Answer) (z e : ℕ) (o : Operator) (s : List ℕ) → Holds (plain w) → Makes (plain w) (plain t) k xs ys r × Aside w t → r ≡ Is z e → Noted w o s → Noted t o s
+noted-made w t k xs ys r z e o s ok m q n = N.noted-made w t s n (m .0 .grown .kept) (m .1) (remembers-made (plain w) (plain t) k xs ys r z e o (memory w s) ok (m .0) q)
+
 -- ---- what the calls leave
-pub still : (w : List ℕ) (o : Operator) (s : List ℕ) (a : Answer) (z e : ℕ) → a ≡ Is z e → Still w o s a → Remembers w o s
+pub still : (w : List ℕ) (o : Operator) (s : List ℕ) (a : Answer) (z e : ℕ) → a ≡ Is z e → Still w o s a → Noted w o s
 still w o s a z e q h = subst (λ (y : Answer). Still w o s y) q h
 
-pub still-if : (w : List ℕ) (o : Operator) (s : List ℕ) (b : Bool) → b ≡ true → StillIf w o s b → Remembers w o s
+pub still-if : (w : List ℕ) (o : Operator) (s : List ℕ) (b : Bool) → b ≡ true → StillIf w o s b → Noted w o s
 still-if w o s b e h = subst (λ (y : Bool). StillIf w o s y) e h

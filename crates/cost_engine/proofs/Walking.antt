@@ -25,6 +25,8 @@ use Rattle.words.specs.Holding.{built as builtOf}
 use Rattle.words.specs.Words.{features, size, sizes}
 use Rattle.words.proofs.Filling as F
 use Rattle.words.proofs.Words.{length-sizes, kept-features, kept-sizes}
+use Rattle.notes.specs.Plain.{Resting, plain}
+use Rattle.notes.proofs.Plain.{plain-of}
 use Rattle.cost_words.specs.Words.{target, branch, nodes}
 use Rattle.cost_words.proofs.Packing.{target-end}
 use Rattle.cost_nodes.specs.Nodes.{Holds, Good, top, Place, built, Result, Filling}
@@ -220,3 +222,14 @@ module _ (w : List ℕ) (o : Operator) (x a y b : ℕ) (p : Joinable w o (branch
       F.gives-eq lawful
       (build-agree 0 (sizes w) (together o (meaning (nodes w) (branch x a)) (meaning (nodes w) (branch y b))) (joint o (nodes w) 0 (branch x a) (branch y b) d)
       (λ s v. sym (ap (λ (z : ℤ). joint o (nodes w) 0 (branch x a) (branch y b) z s) e ∙ joint-none o (nodes w) 0 (branch x a) (branch y b) d s)) (nodes w)) g
+
+-- at rest the walk starts from the words without notes ..
+pub joinable-plain : (w : List ℕ) (o : Operator) (b c : Branch costs) → Joinable w o b c → Joinable (plain w) o b c
+joinable-plain w o b c p = subst (λ (u : List ℕ). Joinable u o b c) (sym (plain-of w (p .rest .empty))) p
+
+-- .. and its result, with the far records 0 again, is that of the table
+pub joint-cleared : (w t u : List ℕ) (o : Operator) (b c : Branch costs) (r : Answer) → Resting w → u ≡ plain t → Result (plain w) (plain t) 0 (together o (meaning (nodes (plain w)) b) (meaning (nodes (plain w)) c)) r →
+    Result w u 0 (together o (meaning (nodes w) b) (meaning (nodes w) c)) r
+joint-cleared w t u o b c r z e g =
+    subst (λ (v : List ℕ). Result w v 0 (together o (meaning (nodes w) b) (meaning (nodes w) c)) r) (sym e)
+    (subst (λ (v : List ℕ). Result v (plain t) 0 (together o (meaning (nodes v) b) (meaning (nodes v) c)) r) (plain-of w (z .empty)) g)

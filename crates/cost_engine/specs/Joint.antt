@@ -14,6 +14,7 @@ use Rattle.cost_laws.specs.Operations.{joined, smallerOf, largerOf}
 use Rattle.cost_laws.specs.Range.{Within, addMost, costMost}
 use Rattle.cost_laws.specs.Relative.{bare, onward}
 use Rattle.words.specs.Words.{features, sizes}
+use Rattle.notes.specs.Plain.{Resting}
 use Rattle.cost_words.specs.Words.{target, branch, nodes}
 use Rattle.cost_nodes.specs.Nodes.{Holds, Good}
 use Rattle.cost_engine.specs.declared.operators.Operator.{Operator}
@@ -31,9 +32,10 @@ opOf (Scale c) x y = x *ℤ int c
 abbrev pub together : Operator → Cost → Cost → Cost
 together o f g = joined (opOf o) f g
 
--- what `join_costs` requires: both branches are of the table, and both costs and the result lie in range
+-- what `join_costs` requires: both branches are of the table, which is at rest, and both costs and the result lie in range
 pub record Joinable (w : List ℕ) (o : Operator) (b c : Branch costs) : Type 0 where
   pub holds : Holds w
+  pub rest : Resting w
   pub first : Ok (nodes w) 0 b
   pub second : Ok (nodes w) 0 c
   pub firstIn : Within costMost (sizes w) (meaning (nodes w) b)

@@ -12,6 +12,7 @@ use Rattle.cost_nodes.specs.Nodes.{Good}
 use Rattle.cost_nodes.specs.declared.Answer.{Answer}
 use Rattle.cost_nodes.specs.declared.Answer.the-variants.{Is, NoRoom}
 use Rattle.cost_memory.specs.Memory as M
+use Rattle.cost_notes.specs.Noted as N
 use Rattle.cost_engine.specs.Joint.{jointFrom}
 use Rattle.cost_engine.specs.declared.operators.Operator.{Operator}
 
@@ -22,17 +23,21 @@ pub record Recalled (w : List ℕ) (o : Operator) (k x y d z e : ℕ) : Type 0 w
   pub mean : Mean (nodes w) k (drop k (sizes w)) (branch z e) (jointFrom o (nodes w) k (target x) (target y) (int d))
 
 -- an entry is right for the table w: its tag is the feature + 1
-pub record Right (w : List ℕ) (o : Operator) (tag x y d z e : ℕ) : Type 0 where
+pub record Right (o : Operator) (w : List ℕ) (tag x y d z e : ℕ) : Type 0 where
   pub at : (k : ℕ) → tag ≡ k + 1 → Recalled w o k x y d z e
 
 abbrev pub Remembers : List ℕ → Operator → List ℕ → Type 0
-Remembers w o s = M.Remembers (Right w o) s
+Remembers w o s = M.Remembers (Right o w) s
 
--- after a call that had room the memory is right for the table that it left
+-- so is what a walk over the table w remembers, there or in the scratch s
+abbrev pub Noted : List ℕ → Operator → List ℕ → Type 0
+Noted w o s = N.Noted (Right o) w s
+
+-- as it is after a call that had room
 abbrev pub Still : List ℕ → Operator → List ℕ → Answer → Type 0
-Still w o s (Is z e) = Remembers w o s
+Still w o s (Is z e) = Noted w o s
 Still w o s NoRoom = Unit {0}
 
 abbrev pub StillIf : List ℕ → Operator → List ℕ → Bool → Type 0
-StillIf w o s true = Remembers w o s
+StillIf w o s true = Noted w o s
 StillIf w o s false = Unit {0}

@@ -1,16 +1,17 @@
-// The engine of costs: one walk serves add, subtract, smaller, larger and scale on a cost table, with remembered results in lent scratch words.
+// The engine of costs: one walk serves add, subtract, smaller, larger and scale on a cost table, with remembered results in lent scratch words or in the far records.
 mod operators; // operators.rt: the operators in words that stand for integers
 
 use cost_memory::Memo;
-use cost_memory::clear;
-use cost_memory::recall;
-use cost_memory::remember;
 use cost_nodes::Answer;
 use cost_nodes::Arm;
-use cost_nodes::arm_at;
-use cost_nodes::make;
-use cost_nodes::top_of;
+use cost_notes::arm_in;
+use cost_notes::lowest;
+use cost_notes::make_in;
+use cost_notes::recall_in;
+use cost_notes::remember_in;
 use cost_words::sum_word;
+use notes::clear;
+use notes::clear_far;
 pub use operators::Operator;
 use operators::ahead_word;
 use operators::end_word;
@@ -18,31 +19,21 @@ use operators::gap_word;
 use words::head_word;
 use words::narrow;
 use words::wide;
-ghost use Prim.Native.Nat.{ℕ, _≤_, _<_};
+ghost use Prim.Native.Nat.{_<_};
 ghost use Rattle.theory.specs.Diagrams.{meaning};
 ghost use Rattle.cost_laws.specs.Integers.{int};
-ghost use Rattle.words.specs.Words.{features, count};
-ghost use Rattle.records.specs.Laid.{Laid};
+ghost use Rattle.words.specs.Words.{features};
+ghost use Rattle.notes.specs.Plain.{plain};
 ghost use Rattle.cost_words.specs.Words.{target, branch, nodes};
-ghost use Rattle.cost_nodes.specs.Nodes.{top, Result, Fills};
+ghost use Rattle.cost_nodes.specs.Nodes.{Result, Fills};
 ghost use Rattle.cost_engine.specs.Joint.{together, Joinable, joint, jointFrom, Operands, Branches};
-ghost use Rattle.cost_engine.specs.Memory.{Remembers, Still, StillIf};
+ghost use Rattle.cost_engine.specs.Memory.{Noted, Still, StillIf};
 
 // The lists of a node's branches, or that there was no room for them.
 struct Filled {
     ok: bool,
     goes: [u32; 8],
     adds: [u32; 8],
-}
-
-// The lowest feature that one of two targets tests.
-pub fn lowest(t: &[u32], x: u32, y: u32) -> usize
-    requires { ⌜ (Laid (now t)) × (x ≤ count (now t)) × (y ≤ count (now t)) ⌝ }
-    ensures { λ r. ⌜ (r ≤ top (now (t .entry)) x) × (r ≤ top (now (t .entry)) y) × ((z : ℕ) → z ≤ top (now (t .entry)) x → z ≤ top (now (t .entry)) y → z ≤ r) ⌝ }
-{
-    let a = top_of(t, x);
-    let b = top_of(t, y);
-    if a < b { a } else { b }
 }
 
 // The result for two targets from feature k on, where the second has d more on it: one node's result.
@@ -55,8 +46,8 @@ fn rest_result(
     y: u32,
     d: u32,
 ) -> Answer
-    requires { ⌜ (Operands (now t) o k x y (int d)) × (Remembers (now t) o (now s)) ⌝ }
-    ensures { λ r. ⌜ (Result (now (t .entry)) (now (t .exit)) k (jointFrom o (nodes (now (t .entry))) k (target x) (target y) (int d)) r) × (Still (now (t .exit)) o (now (s .exit)) r) ⌝ }
+    requires { ⌜ (Operands (plain (now t)) o k x y (int d)) × (Noted (now t) o (now s)) ⌝ }
+    ensures { λ r. ⌜ (Result (plain (now (t .entry))) (plain (now (t .exit))) k (jointFrom o (nodes (plain (now (t .entry)))) k (target x) (target y) (int d)) r) × (Still (now (t .exit)) o (now (s .exit)) r) ⌝ }
 {
     if x + y == 0 {
         return Answer::Is(0, end_word(o, d));
@@ -65,7 +56,7 @@ fn rest_result(
         return rest_result(t, s, o, k + 1, x, y, d);
     }
     let tag = narrow(k + 1);
-    let memo = recall(s, tag, x, y, d);
+    let memo = recall_in(t, s, tag, x, y, d);
     if let Memo::Known(z, e) = memo {
         return Answer::Is(z, e);
     }
@@ -73,10 +64,10 @@ fn rest_result(
     if filled.ok {
         let goes = filled.goes;
         let adds = filled.adds;
-        let Answer::Is(z, e) = make(t, k, goes, adds) else {
+        let Answer::Is(z, e) = make_in(t, k, goes, adds) else {
             return Answer::NoRoom;
         };
-        remember(s, tag, x, y, d, z, e);
+        remember_in(t, s, tag, x, y, d, z, e);
         return Answer::Is(z, e);
     }
     Answer::NoRoom
@@ -92,16 +83,16 @@ fn fill_branches(
     y: u32,
     d: u32,
 ) -> Filled
-    requires { ⌜ (Operands (now t) o k x y (int d)) × (Remembers (now t) o (now s)) × (k < features (now t)) ⌝ }
-    ensures { λ r. ⌜ (Fills (now (t .entry)) (now (t .exit)) k (jointFrom o (nodes (now (t .entry))) k (target x) (target y) (int d)) (r .ok) (r .goes) (r .adds)) × (StillIf (now (t .exit)) o (now (s .exit)) (r .ok)) ⌝ }
+    requires { ⌜ (Operands (plain (now t)) o k x y (int d)) × (Noted (now t) o (now s)) × (k < features (plain (now t))) ⌝ }
+    ensures { λ r. ⌜ (Fills (plain (now (t .entry))) (plain (now (t .exit))) k (jointFrom o (nodes (plain (now (t .entry)))) k (target x) (target y) (int d)) (r .ok) (r .goes) (r .adds)) × (StillIf (now (t .exit)) o (now (s .exit)) (r .ok)) ⌝ }
 {
     let m = wide(head_word(t, 3 + k));
     let mut goes = [0u32; 8];
     let mut adds = [0u32; 8];
     let mut v: usize = 0;
     while v < m {
-        let a = arm_at(t, k, x, v);
-        let b = arm_at(t, k, y, v);
+        let a = arm_in(t, k, x, v);
+        let b = arm_in(t, k, y, v);
         let Answer::Is(z, e) = branch_result(t, s, o, k + 1, a, b, d) else {
             return Filled {
                 ok: false,
@@ -130,8 +121,8 @@ fn branch_result(
     b: Arm,
     d: u32,
 ) -> Answer
-    requires { ⌜ (Branches (now t) o k (a .to) (a .adds) (b .to) (b .adds) (int d)) × (Remembers (now t) o (now s)) ⌝ }
-    ensures { λ r. ⌜ (Result (now (t .entry)) (now (t .exit)) k (joint o (nodes (now (t .entry))) k (branch (a .to) (a .adds)) (branch (b .to) (b .adds)) (int d)) r) × (Still (now (t .exit)) o (now (s .exit)) r) ⌝ }
+    requires { ⌜ (Branches (plain (now t)) o k (a .to) (a .adds) (b .to) (b .adds) (int d)) × (Noted (now t) o (now s)) ⌝ }
+    ensures { λ r. ⌜ (Result (plain (now (t .entry))) (plain (now (t .exit))) k (joint o (nodes (plain (now (t .entry)))) k (branch (a .to) (a .adds)) (branch (b .to) (b .adds)) (int d)) r) × (Still (now (t .exit)) o (now (s .exit)) r) ⌝ }
 {
     let g = gap_word(o, d, a.adds, b.adds);
     let Answer::Is(z, e) = rest_result(t, s, o, k, a.to, b.to, g) else {
@@ -140,15 +131,13 @@ fn branch_result(
     Answer::Is(z, sum_word(ahead_word(o, a.adds, b.adds), e))
 }
 
-// The joint cost of two branches, built after the table's nodes. Whatever the scratch holds, it is emptied first; where it is short, own words remember.
+// The joint cost of two branches, built after the table's nodes, with remembered results in s, whatever it holds, or in the far records, which are 0 again.
 pub fn join_costs(t: &mut [u32], s: &mut [u32], o: Operator, a: Arm, b: Arm) -> Answer
     requires { ⌜ Joinable (now t) o (branch (a .to) (a .adds)) (branch (b .to) (b .adds)) ⌝ }
     ensures { λ r. ⌜ Result (now (t .entry)) (now (t .exit)) 0 (together o (meaning (nodes (now (t .entry))) (branch (a .to) (a .adds))) (meaning (nodes (now (t .entry))) (branch (b .to) (b .adds)))) r ⌝ }
 {
-    if s.len() < 6144 {
-        let mut own = [0u32; 6144];
-        return branch_result(t, &mut own, o, 0, a, b, 2147483648);
-    }
     clear(s);
-    branch_result(t, s, o, 0, a, b, 2147483648)
+    let r = branch_result(t, s, o, 0, a, b, 2147483648);
+    clear_far(t);
+    r
 }

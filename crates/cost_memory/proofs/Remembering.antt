@@ -7,7 +7,8 @@ use native.Mathlib.Omega.{arith}
 use lib.ListN.{length, replicate, set, length-replicate, length-set, getD-replicate}
 use lib.Seq.{getD-set-same, getD-set-other}
 use Rattle.words.proofs.Tab.{same}
-use Rattle.cost_memory.specs.Memory.{noted, Remembers, Entry, Recalls, Stored, Empty}
+use Rattle.notes.specs.Plain.{Cleared}
+use Rattle.cost_memory.specs.Memory.{noted, Remembers, Entry, Recalls, Stored}
 use Rattle.cost_memory.specs.declared.Memo.{Memo}
 use Rattle.cost_memory.specs.declared.Memo.the-variants.{Known}
 
@@ -18,7 +19,7 @@ said-like R t x y d z e t′ x′ y′ d′ z′ e′ et ex ey ed ez ee c = rw (
 
 module _ {R : ℕ → ℕ → ℕ → ℕ → ℕ → ℕ → Type 0} where
   -- an emptied memory
-  pub remembers-none : (s : List ℕ) → Empty s → Remembers R s
+  pub remembers-none : (s : List ℕ) → Cleared s → Remembers R s
   remembers-none s z = record { right = λ i h q. absurd (omega (arith, z .zero (6 * i + 0) (omega arith))) }
 
   -- own words, fresh

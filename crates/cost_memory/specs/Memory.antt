@@ -34,7 +34,3 @@ Recalls s tag x y d Unknown = Unit {0}
 pub record Stored (s s′ : List ℕ) (tag x y d z e : ℕ) : Type 0 where
   pub long : length s′ ≡ length s
   pub entries : (i : ℕ) → 6 * i + 6 ≤ length s → Entry s′ i tag x y d z e ⊎ ((j : ℕ) → j < 6 → noted s′ i j ≡ noted s i j)
-
--- no entry is filled
-pub record Empty (s : List ℕ) : Type 0 where
-  pub zero : (j : ℕ) → j < length s → getD s j 0 ≡ 0

@@ -1,23 +1,12 @@
 // What scratch words remember of a walk over costs: entries of 6 words, a tag (0: empty), two targets and a difference, the two words of the result.
 use words::wide;
 ghost use Prim.Native.Nat.{_<_};
-ghost use Rattle.cost_memory.specs.Memory.{Empty, Recalls, Stored};
+ghost use Rattle.cost_memory.specs.Memory.{Recalls, Stored};
 
 // A remembered result, or none.
 pub enum Memo {
     Known(u32, u32),
     Unknown,
-}
-
-// Empties the memory.
-pub fn clear(s: &mut [u32])
-    ensures { λ _. ⌜ Empty (now (s .exit)) ⌝ }
-{
-    let mut j: usize = 0;
-    while j < s.len() {
-        s[j] = 0;
-        j += 1;
-    }
 }
 
 // One word more, spread over 32 bits.

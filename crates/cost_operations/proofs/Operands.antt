@@ -3,6 +3,7 @@ use mathlib.Core.Path.{_≡_, sym, ap₂, subst}
 use mathlib.Core.Logic.{⊎-elim}
 use mathlib.Core.List.{List}
 use Prim.Native.Nat.{ℕ, _<_}
+use native.Mathlib.Omega.{arith}
 use lib.IntN.{ℤ}
 use Rattle.theory.specs.Functions.{Agree}
 use Rattle.theory.specs.Costs.{Cost, costs}
@@ -19,9 +20,12 @@ use Rattle.settings.specs.declared.refusals.Refusal.the-variants.{Range}
 use Rattle.settings.specs.declared.refusals.Outcome.{Outcome}
 use Rattle.settings.specs.declared.refusals.Outcome.the-variants.{Refused}
 use Rattle.words.specs.Words.{sizes}
+use Rattle.notes.specs.Plain.{Resting}
 use Rattle.cost_words.specs.Words.{nodes, rootAt, costOf}
 use Rattle.cost_sound.specs.Sound.{Sound}
-use Rattle.cost_engine.specs.Joint.{together}
+use Rattle.cost_nodes.specs.Nodes.{Result}
+use Rattle.cost_nodes.specs.declared.Answer.{Answer}
+use Rattle.cost_engine.specs.Joint.{together, Joinable}
 use Rattle.cost_engine.specs.declared.operators.Operator.{Operator}
 use Rattle.cost_engine.specs.declared.operators.Operator.the-variants.{Scale}
 use Rattle.cost_range.specs.Operable.{Operable, Factored}
@@ -37,21 +41,40 @@ leaves-agree : {S : List ℕ} {g h : Cost} → Agree S g h → Leaves S g → Le
 leaves-agree e l = record { setting = l .setting; valid = l .valid; out = λ f. l .out (subst (Fit costMost) (sym (offs (e (l .setting) (l .valid)))) f) }
 
 module _ {w : List ℕ} (s : Sound w) {p : ℕ} {g : Cost} where
-  -- RANGE: nothing was built
-  pub joins-range : (Within costMost (sizes w) g → ⊥) → Joins p g w w (Refused Range)
-  joins-range n = record {
+  range-refused : (Within costMost (sizes w) g → ⊥) → Joins p g w w (Refused Range)
+  range-refused n = record {
     joins = λ h e. write-refused (stop (leaves-agree e (⊎-elim (λ q. absurd (n q)) (λ l. l) (within-or-leaves (sizes w) (sound-pos s) g))));
   }
+
+  -- RANGE: nothing was built
+  pub joins-range : {u : List ℕ} → u ≡ w → (Within costMost (sizes w) g → ⊥) → Joins p g w u (Refused Range)
+  joins-range e n = subst (λ (z : List ℕ). Joins p g w z (Refused Range)) (sym e) (range-refused n)
 
   -- in range, and settled
   pub joins-put : {w′ : List ℕ} {o : Outcome} → Within costMost (sizes w) g → Puts p g w w′ o → Joins p g w w′ o
   joins-put q r = record { joins = λ h e. write-pass Range (within-stays (within-agree (λ t v. sym (e t v)) q)) (r .puts h e) }
+
+-- ---- words u that the test of the range left as they were, w
+module _ {w u : List ℕ} (e : u ≡ w) (o : Operator) (b c : Branch costs) where
+  pub joinable-again : Joinable w o b c → Joinable u o b c
+  joinable-again j = rw e j
+
+  pub result-again : (t : List ℕ) (a : Answer) → Result u t 0 (together o (meaning (nodes u) b) (meaning (nodes u) c)) a → Result w t 0 (together o (meaning (nodes w) b) (meaning (nodes w) c)) a
+  result-again t a r = subst (λ (z : List ℕ). Result z t 0 (together o (meaning (nodes z) b) (meaning (nodes z) c)) a) e r
+
+-- a sound table is at rest
+pub sound-rest : {w : List ℕ} → Sound w → Resting w
+sound-rest s = record {
+  roomy = record { room = s .header .room; most = s .header .most };
+  empty = record { zeros = λ j h l. s .header .clean .zeros j (omega (arith, s .header .within)) l };
+}
 
 -- ---- the branches b and c of places p and q
 module _ {w : List ℕ} (s : Sound w) (o : Operator) (b c : Branch costs) (p q : ℕ) (eb : b ≡ rootAt w p) (ec : c ≡ rootAt w q) where
   pub operable : p < 16 → q < 16 → Factored o → Operable w o b c
   operable hp hq f = record {
     holds = sound-holds s;
+    rest = sound-rest s;
     first = subst (Ok (nodes w) 0) (sym eb) (sound-root s p hp);
     second = subst (Ok (nodes w) 0) (sym ec) (sound-root s q hq);
     firstIn = subst (λ (d : Branch costs). Within costMost (sizes w) (meaning (nodes w) d)) (sym eb) (s .ranged .ranged p hp);

@@ -20,8 +20,9 @@ ghost use Rattle.cost_engine.specs.Joint.{together};
 ghost use Rattle.cost_range.specs.Operable.{Operable, Factored};
 ghost use Rattle.cost_operations.specs.Joining.{Adds, Subtracts, TakesSmaller, TakesLarger, Scales, Joins, Pairs};
 
-// The joint cost of two branches becomes that of the place. Its range is found by reading, before any room is taken.
-fn put_joint(
+// The joint cost of two branches becomes that of the place. Its range is found by reading, before any room is taken; both walks remember in `scratch`
+// or in the far records.
+fn put_joint_in(
     t: &mut [u32],
     scratch: &mut [u32],
     place: usize,
@@ -38,6 +39,27 @@ fn put_joint(
     let used = wide(head_word(t, 19));
     let r = join_costs(t, scratch, o, a, b);
     settle(t, place, used, r)
+}
+
+// The same; where the scratch and the far records are short, own words stand in for the scratch.
+fn put_joint(
+    t: &mut [u32],
+    scratch: &mut [u32],
+    place: usize,
+    o: Operator,
+    a: Arm,
+    b: Arm,
+) -> Outcome
+    requires { ⌜ (Sound (now t)) × (place < 16) × (Operable (now t) o (branch (a .to) (a .adds)) (branch (b .to) (b .adds))) ⌝ }
+    ensures { λ r. ⌜ Joins place (together o (meaning (nodes (now (t .entry))) (branch (a .to) (a .adds))) (meaning (nodes (now (t .entry))) (branch (b .to) (b .adds)))) (now (t .entry)) (now (t .exit)) r ⌝ }
+{
+    if head_word(t, 1) < 384 {
+        if scratch.len() < 6144 {
+            let mut own = [0u32; 6144];
+            return put_joint_in(t, &mut own, place, o, a, b);
+        }
+    }
+    put_joint_in(t, scratch, place, o, a, b)
 }
 
 // The joint cost of two places becomes that of the place.

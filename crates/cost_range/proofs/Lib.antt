@@ -1,3 +1,4 @@
 pub mod Ending
 pub mod Walking
+pub mod Noting
 pub mod Ranging

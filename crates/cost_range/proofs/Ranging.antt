@@ -137,7 +137,7 @@ pub operable-pair : (w : List ℕ) (o : Operator) (x a y b : ℕ) → Operable w
 operable-pair w o x a y b p = record { holds = p .holds; upTo = omega arith; first = p .first; second = p .second }
 
 pub operable-scale : (w : List ℕ) (o : Operator) (b d : Branch costs) (c : ℕ) → o ≡ Scale c → Operable w o b d → Scalable w b c
-operable-scale w o b d c e p = record { holds = p .holds; first = p .first; firstIn = p .firstIn; factorIn = subst Factored e (p .factorIn) }
+operable-scale w o b d c e p = record { holds = p .holds; rest = p .rest; first = p .first; firstIn = p .firstIn; factorIn = subst Factored e (p .factorIn) }
 
 -- what is told of one operator's result, for the operator that it is
 pub told : (S : List ℕ) (f g : Cost) (o u : Operator) → o ≡ u → (r : Bool) → Tells r (Within costMost S (together u f g)) → Tells r (Within costMost S (together o f g))
@@ -146,4 +146,4 @@ told S f g o u e r h = subst (λ (q : Operator). Tells r (Within costMost S (tog
 -- with the result in range, the engine may join the two
 pub joinable : (w : List ℕ) (o : Operator) (b c : Branch costs) → Operable w o b c → Within costMost (sizes w) (together o (meaning (nodes w) b) (meaning (nodes w) c)) → Joinable w o b c
 joinable w o b c p h =
-    record { holds = p .holds; first = p .first; second = p .second; firstIn = p .firstIn; secondIn = p .secondIn; resultIn = h }
+    record { holds = p .holds; rest = p .rest; first = p .first; second = p .second; firstIn = p .firstIn; secondIn = p .secondIn; resultIn = h }

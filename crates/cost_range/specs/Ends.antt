@@ -16,6 +16,7 @@ use Rattle.cost_laws.specs.Range.{Within, addMost}
 use Rattle.cost_laws.specs.Relative.{pairFrom}
 use Rattle.words.specs.Words.{features, sizes}
 use Rattle.cost_memory.specs.Memory as M
+use Rattle.cost_notes.specs.Noted as N
 use Rattle.cost_words.specs.Sums.{sideOf}
 use Rattle.cost_words.specs.Words.{target, branch, nodes}
 use Rattle.cost_nodes.specs.Nodes.{Holds, Good}
@@ -68,3 +69,7 @@ pub record Right (minus : Bool) (w : List ℕ) (tag x y d l h : ℕ) : Type 0 wh
 
 abbrev pub Remembers : Bool → List ℕ → List ℕ → Type 0
 Remembers minus w s = M.Remembers (Right minus w) s
+
+-- so is what a walk over the table w remembers, there or in the scratch s
+abbrev pub Noted : Bool → List ℕ → List ℕ → Type 0
+Noted minus w s = N.Noted (Right minus) w s

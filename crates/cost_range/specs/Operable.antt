@@ -7,6 +7,7 @@ use Rattle.theory.specs.WellFormed.{Ok}
 use Rattle.cost_laws.specs.Integers.{Fit, int}
 use Rattle.cost_laws.specs.Range.{Within, costMost}
 use Rattle.words.specs.Words.{sizes}
+use Rattle.notes.specs.Plain.{Resting}
 use Rattle.cost_words.specs.Words.{nodes}
 use Rattle.cost_nodes.specs.Nodes.{Holds}
 use Rattle.cost_engine.specs.declared.operators.Operator.{Operator}
@@ -20,9 +21,10 @@ Factored Smaller = Unit {0}
 Factored Larger = Unit {0}
 Factored (Scale c) = Fit costMost (int c)
 
--- both branches are of the table, and both costs, and the factor of scale, lie in range
+-- both branches are of the table, which is at rest, and both costs, and the factor of scale, lie in range
 pub record Operable (w : List ℕ) (o : Operator) (b c : Branch costs) : Type 0 where
   pub holds : Holds w
+  pub rest : Resting w
   pub first : Ok (nodes w) 0 b
   pub second : Ok (nodes w) 0 c
   pub firstIn : Within costMost (sizes w) (meaning (nodes w) b)
@@ -33,6 +35,7 @@ pub record Operable (w : List ℕ) (o : Operator) (b c : Branch costs) : Type 0 
 -- one branch, and the word of a factor
 pub record Scalable (w : List ℕ) (b : Branch costs) (c : ℕ) : Type 0 where
   pub holds : Holds w
+  pub rest : Resting w
   pub first : Ok (nodes w) 0 b
   pub firstIn : Within costMost (sizes w) (meaning (nodes w) b)
   pub factorIn : Fit costMost (int c)

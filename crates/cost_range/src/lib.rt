@@ -1,16 +1,17 @@
-// Whether the result of an operation on costs stays in its range, found by reading alone: for add and subtract, and for scale on one cost,
-// a walk over pairs of targets gives the lowest and the highest amount below them, with remembered results in lent scratch words.
+// Whether the result of an operation on costs stays in its range, found by reading: for add and subtract, and for scale on one cost,
+// a walk over pairs of targets gives the lowest and the highest amount below them, with remembered results in lent scratch words or in the far records.
 use cost_engine::Operator;
-use cost_engine::lowest;
 use cost_memory::Memo;
-use cost_memory::clear;
-use cost_memory::recall;
-use cost_memory::remember;
 use cost_nodes::Arm;
-use cost_nodes::arm_at;
+use cost_notes::arm_in;
+use cost_notes::lowest;
+use cost_notes::recall_in;
+use cost_notes::remember_in;
 use cost_words::difference_or_lost;
 use cost_words::further;
 use cost_words::sum_or_lost;
+use notes::clear;
+use notes::clear_far;
 use words::head_word;
 use words::narrow;
 use words::wide;
@@ -23,11 +24,12 @@ ghost use Rattle.cost_laws.specs.Integers.{rise, fall, Fit, int};
 ghost use Rattle.cost_laws.specs.Operations.{scaled};
 ghost use Rattle.cost_laws.specs.Range.{Within, costMost};
 ghost use Rattle.words.specs.Words.{features, sizes};
+ghost use Rattle.notes.specs.Plain.{Resting, plain};
 ghost use Rattle.settings.specs.Tells.{Tells};
 ghost use Rattle.cost_words.specs.Sums.{Stands};
 ghost use Rattle.cost_words.specs.Words.{branch, nodes};
 ghost use Rattle.cost_engine.specs.Joint.{together};
-ghost use Rattle.cost_range.specs.Ends.{tieOf, Reaches, Pair, ofTargets, ofBranches, Remembers, Furthest};
+ghost use Rattle.cost_range.specs.Ends.{tieOf, Reaches, Pair, ofTargets, ofBranches, Noted, Furthest};
 ghost use Rattle.cost_range.specs.Operable.{Operable, Scalable};
 
 // The words of the lowest and of the highest amount, or that no base brings all amounts into range.
@@ -57,38 +59,38 @@ fn furthest(up: bool, v: usize, a: u32, b: u32) -> u32
 }
 
 // The ends of two targets from feature k on: one pair's result.
-fn rest_ends(t: &[u32], s: &mut [u32], minus: bool, k: usize, x: u32, y: u32) -> Ends
-    requires { ⌜ (Pair (now t) k x y) × (Remembers minus (now t) (now s)) ⌝ }
-    ensures { λ r. ⌜ (Reaches (drop k (sizes (now (t .entry)))) (ofTargets minus (now (t .entry)) k x y) r) × (Remembers minus (now (t .entry)) (now (s .exit))) ⌝ }
+fn rest_ends(t: &mut [u32], s: &mut [u32], minus: bool, k: usize, x: u32, y: u32) -> Ends
+    requires { ⌜ (Pair (plain (now t)) k x y) × (Noted minus (now t) (now s)) ⌝ }
+    ensures { λ r. ⌜ (Reaches (drop k (sizes (plain (now (t .entry))))) (ofTargets minus (plain (now (t .entry))) k x y) r) × (plain (now (t .exit)) ≡ plain (now (t .entry))) × (Noted minus (now (t .exit)) (now (s .exit))) ⌝ }
 {
     if x + y == 0 {
         return Ends::Are(2147483648, 2147483648);
     }
     let j = lowest(t, x, y);
     let tag = narrow(j + 1);
-    let memo = recall(s, tag, x, y, 0);
+    let memo = recall_in(t, s, tag, x, y, 0);
     if let Memo::Known(l, h) = memo {
         return Ends::Are(l, h);
     }
     let Ends::Are(l, h) = fold_branches(t, s, minus, j, x, y) else {
         return Ends::Lost;
     };
-    remember(s, tag, x, y, 0, l, h);
+    remember_in(t, s, tag, x, y, 0, l, h);
     Ends::Are(l, h)
 }
 
 // The same at a feature that is left: over the branches for its values in turn.
-fn fold_branches(t: &[u32], s: &mut [u32], minus: bool, k: usize, x: u32, y: u32) -> Ends
-    requires { ⌜ (Pair (now t) k x y) × (Remembers minus (now t) (now s)) × (k < features (now t)) ⌝ }
-    ensures { λ r. ⌜ (Reaches (drop k (sizes (now (t .entry)))) (ofTargets minus (now (t .entry)) k x y) r) × (Remembers minus (now (t .entry)) (now (s .exit))) ⌝ }
+fn fold_branches(t: &mut [u32], s: &mut [u32], minus: bool, k: usize, x: u32, y: u32) -> Ends
+    requires { ⌜ (Pair (plain (now t)) k x y) × (Noted minus (now t) (now s)) × (k < features (plain (now t))) ⌝ }
+    ensures { λ r. ⌜ (Reaches (drop k (sizes (plain (now (t .entry))))) (ofTargets minus (plain (now (t .entry))) k x y) r) × (plain (now (t .exit)) ≡ plain (now (t .entry))) × (Noted minus (now (t .exit)) (now (s .exit))) ⌝ }
 {
     let m = wide(head_word(t, 3 + k));
     let mut low: u32 = 0;
     let mut high: u32 = 0;
     let mut v: usize = 0;
     while v < m {
-        let a = arm_at(t, k, x, v);
-        let b = arm_at(t, k, y, v);
+        let a = arm_in(t, k, x, v);
+        let b = arm_in(t, k, y, v);
         let Ends::Are(l, h) = branch_ends(t, s, minus, k + 1, a, b) else {
             return Ends::Lost;
         };
@@ -100,9 +102,9 @@ fn fold_branches(t: &[u32], s: &mut [u32], minus: bool, k: usize, x: u32, y: u32
 }
 
 // The ends of two branches from feature k on: those of their targets, with what both add put before them.
-fn branch_ends(t: &[u32], s: &mut [u32], minus: bool, k: usize, a: Arm, b: Arm) -> Ends
-    requires { ⌜ (Pair (now t) k (a .to) (b .to)) × (Remembers minus (now t) (now s)) ⌝ }
-    ensures { λ r. ⌜ (Reaches (drop k (sizes (now (t .entry)))) (ofBranches minus (now (t .entry)) k (a .to) (a .adds) (b .to) (b .adds)) r) × (Remembers minus (now (t .entry)) (now (s .exit))) ⌝ }
+fn branch_ends(t: &mut [u32], s: &mut [u32], minus: bool, k: usize, a: Arm, b: Arm) -> Ends
+    requires { ⌜ (Pair (plain (now t)) k (a .to) (b .to)) × (Noted minus (now t) (now s)) ⌝ }
+    ensures { λ r. ⌜ (Reaches (drop k (sizes (plain (now (t .entry))))) (ofBranches minus (plain (now (t .entry))) k (a .to) (a .adds) (b .to) (b .adds)) r) × (plain (now (t .exit)) ≡ plain (now (t .entry))) × (Noted minus (now (t .exit)) (now (s .exit))) ⌝ }
 {
     let base = tied_word(minus, a.adds, b.adds);
     if base == 0 {
@@ -122,23 +124,21 @@ fn branch_ends(t: &[u32], s: &mut [u32], minus: bool, k: usize, a: Arm, b: Arm) 
     Ends::Are(low, high)
 }
 
-// The ends of two branches over all features. Whatever the scratch holds, it is emptied first; where it is short, own words remember.
-fn whole_ends(t: &[u32], s: &mut [u32], minus: bool, a: Arm, b: Arm) -> Ends
-    requires { ⌜ Pair (now t) 0 (a .to) (b .to) ⌝ }
-    ensures { λ r. ⌜ Reaches (sizes (now (t .entry))) (ofBranches minus (now (t .entry)) 0 (a .to) (a .adds) (b .to) (b .adds)) r ⌝ }
+// The ends of two branches over all features, with remembered results in s, whatever it holds, or in the far records. The table is as it was.
+fn whole_ends(t: &mut [u32], s: &mut [u32], minus: bool, a: Arm, b: Arm) -> Ends
+    requires { ⌜ (Pair (now t) 0 (a .to) (b .to)) × (Resting (now t)) ⌝ }
+    ensures { λ r. ⌜ (now (t .exit) ≡ now (t .entry)) × (Reaches (sizes (now (t .entry))) (ofBranches minus (now (t .entry)) 0 (a .to) (a .adds) (b .to) (b .adds)) r) ⌝ }
 {
-    if s.len() < 6144 {
-        let mut own = [0u32; 6144];
-        return branch_ends(t, &mut own, minus, 0, a, b);
-    }
     clear(s);
-    branch_ends(t, s, minus, 0, a, b)
+    let r = branch_ends(t, s, minus, 0, a, b);
+    clear_far(t);
+    r
 }
 
 // Whether the sum, or the difference, of two branches lies in the range of costs.
-fn tied_ok(t: &[u32], s: &mut [u32], minus: bool, a: Arm, b: Arm) -> bool
-    requires { ⌜ Pair (now t) 0 (a .to) (b .to) ⌝ }
-    ensures { λ r. ⌜ Tells r (Within costMost (sizes (now (t .entry))) (ofBranches minus (now (t .entry)) 0 (a .to) (a .adds) (b .to) (b .adds))) ⌝ }
+fn tied_ok(t: &mut [u32], s: &mut [u32], minus: bool, a: Arm, b: Arm) -> bool
+    requires { ⌜ (Pair (now t) 0 (a .to) (b .to)) × (Resting (now t)) ⌝ }
+    ensures { λ r. ⌜ (now (t .exit) ≡ now (t .entry)) × (Tells r (Within costMost (sizes (now (t .entry))) (ofBranches minus (now (t .entry)) 0 (a .to) (a .adds) (b .to) (b .adds)))) ⌝ }
 {
     let Ends::Are(l, h) = whole_ends(t, s, minus, a, b) else {
         return false;
@@ -169,9 +169,9 @@ fn product_ok(a: u32, c: u32) -> bool
 }
 
 // Whether a cost in range stays there when it is scaled: by its lowest and its highest amount.
-fn scaled_ok(t: &[u32], s: &mut [u32], a: Arm, c: u32) -> bool
+fn scaled_ok(t: &mut [u32], s: &mut [u32], a: Arm, c: u32) -> bool
     requires { ⌜ Scalable (now t) (branch (a .to) (a .adds)) c ⌝ }
-    ensures { λ r. ⌜ Tells r (Within costMost (sizes (now (t .entry))) (scaled (int c) (meaning (nodes (now (t .entry))) (branch (a .to) (a .adds))))) ⌝ }
+    ensures { λ r. ⌜ (now (t .exit) ≡ now (t .entry)) × (Tells r (Within costMost (sizes (now (t .entry))) (scaled (int c) (meaning (nodes (now (t .entry))) (branch (a .to) (a .adds)))))) ⌝ }
 {
     let none = Arm {
         to: 0,
@@ -187,9 +187,9 @@ fn scaled_ok(t: &[u32], s: &mut [u32], a: Arm, c: u32) -> bool
 }
 
 // Whether the result of an operation on two costs lies in the range of costs at every setting.
-pub fn in_range(t: &[u32], s: &mut [u32], o: Operator, a: Arm, b: Arm) -> bool
+pub fn in_range(t: &mut [u32], s: &mut [u32], o: Operator, a: Arm, b: Arm) -> bool
     requires { ⌜ Operable (now t) o (branch (a .to) (a .adds)) (branch (b .to) (b .adds)) ⌝ }
-    ensures { λ r. ⌜ Tells r (Within costMost (sizes (now (t .entry))) (together o (meaning (nodes (now (t .entry))) (branch (a .to) (a .adds))) (meaning (nodes (now (t .entry))) (branch (b .to) (b .adds))))) ⌝ }
+    ensures { λ r. ⌜ (now (t .exit) ≡ now (t .entry)) × (Tells r (Within costMost (sizes (now (t .entry))) (together o (meaning (nodes (now (t .entry))) (branch (a .to) (a .adds))) (meaning (nodes (now (t .entry))) (branch (b .to) (b .adds)))))) ⌝ }
 {
     match o {
         Operator::Add => tied_ok(t, s, false, a, b),

@@ -5,7 +5,7 @@ use mathlib.Core.Logic.{inl, inr, ⊎-elim}
 use mathlib.Core.List.{List}
 use Prim.Native.Nat.{ℕ, _+_, _*_, _≤_, _<_}
 use native.Mathlib.Omega.{arith}
-use lib.ListN.{length, getD, drop, replicate, set, length-replicate, length-set, getD-replicate}
+use lib.ListN.{length, getD, drop, set, length-set}
 use lib.Seq.{getD-drop, getD-set-same, getD-set-other}
 use Rattle.theory.specs.Build.{Ext}
 use Rattle.theory.specs.Rules.{says, number}
@@ -26,7 +26,8 @@ use Rattle.rule_nodes.proofs.Reading.{lawful}
 use Rattle.rule_nodes.proofs.Filling.{gives-is, result-ext, result-mean, mean-result}
 use Rattle.engine.specs.Operators.{opOf}
 use Rattle.engine.specs.Joint.{spread, joint, Operands}
-use Rattle.engine.specs.Memory.{Recalled, Remembers, Entry, Recalls, Stored, Still, StillIf, Empty}
+use Rattle.notes.specs.Plain.{Cleared}
+use Rattle.engine.specs.Memory.{Recalled, Remembers, Entry, Recalls, Stored, Noted, Still, StillIf}
 use Rattle.engine.specs.declared.memory.Memo.{Memo}
 use Rattle.engine.specs.declared.memory.Memo.the-variants.{Known}
 
@@ -78,12 +79,8 @@ result-recalled w t o f n k x l p r =
 
 -- ---- the memory
 -- an emptied memory
-pub remembers-none : (w : List ℕ) (o f n : ℕ) (s : List ℕ) → Empty s → Remembers w o f n s
+pub remembers-none : (w : List ℕ) (o f n : ℕ) (s : List ℕ) → Cleared s → Remembers w o f n s
 remembers-none w o f n s z = record { right = λ i k h q. absurd (omega (arith, z .zero (11 * i) (omega arith))) }
-
--- own words, fresh
-pub remembers-fresh : (w : List ℕ) (o f n m : ℕ) → Remembers w o f n (replicate m 0)
-remembers-fresh w o f n m = remembers-none w o f n (replicate m 0) (record { zero = λ j h. getD-replicate m j 0 0 (omega (arith, length-replicate {A = ℕ} m 0)) })
 
 remembers-more : (w t : List ℕ) (o f n : ℕ) (s : List ℕ) → Holds w → sizes t ≡ sizes w → Ext (nodes w) (nodes t) → Remembers w o f n s → Remembers t o f n s
 remembers-more w t o f n s ok z e m =
@@ -135,10 +132,10 @@ remembers-stored w o f n k l s s′ x nine m st c = record { right = right }
         (st .entries i (omega (arith, st .long)))
 
 -- ---- what the calls leave
-pub still : (w : List ℕ) (o f n : ℕ) (s : List ℕ) (a : Answer) (x : ℕ) → a ≡ Is x → Still w o f n s a → Remembers w o f n s
+pub still : (w : List ℕ) (o f n : ℕ) (s : List ℕ) (a : Answer) (x : ℕ) → a ≡ Is x → Still w o f n s a → Noted w o f n s
 still w o f n s a x e h = subst (λ (y : Answer). Still w o f n s y) e h
 
-pub still-if : (w : List ℕ) (o f n : ℕ) (s : List ℕ) (b : Bool) → b ≡ true → StillIf w o f n s b → Remembers w o f n s
+pub still-if : (w : List ℕ) (o f n : ℕ) (s : List ℕ) (b : Bool) → b ≡ true → StillIf w o f n s b → Noted w o f n s
 still-if w o f n s b e h = subst (λ (y : Bool). StillIf w o f n s y) e h
 
 -- ---- stores

@@ -1,4 +1,4 @@
--- Remembered results: scratch words in entries of 11, a feature + 1 (0: empty), nine operands, a result. Assumes nothing.
+-- Remembered results: words in entries of 11, a feature + 1 (0: empty), nine operands, a result. Assumes nothing.
 use mathlib.Core.Bool.{Bool, true, false}
 use mathlib.Core.Path.{_≡_}
 use mathlib.Core.Logic.{_⊎_}
@@ -8,6 +8,8 @@ use lib.ListN.{length, getD, drop}
 use Rattle.theory.specs.Diagrams.{value}
 use Rattle.theory.specs.Settings.{Valid}
 use Rattle.words.specs.Words.{listed, sizes}
+use Rattle.notes.specs.Far.{memory}
+use Rattle.notes.specs.Plain.{Roomy, plain}
 use Rattle.rule_words.specs.Words.{decode, nodes}
 use Rattle.rule_nodes.specs.Nodes.{Good}
 use Rattle.rule_nodes.specs.declared.Answer.{Answer}
@@ -43,15 +45,16 @@ pub record Stored (s s′ : List ℕ) (k : ℕ) (l : List ℕ) (x : ℕ) : Type 
   pub long : length s′ ≡ length s
   pub entries : (i : ℕ) → 11 * i + 11 ≤ length s → Entry s′ i k l x ⊎ ((j : ℕ) → j < 11 → getD s′ (11 * i + j) 0 ≡ getD s (11 * i + j) 0)
 
--- after a call that had room the memory is right for the table that it left
+-- what a walk over the table w remembers, there or in the scratch s, is right for the table without its notes
+pub record Noted (w : List ℕ) (o f n : ℕ) (s : List ℕ) : Type 0 where
+  pub room : Roomy w
+  pub right : Remembers (plain w) o f n (memory w s)
+
+-- so it is after a call that had room
 abbrev pub Still : List ℕ → ℕ → ℕ → ℕ → List ℕ → Answer → Type 0
-Still w o f n s (Is x) = Remembers w o f n s
+Still w o f n s (Is x) = Noted w o f n s
 Still w o f n s NoRoom = Unit {0}
 
 abbrev pub StillIf : List ℕ → ℕ → ℕ → ℕ → List ℕ → Bool → Type 0
-StillIf w o f n s true = Remembers w o f n s
+StillIf w o f n s true = Noted w o f n s
 StillIf w o f n s false = Unit {0}
-
--- no entry is filled
-pub record Empty (s : List ℕ) : Type 0 where
-  pub zero : (j : ℕ) → j < length s → getD s j 0 ≡ 0

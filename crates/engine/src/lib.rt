@@ -1,26 +1,28 @@
-// The engine: one walk serves apply, CASE and forget on a rule table, with remembered results in lent scratch words.
-mod memory; // memory.rt: what the scratch words remember
+// The engine: one walk serves apply, CASE and forget on a rule table, with remembered results in lent scratch words or in the far records.
+mod memory; // memory.rt: what the walk remembers, and where
 mod operands; // operands.rt: the operands at a feature
 mod operators; // operators.rt: the operators on phrase numbers
 mod shortcuts; // shortcuts.rt: where nothing is walked
 
 use memory::Memo;
-use memory::clear;
-use memory::recall;
-use memory::remember;
+use memory::recall_in;
+use memory::remember_in;
+use notes::clear;
+use notes::clear_far;
 use operands::lowest;
 use operands::operands_at;
 use operators::combine;
 use rule_nodes::Answer;
-use rule_nodes::make;
+use rule_notes::make_in;
 use shortcuts::shortcut;
 use words::head_word;
 use words::wide;
 ghost use Prim.Native.Nat.{_<_};
 ghost use Rattle.words.specs.Words.{features};
+ghost use Rattle.notes.specs.Plain.{Resting, plain};
 ghost use Rattle.rule_nodes.specs.Nodes.{Result, Fills};
 ghost use Rattle.engine.specs.Joint.{joint, Operands};
-ghost use Rattle.engine.specs.Memory.{Remembers, Still, StillIf};
+ghost use Rattle.engine.specs.Memory.{Noted, Still, StillIf};
 
 // A list of branches, or that there was no room for them.
 struct Filled {
@@ -38,8 +40,8 @@ fn rest_result(
     k: usize,
     ops: [u32; 9],
 ) -> Answer
-    requires { ⌜ (Operands (now t) f n k ops) × (Remembers (now t) o f n (now s)) ⌝ }
-    ensures { λ r. ⌜ (Result (now (t .entry)) (now (t .exit)) k (joint (now (t .entry)) o f n k ops) r) × (Still (now (t .exit)) o f n (now (s .exit)) r) ⌝ }
+    requires { ⌜ (Operands (plain (now t)) f n k ops) × (Noted (now t) o f n (now s)) ⌝ }
+    ensures { λ r. ⌜ (Result (plain (now (t .entry))) (plain (now (t .exit))) k (joint (plain (now (t .entry))) o f n k ops) r) × (Still (now (t .exit)) o f n (now (s .exit)) r) ⌝ }
 {
     if shortcut(o, f, ops[0], ops[1]) {
         return Answer::Is(combine(o, ops, n));
@@ -55,17 +57,17 @@ fn rest_result(
         let next = operands_at(t, f, n, k, ops, 0);
         return rest_result(t, s, o, f, n, k + 1, next);
     }
-    let memo = recall(s, k, ops);
+    let memo = recall_in(t, s, k, ops);
     if let Memo::Known(x) = memo {
         return Answer::Is(x);
     }
     let filled = fill_branches(t, s, o, f, n, k, ops);
     if filled.ok {
         let list = filled.list;
-        let Answer::Is(x) = make(t, k, list) else {
+        let Answer::Is(x) = make_in(t, k, list) else {
             return Answer::NoRoom;
         };
-        remember(s, k, ops, x);
+        remember_in(t, s, k, ops, x);
         return Answer::Is(x);
     }
     Answer::NoRoom
@@ -81,8 +83,8 @@ fn fill_branches(
     k: usize,
     ops: [u32; 9],
 ) -> Filled
-    requires { ⌜ (Operands (now t) f n k ops) × (Remembers (now t) o f n (now s)) × (k < features (now t)) ⌝ }
-    ensures { λ r. ⌜ (Fills (now (t .entry)) (now (t .exit)) k (joint (now (t .entry)) o f n k ops) (r .ok) (r .list)) × (StillIf (now (t .exit)) o f n (now (s .exit)) (r .ok)) ⌝ }
+    requires { ⌜ (Operands (plain (now t)) f n k ops) × (Noted (now t) o f n (now s)) × (k < features (plain (now t))) ⌝ }
+    ensures { λ r. ⌜ (Fills (plain (now (t .entry))) (plain (now (t .exit))) k (joint (plain (now (t .entry))) o f n k ops) (r .ok) (r .list)) × (StillIf (now (t .exit)) o f n (now (s .exit)) (r .ok)) ⌝ }
 {
     let m = wide(head_word(t, 3 + k));
     let mut list = [0u32; 12];
@@ -98,16 +100,27 @@ fn fill_branches(
     Filled { ok: true, list }
 }
 
-// The joint rule of the first n operands, built after the table's nodes. Whatever the scratch holds, it is emptied first; where it is
-// short, the call remembers in words of its own.
-pub fn join(t: &mut [u32], s: &mut [u32], o: u32, f: usize, n: usize, ops: [u32; 9]) -> Answer
-    requires { ⌜ Operands (now t) f n 0 ops ⌝ }
+// The joint rule of the first n operands, built after the table's nodes, with remembered results in s or in the far records, which are 0 again.
+fn join_in(t: &mut [u32], s: &mut [u32], o: u32, f: usize, n: usize, ops: [u32; 9]) -> Answer
+    requires { ⌜ (Operands (now t) f n 0 ops) × (Resting (now t)) ⌝ }
     ensures { λ r. ⌜ Result (now (t .entry)) (now (t .exit)) 0 (joint (now (t .entry)) o f n 0 ops) r ⌝ }
 {
-    if s.len() < 5632 {
-        let mut own = [0u32; 5632];
-        return rest_result(t, &mut own, o, f, n, 0, ops);
-    }
     clear(s);
-    rest_result(t, s, o, f, n, 0, ops)
+    let r = rest_result(t, s, o, f, n, 0, ops);
+    clear_far(t);
+    r
+}
+
+// The same; where the scratch and the far records are short, own words stand in for the scratch.
+pub fn join(t: &mut [u32], s: &mut [u32], o: u32, f: usize, n: usize, ops: [u32; 9]) -> Answer
+    requires { ⌜ (Operands (now t) f n 0 ops) × (Resting (now t)) ⌝ }
+    ensures { λ r. ⌜ Result (now (t .entry)) (now (t .exit)) 0 (joint (now (t .entry)) o f n 0 ops) r ⌝ }
+{
+    if head_word(t, 1) < 352 {
+        if s.len() < 5632 {
+            let mut own = [0u32; 5632];
+            return join_in(t, &mut own, o, f, n, ops);
+        }
+    }
+    join_in(t, s, o, f, n, ops)
 }

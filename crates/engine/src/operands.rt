@@ -1,6 +1,6 @@
 // The operands of a joint rule at a feature.
-use rule_nodes::child_of;
-use rule_nodes::top_of;
+use rule_notes::child_in;
+use rule_notes::top_in;
 use words::head_word;
 use words::wide;
 ghost use mathlib.Core.Path.{_≡_};
@@ -8,6 +8,7 @@ ghost use Prim.Native.Nat.{ℕ, _+_, _≤_, _<_};
 ghost use lib.ListN.{getD};
 ghost use Rattle.words.specs.Words.{features, size, count};
 ghost use Rattle.records.specs.Laid.{Laid};
+ghost use Rattle.notes.specs.Plain.{plain};
 ghost use Rattle.engine.specs.Joint.{turn, Operands, Next, Lowest};
 
 // The lower of two features.
@@ -19,13 +20,13 @@ fn lower(x: usize, y: usize) -> usize
 
 // The lowest feature that an operand tests; the number of features, where all are phrases.
 pub fn lowest(t: &[u32], ops: [u32; 9], n: usize) -> usize
-    requires { ⌜ (Laid (now t)) × (n ≤ 9) × ((j : ℕ) → j < n → getD ops j 0 < 65536 + count (now t)) ⌝ }
-    ensures { λ r. ⌜ Lowest (now (t .entry)) n ops r ⌝ }
+    requires { ⌜ (Laid (plain (now t))) × (n ≤ 9) × ((j : ℕ) → j < n → getD ops j 0 < 65536 + count (plain (now t))) ⌝ }
+    ensures { λ r. ⌜ Lowest (plain (now (t .entry))) n ops r ⌝ }
 {
     let mut m = wide(head_word(t, 2));
     let mut j: usize = 0;
     while j < n {
-        m = lower(m, top_of(t, ops[j]));
+        m = lower(m, top_in(t, ops[j]));
         j += 1;
     }
     m
@@ -40,13 +41,13 @@ fn turn_of(f: usize, k: usize, j: usize, v: usize) -> usize
 
 // The operands' branches for value v of feature k.
 pub fn operands_at(t: &[u32], f: usize, n: usize, k: usize, ops: [u32; 9], v: usize) -> [u32; 9]
-    requires { ⌜ (Operands (now t) f n k ops) × (k < features (now t)) × (v < size (now t) k) ⌝ }
-    ensures { λ r. ⌜ Next (now (t .entry)) f n k v ops r ⌝ }
+    requires { ⌜ (Operands (plain (now t)) f n k ops) × (k < features (plain (now t))) × (v < size (plain (now t)) k) ⌝ }
+    ensures { λ r. ⌜ Next (plain (now (t .entry))) f n k v ops r ⌝ }
 {
     let mut next = [0u32; 9];
     let mut j: usize = 0;
     while j < n {
-        next[j] = child_of(t, k, ops[j], turn_of(f, k, j, v));
+        next[j] = child_in(t, k, ops[j], turn_of(f, k, j, v));
         j += 1;
     }
     next

@@ -12,6 +12,7 @@ use Rattle.theory.specs.Rules.{Rule, says, number}
 use Rattle.words.specs.Tab.{tab}
 use Rattle.words.specs.Words.{features, size, sizes, listed}
 use Rattle.words.proofs.Tab.{same, split, length-tab, getD-tab}
+use Rattle.notes.specs.Plain.{Resting}
 use Rattle.rule_words.specs.Words.{decode, nodes, root, ruleOf}
 use Rattle.rule_words.proofs.Reading.{decode-phrase}
 use Rattle.rule_nodes.specs.Nodes.{Good}
@@ -45,6 +46,13 @@ module _ {w : List ℕ} (s : Sound w) where
   -- feature 16 is none
   no-feature : features w ≤ 16
   no-feature = s .header .few
+
+  -- the table is at rest
+  pub at-rest : Resting w
+  at-rest = record {
+    roomy = record { room = s .header .room; most = sound-holds s .laid .laid .most };
+    empty = record { zeros = λ j h l. s .header .clean .zeros j (omega (arith, s .header .within)) l };
+  }
 
   -- ---- APPLY
   module _ (a b : ℕ) (l : List ℕ) (ea : listed l 0 ≡ root w a) (eb : listed l 1 ≡ root w b) where
@@ -125,8 +133,8 @@ module _ {w : List ℕ} (s : Sound w) where
       good = good-root q b hq e;
       known = hf;
       value = hx;
-      room = s .header .room;
-      rest = record { zeros = λ j h l. s .header .clean .zeros j (omega (arith, s .header .within)) l };
+      room = at-rest .roomy .room;
+      rest = at-rest .empty;
     }
 
     pub restrict-agrees : Agree (sizes w) (restr w 0 b f x) (restricted f x (ruleOf w q))

@@ -1,7 +1,7 @@
 // Next: the first setting at or after a given one with a given number.
+use calls::setting_fits;
 use rule_next::first_with;
 use rule_sound::sound;
-use rules::setting_fits;
 use settings::Outcome;
 use settings::Refusal;
 use settings::Setting;

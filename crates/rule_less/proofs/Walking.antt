@@ -7,7 +7,7 @@ use Prim.Native.Nat.{ℕ, suc, _+_, _<_}
 use native.Mathlib.Numerals.{add-one}
 use native.Mathlib.Omega.{arith}
 use lib.IntN.{ℤ, pos, _+ℤ_, _-ℤ_}
-use lib.ListN.{length, getD, drop}
+use lib.ListN.{drop}
 use lib.Signed.{ltZ}
 use Rattle.theory.specs.Costs.{costs}
 use Rattle.theory.specs.Diagrams.{Branch, Node, meaning}
@@ -26,7 +26,8 @@ use Rattle.cost_laws.proofs.Placing.{placed-start, placed-wait, placed-step, pl
 use Rattle.cost_laws.proofs.Relative.{branch-under}
 use Rattle.words.specs.Words.{features, size, sizes, Kept}
 use Rattle.words.proofs.Tab.{split}
-use Rattle.words.proofs.Words.{length-sizes, at-sizes, kept-sizes}
+use Rattle.words.proofs.Words.{kept-sizes}
+use Rattle.calls.proofs.Lists.{as-long}
 use Rattle.cost_words.specs.Words.{target, branch, nodes}
 use Rattle.cost_nodes.specs.Nodes.{Good, top, Place}
 use Rattle.cost_nodes.proofs.Reading.{lawful}
@@ -40,12 +41,6 @@ use Rattle.rule_less.specs.Less.{Beside, Comparable, lessFrom, Operands}
 
 -- ---- the rule table beside
 module _ (w v : List ℕ) (b : Beside w v) where
-  pub same-features : features v ≡ features w
-  same-features = omega (arith, length-sizes v, length-sizes w, ap length (b .same))
-
-  pub same-size : (k : ℕ) → k < features w → size v k ≡ size w k
-  same-size k h = sym (at-sizes v k (omega (arith, same-features))) ∙ ap (λ (ns : List ℕ). getD ns k 0) (b .same) ∙ at-sizes w k h
-
   -- when it has grown
   pub beside-grown : (t : List ℕ) → HoldsRules t → Kept v t → Beside w t
   beside-grown t ok kp = record { holds = ok; same = kept-sizes v t kp (b .holds .laid .laid .few) ∙ b .same }
@@ -110,7 +105,7 @@ module _ (w : List ℕ) (k x y d : ℕ) (p : Operands w k x y d) where
     unfolding lessFrom
     less-skip v t a b r =
         gives-eq
-        (built-skip v k (lessFrom w k x y d) (lessFrom w (k + 1) x y d) (b .holds) (omega (arith, same-features w v b, skip-left))
+        (built-skip v k (lessFrom w k x y d) (lessFrom w (k + 1) x y d) (b .holds) (omega (arith, as-long v w (b .same), skip-left))
         (λ u l s. rw add-one (below-wait (nodes w) k (target x) (target y) (int d) (on x (p .first) hx) (on y (p .second) hy) u s))) r
 
   -- ---- one value on

@@ -1,6 +1,5 @@
 // The engine of less: a walk over two costs of a cost table builds the rule "first below second" in a rule table, with remembered results in lent scratch words.
 use cost_memory::Memo;
-use cost_memory::clear;
 use cost_memory::recall;
 use cost_memory::remember;
 use cost_nodes::Arm;
@@ -8,6 +7,7 @@ use cost_nodes::arm_at;
 use cost_nodes::top_of;
 use cost_words::difference_word;
 use cost_words::sum_word;
+use notes::clear;
 use rule_nodes::Answer;
 use rule_nodes::make;
 use words::head_word;

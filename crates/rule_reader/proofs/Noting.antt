@@ -13,7 +13,7 @@ use Rattle.words.specs.Words.{sizes}
 use Rattle.words.proofs.Tab.{same}
 use Rattle.rule_words.specs.Words.{decode, nodes}
 use Rattle.rule_nodes.specs.Nodes.{Holds}
-use Rattle.sheets.specs.Bytes.{count}
+use Rattle.sheet_bytes.specs.Bytes.{count}
 use Rattle.rule_reader.specs.Reader.{given, Noted}
 
 pub noted-none : (w s n : List ℕ) → count s ≤ 4096 → length n ≡ 4096 → ((i : ℕ) → i < 4096 → getD n i 0 ≡ 0) → Noted w s n

@@ -23,11 +23,12 @@ use Rattle.rule_nodes.specs.declared.Answer.{Answer}
 use Rattle.rule_nodes.specs.declared.Answer.the-variants.{Is, NoRoom}
 use Rattle.rule_nodes.proofs.Filling.{gives-eq, result-there, built-there, built-jump, fill-start, fill-more, fill-stop, stop-result, fill-listed, fill-make, result-mean, mean-result}
 use Rattle.rule_nodes.proofs.Reading.{lawful, good-small}
-use Rattle.sheets.specs.Bytes.{sizesOf, count, feature, width, branch, root, Below, features as sheet-features}
-use Rattle.sheets.specs.Diagram.{branchOf, nodesOf, ruleOf, Ready}
-use Rattle.sheets.proofs.Places.{sizes-length, sizes-at}
-use Rattle.sheets.proofs.Diagrams.{nodes-length, nodes-at, feature-at, branches-at, branch-phrase, branch-node, below-ok}
-use Rattle.sheets.proofs.Walks.{branch-below}
+use Rattle.sheet_bytes.specs.Bytes.{sizesOf, count, feature, width, branch, root, features as sheet-features}
+use Rattle.sheet_bytes.proofs.Places.{sizes-length, sizes-at}
+use Rattle.sheet_check.specs.Nodes.{Below}
+use Rattle.sheet_check.specs.Diagram.{branchOf, nodesOf, ruleOf, Ready}
+use Rattle.sheet_check.proofs.Diagrams.{nodes-length, nodes-at, feature-at, branches-at, branch-phrase, branch-node, below-ok}
+use Rattle.sheet_check.proofs.Walks.{branch-below}
 use Rattle.rule_reader.specs.Reader.{given, Noted, Asks, Takes}
 use Rattle.rule_reader.proofs.Noting.{noted-none, noted-grown, noted-put}
 

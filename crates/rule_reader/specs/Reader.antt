@@ -10,8 +10,9 @@ use Rattle.words.specs.Words.{sizes}
 use Rattle.rule_words.specs.Words.{decode, nodes}
 use Rattle.rule_nodes.specs.Nodes.{Holds, Result}
 use Rattle.rule_nodes.specs.declared.Answer.{Answer}
-use Rattle.sheets.specs.Bytes.{sizesOf, count, Below}
-use Rattle.sheets.specs.Diagram.{branchOf, nodesOf, Ready}
+use Rattle.sheet_bytes.specs.Bytes.{sizesOf, count}
+use Rattle.sheet_check.specs.Nodes.{Below}
+use Rattle.sheet_check.specs.Diagram.{branchOf, nodesOf, Ready}
 
 -- what the sheet's branch word b means from feature k on
 abbrev pub given : List ℕ → ℕ → ℕ → Rule

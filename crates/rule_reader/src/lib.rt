@@ -1,16 +1,16 @@
 // A sheet's rule taken into a rule table: the sheet's nodes are walked once each, and made where the table has none.
 use rule_nodes::Answer;
 use rule_nodes::make;
-use sheets::branch_at;
-use sheets::feature_at;
-use sheets::root_of;
-use sheets::width_at;
+use sheet_bytes::branch_at;
+use sheet_bytes::feature_at;
+use sheet_bytes::root_of;
+use sheet_bytes::width_at;
 use words::narrow;
 ghost use mathlib.Core.Path.{_≡_};
 ghost use Rattle.words.specs.Words.{sizes};
 ghost use Rattle.rule_nodes.specs.Nodes.{Holds, Result};
-ghost use Rattle.sheets.specs.Bytes.{sizesOf};
-ghost use Rattle.sheets.specs.Diagram.{Ready, ruleOf};
+ghost use Rattle.sheet_bytes.specs.Bytes.{sizesOf};
+ghost use Rattle.sheet_check.specs.Diagram.{Ready, ruleOf};
 ghost use Rattle.rule_reader.specs.Reader.{Asks, Takes};
 
 // The table's branch for the sheet's branch word b. Each node of the sheet is walked once, and its branch noted.

@@ -1,4 +1,3 @@
-pub mod Plain
 pub mod Noting
 pub mod Restricting
 pub mod Walking

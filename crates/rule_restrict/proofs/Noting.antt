@@ -16,9 +16,11 @@ use Rattle.words.proofs.Words.{kept-sizes}
 use Rattle.rule_words.specs.Words.{decode, nodes}
 use Rattle.rule_words.proofs.Reading.{decode-index, length-nodes}
 use Rattle.rule_nodes.specs.Nodes.{Holds}
-use Rattle.rule_restrict.specs.Notes.{Roomy, note, noteAt, Only, plain}
+use Rattle.notes.specs.Plain.{Roomy, plain}
+use Rattle.notes.proofs.Plain.{plain-set, set-capacity, plain-of}
+use Rattle.notes.proofs.Alike.{plain-like, like-head, plain-kept}
+use Rattle.rule_restrict.specs.Notes.{note, noteAt, Only}
 use Rattle.rule_restrict.specs.Restrict.{restr, Noted}
-use Rattle.rule_restrict.proofs.Plain.{plain-like, like-head, plain-set, set-capacity, plain-of, plain-kept}
 
 -- ---- which far words are not 0
 -- none, once every note is taken away

@@ -22,9 +22,12 @@ use Rattle.rule_nodes.specs.declared.Answer.the-variants.{Is, NoRoom}
 use Rattle.rule_nodes.proofs.Filling.{fill-start, fill-more, fill-stop, stop-result, fill-listed, fill-make, filling-ext, filling-place, result-ext, result-mean, mean-result}
 use Rattle.rule_nodes.proofs.Reading.{lawful, good-small}
 use Rattle.rule_nodes.proofs.Stepping.{is-node, good-top, top-good, place-next}
-use Rattle.rule_restrict.specs.Notes.{Roomy, note, noteAt, Only, plain}
+use Rattle.notes.specs.Plain.{Roomy, plain}
+use Rattle.notes.proofs.Plain.{length-plain, plain-of}
+use Rattle.notes.proofs.Alike.{plain-like, like-sym, like-head}
+use Rattle.rule_restrict.specs.Notes.{note, noteAt, Only}
 use Rattle.rule_restrict.specs.Restrict.{restr, Holding, Noted, Walks, Walked}
-use Rattle.rule_restrict.proofs.Plain.{plain-like, length-plain, plain-of, like-sym, like-head, like-holds, like-nodes, like-top, like-place, like-listed, plain-makes}
+use Rattle.rule_notes.proofs.Reading.{like-holds, like-nodes, like-top, like-place, like-listed, plain-makes}
 use Rattle.rule_restrict.proofs.Noting.{put-plain, noted-none, noted-put, noted-grown}
 use Rattle.rule_restrict.proofs.Restricting.{place-at, restr-here, restr-held, restr-from, restr-next}
 
@@ -68,7 +71,7 @@ module _ (w : List ℕ) (b f x : ℕ) (q : Walks w b f x) where
   walk-value = omega (arith, q .value, plain-size w f (omega (arith, walk-known, walk-holds .laid .laid .few)))
 
   walk-top : top P b ≡ top w b
-  walk-top = like-top (plain-like w) walk-holds b walk-small
+  walk-top = like-top (plain-like w) (walk-holds .laid .laid) b walk-small
 
   -- ---- what tests nothing below f
   pub asks-here : f ≤ top w b → Place w f b
@@ -76,7 +79,7 @@ module _ (w : List ℕ) (b f x : ℕ) (q : Walks w b f x) where
 
   pub walked-here : (c : ℕ) → f ≤ top w b → decode c ≡ next (nodes w) f (decode b) x → Walked w w b f x (Is c)
   walked-here c h d =
-      let n = like-nodes (plain-like w) (walk-holds .laid) in
+      let n = like-nodes (plain-like w) walk-holds in
       record { result = restr-here P b f x (q .place) (q .known) c (omega (arith, walk-top)) (rw n d); noted = q .noted }
 
   -- ---- a node of a feature below f
@@ -139,7 +142,7 @@ module _ (w : List ℕ) (b f x : ℕ) (q : Walks w b f x) where
       placeT = filling-place P k g okP hk T v l k b fl (place-at P b f x (q .place) (q .known) k up (omega arith))
 
       loop-next : (c : ℕ) → decode c ≡ next (nodes t) k (decode b) v → decode c ≡ next (nodes T) k (decode b) v
-      loop-next c d = let m = like-nodes (plain-like t) (holds-back t okT .laid) in rw m d
+      loop-next c d = let m = like-nodes (plain-like t) (holds-back t okT) in rw m d
 
       pub asks-child : v < size w k → (Place t k b) × (k < features t) × (v < size t k)
       asks-child h = (
@@ -171,7 +174,7 @@ module _ (w : List ℕ) (b f x : ℕ) (q : Walks w b f x) where
       pub walk-falls : (c : ℕ) → decode c ≡ next (nodes t) k (decode b) v → features t - top t c < features w - top w b
       walk-falls c d =
           let p = placeC c d in
-          let a : top T c ≡ top t c = like-top (plain-like t) (holds-back t okT) c (omega (arith, smallC c d, plain-count t)) in
+          let a : top T c ≡ top t c = like-top (plain-like t) (holds-back t okT .laid .laid) c (omega (arith, smallC c d, plain-count t)) in
           omega (arith, good-top T (k + 1) c (p .good) (p .upTo), loop-features, hk, plain-features w)
 
       -- the call for branch v answered

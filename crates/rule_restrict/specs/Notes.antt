@@ -1,16 +1,9 @@
--- What a walk remembers of each node, in the far records, and the words without it. Assumes nothing.
+-- What a walk remembers of each node, in the far records. Assumes nothing.
 use mathlib.Core.Path.{_≡_}
 use mathlib.Core.List.{List}
 use Prim.Native.Nat.{ℕ, _+_, _*_, _≤_, _<_}
-use lib.Dec.{ltb}
-use lib.ListN.{length, getD}
-use Rattle.words.specs.Tab.{tab}
-use Rattle.words.specs.Words.{capacity, bound, pick}
-
--- the words have room for the far records
-pub record Roomy (w : List ℕ) : Type 0 where
-  pub room : bound (capacity w) ≤ length w
-  pub most : capacity w ≤ 4096
+use lib.ListN.{getD}
+use Rattle.words.specs.Words.{capacity, bound}
 
 -- the note of node i, the first word of far record i: 0, or 1 + a branch word
 abbrev pub noteAt : List ℕ → ℕ → ℕ
@@ -22,10 +15,3 @@ note w i = getD w (noteAt w i) 0
 -- the far words other than the notes of nodes a to n - 1 are 0
 pub record Only (w : List ℕ) (a n : ℕ) : Type 0 where
   pub zeros : (j : ℕ) → 8192 + 16 * capacity w ≤ j → j < bound (capacity w) → ((i : ℕ) → a ≤ i → i < n → j ≡ noteAt w i → ⊥) → getD w j 0 ≡ 0
-
--- the words with the far records 0
-abbrev pub plainAt : List ℕ → ℕ → ℕ
-plainAt w j = pick (ltb j (8192 + 16 * capacity w)) (getD w j 0) (pick (ltb j (bound (capacity w))) 0 (getD w j 0))
-
-unfoldable pub plain : List ℕ → List ℕ
-plain w = tab (plainAt w) (length w)

@@ -9,7 +9,8 @@ use Rattle.words.specs.Words.{capacity, features, size, sizes, count, bound, Ze
 use Rattle.rule_words.specs.Words.{decode, nodes}
 use Rattle.rule_nodes.specs.Nodes.{Holds, Good, Place, Result}
 use Rattle.rule_nodes.specs.declared.Answer.{Answer}
-use Rattle.rule_restrict.specs.Notes.{Roomy, note, Only, plain}
+use Rattle.notes.specs.Plain.{Roomy, plain}
+use Rattle.rule_restrict.specs.Notes.{note, Only}
 
 -- what the branch b means from feature k on, with feature f held at x
 abbrev pub restr : List ℕ → ℕ → ℕ → ℕ → ℕ → Rule

@@ -10,7 +10,8 @@ ghost use Prim.Native.Nat.{_≤_, _<_};
 ghost use lib.ListN.{set};
 ghost use Rattle.words.specs.Words.{capacity, count};
 ghost use Rattle.rule_nodes.specs.Nodes.{Result};
-ghost use Rattle.rule_restrict.specs.Notes.{Roomy, note, noteAt, plain, Only};
+ghost use Rattle.notes.specs.Plain.{Roomy, plain};
+ghost use Rattle.rule_restrict.specs.Notes.{note, noteAt, Only};
 ghost use Rattle.rule_restrict.specs.Restrict.{Holding, restr, Walks, Walked};
 
 // The note of node i.

@@ -15,12 +15,12 @@ use Rattle.words.specs.Words.{sizes}
 use Rattle.words.proofs.Tab.{split}
 use Rattle.rule_sound.specs.Sound.{Sound}
 use Rattle.settling.specs.Settling.{Puts}
-use Rattle.sheets.specs.Sheet.{IsSheet}
-use Rattle.sheets.specs.Bytes.{sizesOf}
-use Rattle.sheets.specs.Diagram.{ruleOf}
-use Rattle.sheets.specs.Checked.{sheet-cases, Checks}
-use Rattle.sheets.proofs.Answering.{refused-sheet, taken-old, taken-sheet}
-use Rattle.sheets.proofs.Reading.{sheet-good, sheet-sizes, sheet-says}
+use Rattle.sheet_bytes.specs.Sheet.{IsSheet}
+use Rattle.sheet_bytes.specs.Bytes.{sizesOf}
+use Rattle.sheet_check.specs.Diagram.{ruleOf}
+use Rattle.sheet_check.specs.Checked.{sheet-cases, Checks}
+use Rattle.sheet_check.proofs.Reading.{sheet-good, sheet-sizes, sheet-says}
+use Rattle.sheet_check.proofs.Answering.{refused-sheet, taken-old, taken-sheet}
 use Rattle.rule_writer.specs.Laid.{Laid}
 use Rattle.rule_writer.proofs.Parts.{zero-tells}
 use Rattle.rule_sheets.specs.Writing.{sheetAt, write-cases, WritesSheet}

@@ -7,8 +7,8 @@ use lib.ListN.{length, getD}
 use lib.Seq.{ext-getD}
 use Rattle.words.specs.Words as W
 use Rattle.words.proofs.Words.{length-sizes, at-sizes}
-use Rattle.sheets.specs.Bytes.{features, size, sizesOf, Head}
-use Rattle.sheets.proofs.Places.{sizes-length, sizes-at}
+use Rattle.sheet_bytes.specs.Bytes.{features, size, sizesOf, Head}
+use Rattle.sheet_bytes.proofs.Places.{sizes-length, sizes-at}
 
 module _ {s : List ℕ} (w : List ℕ) (h : Head s) where
   -- one list has one number of features

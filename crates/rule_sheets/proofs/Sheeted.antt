@@ -15,7 +15,7 @@ use Rattle.rule_words.proofs.Bounding.{rule-small}
 use Rattle.rule_sound.specs.Sound.{Sound}
 use Rattle.rules.proofs.Sounding.{sound-list}
 use Rattle.rules.proofs.Theorems.{copy-fits}
-use Rattle.sheets.specs.Sheet.{IsSheet}
+use Rattle.sheet_bytes.specs.Sheet.{IsSheet}
 use Rattle.rule_sheets.specs.Writing.{sheetAt}
 
 -- the last of a list

@@ -24,9 +24,9 @@ use Rattle.rules.specs.declared.reading.Looked.{Looked}
 use Rattle.rules.proofs.Theorems.{ended, becomes-sound, becomes-one, place-written, places-kept, frame-kept}
 use Rattle.settling.specs.Settling.{Exceeds}
 use Rattle.settling.proofs.Settling.{exceeds-agree}
-use Rattle.sheets.specs.Sheet.{sheetOf, IsSheet, Written}
+use Rattle.sheet_bytes.specs.Sheet.{sheetOf, IsSheet, Written}
+use Rattle.sheet_check.proofs.Reading.{sheet-says}
 use Rattle.sheets.specs.Lookup.{returned, Returns}
-use Rattle.sheets.proofs.Reading.{sheet-says}
 use Rattle.sheets.proofs.Theorems.{agree-sheet, longest, newer-not, returns-argument, returns-number}
 use Rattle.rule_sheets.specs.Reading.{SheetExceeds, read-cases, ReadsSheet}
 use Rattle.rule_sheets.specs.Writing.{sheetAt, write-cases, WritesSheet}

@@ -12,8 +12,8 @@ use Rattle.words.specs.Words.{sizes}
 use Rattle.rule_words.specs.Picture.{Becomes}
 use Rattle.rule_sound.specs.Sound.{Sound}
 use Rattle.settling.specs.Settling.{Exceeds}
-use Rattle.sheets.specs.Sheet.{IsSheet}
-use Rattle.sheets.specs.Checked.{sheet-cases}
+use Rattle.sheet_bytes.specs.Sheet.{IsSheet}
+use Rattle.sheet_check.specs.Checked.{sheet-cases}
 
 -- s is a sheet over the feature list S
 pub record SheetOver (S s : List ℕ) : Type 0 where

@@ -10,7 +10,7 @@ use Rattle.settings.specs.declared.refusals.Outcome.the-variants.{Taken, Refuse
 use Rattle.words.specs.Words.{sizes}
 use Rattle.rule_words.specs.Words.{ruleOf}
 use Rattle.rule_sound.specs.Sound.{Sound}
-use Rattle.sheets.specs.Sheet.{sheetOf}
+use Rattle.sheet_bytes.specs.Sheet.{sheetOf}
 use Rattle.rule_sheets.specs.declared.writing.Wrote.{Wrote}
 
 -- the sheet of the rule of place p

@@ -4,9 +4,9 @@ use rule_sound::sound;
 use settings::Outcome;
 use settings::Refusal;
 use settling::settle;
-use sheets::check;
-use sheets::features_of;
-use sheets::size_at;
+use sheet_bytes::features_of;
+use sheet_bytes::size_at;
+use sheet_check::check;
 use words::head_word;
 use words::wide;
 ghost use mathlib.Core.Path.{_≡_};
@@ -15,8 +15,8 @@ ghost use Rattle.settings.specs.Tells.{Tells};
 ghost use Rattle.words.specs.Words.{sizes};
 ghost use Rattle.rule_sound.specs.Sound.{Sound};
 ghost use Rattle.settling.specs.Settling.{Puts};
-ghost use Rattle.sheets.specs.Bytes.{sizesOf, Head};
-ghost use Rattle.sheets.specs.Diagram.{Ready, ruleOf};
+ghost use Rattle.sheet_bytes.specs.Bytes.{sizesOf, Head};
+ghost use Rattle.sheet_check.specs.Diagram.{Ready, ruleOf};
 ghost use Rattle.rule_sheets.specs.Reading.{ReadsSheet};
 
 // Whether the sheet's feature list is the table's.

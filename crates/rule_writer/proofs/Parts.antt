@@ -12,8 +12,8 @@ use Rattle.words.specs.Words.{features, size, sizes, feature, body}
 use Rattle.words.proofs.Tab.{split, tab-none, length-tab}
 use Rattle.words.proofs.Words.{length-sizes}
 use Rattle.rule_words.specs.Words.{decode, branches}
-use Rattle.sheets.specs.Sections.{two, section, branchesBytes, nodeBytes, nodesBytes, sheetBytes}
-use Rattle.sheets.specs.Sheet.{branchBytes, sheetOf}
+use Rattle.sheet_bytes.specs.Sections.{two, section, branchesBytes, nodeBytes, nodesBytes, sheetBytes}
+use Rattle.sheet_bytes.specs.Sheet.{branchBytes, sheetOf}
 use Rattle.rule_writer.specs.Laid.{Laid, Puts}
 use Rattle.rule_writer.specs.Numbering.{member, renumbered, nodeIn, numbered}
 use Rattle.rule_writer.proofs.Putting.{puts-same, branches-snoc, length-branches, nodes-snoc, length-node}

@@ -12,9 +12,9 @@ use Rattle.words.specs.Tab.{tab}
 use Rattle.words.proofs.Tab.{split, tab-snoc}
 use Rattle.rule_words.specs.Words.{decode}
 use Rattle.rule_words.proofs.Reading.{decode-phrase, decode-node}
-use Rattle.sheets.specs.Sections.{two, branchesBytes, nodeBytes, nodesBytes}
-use Rattle.sheets.specs.Sheet.{targetBytes, branchBytes}
-use Rattle.sheets.proofs.Decoding.{three}
+use Rattle.sheet_bytes.specs.Sections.{two, branchesBytes, nodeBytes, nodesBytes}
+use Rattle.sheet_bytes.specs.Sheet.{targetBytes, branchBytes}
+use Rattle.sheet_bytes.proofs.Places.{three}
 use Rattle.rule_writer.specs.Laid.{Puts}
 
 -- ---- one after the other

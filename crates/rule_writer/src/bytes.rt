@@ -4,8 +4,8 @@ ghost use mathlib.Core.List.{[], _∷_};
 ghost use Prim.Native.Nat.{_+_, _≤_, _<_};
 ghost use lib.ListN.{length};
 ghost use Rattle.rule_words.specs.Words.{decode};
-ghost use Rattle.sheets.specs.Sections.{two};
-ghost use Rattle.sheets.specs.Sheet.{branchBytes};
+ghost use Rattle.sheet_bytes.specs.Sections.{two};
+ghost use Rattle.sheet_bytes.specs.Sheet.{branchBytes};
 ghost use Rattle.rule_writer.specs.Laid.{Puts};
 
 // A small number as a byte.

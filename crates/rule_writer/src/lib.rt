@@ -12,7 +12,7 @@ ghost use Prim.Native.Nat.{_<_};
 ghost use Rattle.words.specs.Words.{sizes};
 ghost use Rattle.rule_words.specs.Words.{ruleOf};
 ghost use Rattle.rule_sound.specs.Sound.{Sound};
-ghost use Rattle.sheets.specs.Sheet.{sheetOf};
+ghost use Rattle.sheet_bytes.specs.Sheet.{sheetOf};
 ghost use Rattle.rule_writer.specs.Laid.{Laid};
 
 // Writes the sheet of the place's rule and answers its length; where the output is shorter, writes nothing and answers 0.

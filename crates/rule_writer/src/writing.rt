@@ -16,8 +16,8 @@ ghost use lib.ListN.{length};
 ghost use Rattle.words.specs.Words.{features, count, sizes};
 ghost use Rattle.rule_words.specs.Words.{decode};
 ghost use Rattle.rule_sound.specs.Sound.{Sits, Sound};
-ghost use Rattle.sheets.specs.Sections.{section, branchesBytes, nodeBytes, nodesBytes};
-ghost use Rattle.sheets.specs.Sheet.{branchBytes};
+ghost use Rattle.sheet_bytes.specs.Sections.{section, branchesBytes, nodeBytes, nodesBytes};
+ghost use Rattle.sheet_bytes.specs.Sheet.{branchBytes};
 ghost use Rattle.rule_writer.specs.Laid.{Puts};
 ghost use Rattle.rule_writer.specs.Numbering.{renumbered, nodeIn, numbered, Noted};
 

@@ -1,4 +1,4 @@
--- The way from a root to a phrase, branch by branch, and whether bytes are a setting of the table. Assumes nothing.
+-- The way from a root to a phrase, branch by branch. Assumes nothing.
 use mathlib.Core.Path.{_≡_, refl, sym, ap, subst, _∙_}
 use mathlib.Core.List.{List}
 use Prim.Native.Nat.{ℕ, suc, _+_, _-_, _≤_, _<_}

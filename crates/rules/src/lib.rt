@@ -9,7 +9,6 @@ pub use reading::Looked;
 pub use reading::Tallied;
 pub use reading::look_up;
 pub use reading::same;
-pub use reading::setting_fits;
 pub use reading::tally;
 pub use writing::constant;
 pub use writing::copy;

@@ -1,4 +1,6 @@
 // Look up, same and tally: calls that only read.
+use calls::index;
+use calls::setting_fits;
 use rule_sound::sound;
 use rule_words::root_word;
 use settings::Outcome;
@@ -9,7 +11,6 @@ use words::wide;
 ghost use mathlib.Core.Path.{_≡_};
 ghost use Prim.Native.Nat.{_<_};
 ghost use Rattle.theory.specs.Settings.{Valid};
-ghost use Rattle.settings.specs.Tells.{Tells};
 ghost use Rattle.words.specs.Words.{sizes};
 ghost use Rattle.rule_words.specs.Words.{ruleOf};
 ghost use Rattle.rule_sound.specs.Sound.{Sound};
@@ -31,39 +32,6 @@ pub struct Compared {
 pub struct Tallied {
     pub outcome: Outcome,
     pub count: u32,
-}
-
-// A byte as a word.
-fn small(x: u8) -> u32
-    ensures { λ r. ⌜ (r ≡ x) × (r < 256) ⌝ }
-{
-    x as u32
-}
-
-// A byte as an index.
-fn index(x: u8) -> usize
-    ensures { λ r. ⌜ (r ≡ x) × (r < 256) ⌝ }
-{
-    x as usize
-}
-
-// Whether the bytes are a setting of the table's features.
-pub fn setting_fits(t: &[u32], setting: &[u8]) -> bool
-    requires { ⌜ Sound (now t) ⌝ }
-    ensures { λ r. ⌜ Tells r (Valid (sizes (now (t .entry))) (now (setting .entry))) ⌝ }
-{
-    let n = wide(head_word(t, 2));
-    if setting.len() != n {
-        return false;
-    }
-    let mut k: usize = 0;
-    while k < n {
-        if head_word(t, 3 + k) <= small(setting[k]) {
-            return false;
-        }
-        k += 1;
-    }
-    true
 }
 
 // The number that the rule of the place gives the setting: from the root, branch by branch.

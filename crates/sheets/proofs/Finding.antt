@@ -9,9 +9,9 @@ use Rattle.theory.specs.Settings.{Valid}
 use Rattle.theory.specs.Diagrams.{at, blank}
 use Rattle.theory.specs.Rules.{Node, Phrase, node, says}
 use Rattle.theory.proofs.Ways.{OnWay, way-start, way-end, way-node, way-feature, way-value, way-step}
-use Rattle.sheets.specs.Bytes.{byte, sizesOf, count, feature, width, branch, root}
-use Rattle.sheets.specs.Diagram.{branchOf, nodesOf, ruleOf, Good}
-use Rattle.sheets.proofs.Diagrams.{nodes-length, nodes-at, feature-at, branches-length, branches-at, branch-phrase, branch-node, below-ok, ordered-wf}
+use Rattle.sheet_bytes.specs.Bytes.{byte, sizesOf, count, feature, width, branch, root}
+use Rattle.sheet_check.specs.Diagram.{branchOf, nodesOf, ruleOf, Good}
+use Rattle.sheet_check.proofs.Diagrams.{nodes-length, nodes-at, feature-at, branches-length, branches-at, branch-phrase, branch-node, below-ok, ordered-wf}
 
 -- the branch word b stands on the way of the setting t
 abbrev pub Way : List ℕ → List ℕ → ℕ → Type 0

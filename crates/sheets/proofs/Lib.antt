@@ -1,11 +1,3 @@
-pub mod Sections
-pub mod Places
-pub mod Hashing
-pub mod Diagrams
-pub mod Walks
-pub mod Decoding
-pub mod Reading
-pub mod Writing
 pub mod Finding
 pub mod Answering
 pub mod Theorems

@@ -14,14 +14,14 @@ use Rattle.settings.specs.Refusals.{Ends}
 use Rattle.settings.specs.declared.refusals.Outcome.the-variants.{Taken, Refused}
 use Rattle.settings.specs.declared.refusals.Outcome.{Outcome}
 use Rattle.settings.proofs.Endings.{ends-unique}
-use Rattle.sheets.specs.Sections.{sheetBytes}
-use Rattle.sheets.specs.Sheet.{branchBytes, sheetOf, Writable, IsSheet, Written, NewerSheet}
-use Rattle.sheets.specs.Bytes.{count}
+use Rattle.sheet_bytes.specs.Sections.{sheetBytes}
+use Rattle.sheet_bytes.specs.Sheet.{branchBytes, sheetOf, Writable, IsSheet, Written, NewerSheet}
+use Rattle.sheet_bytes.specs.Bytes.{count}
+use Rattle.sheet_bytes.proofs.Places.{place-most}
+use Rattle.sheet_check.proofs.Reading.{sheet-good, sheet-sizes, sheet-says, written-good}
+use Rattle.sheet_check.proofs.Answering.{taken-sheet}
 use Rattle.sheets.specs.Lookup.{setting-cases, look-cases, Looks, returned, Returns}
 use Rattle.sheets.specs.declared.looking.Looked.{Looked}
-use Rattle.sheets.proofs.Places.{place-most}
-use Rattle.sheets.proofs.Answering.{taken-sheet}
-use Rattle.sheets.proofs.Reading.{sheet-good, sheet-sizes, sheet-says, written-good}
 
 written : (S : List ℕ) (g : Rule) (s : List ℕ) → Writable S g → sheetOf S g ≡ s → IsSheet S g s
 written S g s w e = record { writable = w; bytes = e }

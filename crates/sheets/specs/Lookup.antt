@@ -9,8 +9,8 @@ use Rattle.settings.specs.declared.refusals.Refusal.{Refusal}
 use Rattle.settings.specs.declared.refusals.Refusal.the-variants.{BadArgument}
 use Rattle.settings.specs.declared.refusals.Outcome.{Outcome}
 use Rattle.settings.specs.declared.refusals.Outcome.the-variants.{Taken, Refused}
-use Rattle.sheets.specs.Sheet.{IsSheet}
-use Rattle.sheets.specs.Checked.{sheet-cases}
+use Rattle.sheet_bytes.specs.Sheet.{IsSheet}
+use Rattle.sheet_check.specs.Checked.{sheet-cases}
 use Rattle.sheets.specs.declared.looking.Looked.{Looked}
 
 -- t is a setting of the features of the sheet s

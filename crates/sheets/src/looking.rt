@@ -1,21 +1,21 @@
 // The lookup of a setting straight in a sheet's bytes, for Rattle and for C.
-use crate::bytes::narrow;
-use crate::bytes::wide;
-use crate::checking::check;
-use crate::laying::branch_at;
-use crate::laying::feature_at;
-use crate::laying::features_of;
-use crate::laying::root_of;
 use settings::Outcome;
 use settings::Refusal;
 use settings::refusal_number;
 use settings::setting_ok;
+use sheet_bytes::branch_at;
+use sheet_bytes::feature_at;
+use sheet_bytes::features_of;
+use sheet_bytes::narrow;
+use sheet_bytes::root_of;
+use sheet_bytes::wide;
+use sheet_check::check;
 ghost use mathlib.Core.Path.{_≡_};
 ghost use Prim.Native.Nat.{_<_};
 ghost use Rattle.theory.specs.Settings.{Valid};
 ghost use Rattle.settings.specs.Tells.{Tells};
-ghost use Rattle.sheets.specs.Bytes.{sizesOf, Head};
-ghost use Rattle.sheets.specs.Diagram.{Ready, ruleOf};
+ghost use Rattle.sheet_bytes.specs.Bytes.{sizesOf, Head};
+ghost use Rattle.sheet_check.specs.Diagram.{Ready, ruleOf};
 ghost use Rattle.sheets.specs.Lookup.{Looks, Returns};
 
 // What a lookup gives.

@@ -1,21 +1,28 @@
 -- `cost_choose::rest_result`, `fill_branches` and `branch_result` meet their contracts: the remaining features fall; the first v branches are filled, and the memory is right for the table so far. Assumes nothing.
-use Rattle.cost_choose.proofs.Recalling.{hit, remembers-made, remembers-stored, still, still-there, still-if}
+use Rattle.cost_choose.proofs.Recalling.{hit, noted-made, noted-stored, still, still-there, still-if}
 use Rattle.cost_choose.proofs.Walking.{skip-most, choices-skip, choice-skip, first-place, second-place, choice-ends, still-left, choice-near, rule-step, choice-held, choices-step, choices-ext, more-fits, more-is, targets, sum-fits, choice-raised, choice-stopped}
-use Rattle.cost_choose.specs.Memory.{Remembers}
+use Rattle.cost_choose.specs.Memory.{Noted}
 use Rattle.cost_choose.specs.Choice.{choice}
 use Rattle.cost_nodes.proofs.Filling.{gives-is, gives-none, fill-start, fill-more, fill-stop, stop-result, fill-armed, fill-near, fill-make, filled, not-filled, filling-ext}
 use Rattle.cost_nodes.proofs.Stepping.{good-small}
-use Rattle.cost_nodes.specs.Nodes.{Filling}
+use Rattle.cost_nodes.specs.Nodes.{Filling, Result}
+use Rattle.cost_nodes.specs.declared.Answer.the-variants.{Is}
+use Rattle.cost_notes.proofs.Reading.{plain-head}
+use Rattle.notes.specs.Far.{memory}
+use Rattle.notes.specs.Plain.{plain}
+use Rattle.notes.proofs.Plain.{length-plain}
 use Rattle.cost_words.specs.Words.{target, nodes}
 use Rattle.rule_lending.proofs.Lending.{lent-small}
 use Rattle.rule_lending.specs.Lending.{lent}
 use Rattle.words.proofs.Words.{kept-features, kept-size}
 use Rattle.words.specs.Words.{features, size}
+use Rattle.theory.specs.Costs.{Cost}
 use Rattle.cost_laws.specs.Integers.{int}
 use lib.ListN.{length, getD-replicate}
 use native.Mathlib.Omega.{arith}
 use Prim.Native.Nat.{ℕ, _+_, _-_, _*_, _≤_, _<_}
-use mathlib.Core.Path.{_≡_, refl, _∙_}
+use mathlib.Core.Path.{_≡_, refl, sym, subst, _∙_}
+use mathlib.Core.List.{List}
 use borrow.Author.Needs.{needs}
 use borrow.Fn.Kinds.{In}
 use borrow.Fn.PlainCycle.{Measures, is, falls, and}
@@ -29,12 +36,12 @@ use Rattle.cost_choose.proofs.rest_result.Reads as rest-result
 use Rattle.cost_choose.proofs.rest_result.Kinds as rest-result-kinds
 use Rattle.cost_choose.proofs.+branch_result+fill_branches+rest_result.Lts-rest_result as rest-result-lts
 use Rattle.cost_choose.proofs.ended.Reads as ended-reads
-use Rattle.cost_choose.proofs.lowest.Reads as lowest-reads
+use Rattle.cost_choose.proofs.lowest_of.Reads as lowest-of-reads
 use Rattle.cost_choose.proofs.tag_of.Reads as tag-of-reads
-use Rattle.cost_memory.proofs.recall.Reads as recall-reads
-use Rattle.cost_memory.proofs.remember.Reads as remember-reads
-use Rattle.cost_nodes.proofs.arm_at.Reads as arm-at-reads
-use Rattle.cost_nodes.proofs.make.Reads as make-reads
+use Rattle.cost_notes.proofs.recall_in.Reads as recall-in-reads
+use Rattle.cost_notes.proofs.remember_in.Reads as remember-in-reads
+use Rattle.cost_notes.proofs.arm_in.Reads as arm-in-reads
+use Rattle.cost_notes.proofs.make_in.Reads as make-in-reads
 use Rattle.cost_words.proofs.difference_word.Reads as difference-word-reads
 use Rattle.cost_words.proofs.sum_word.Reads as sum-word-reads
 use Rattle.rule_lending.proofs.branch_at.Reads as branch-at-reads
@@ -44,13 +51,13 @@ use Rattle.cost_choose.proofs.+branch_result+fill_branches+rest_result.
 use Rattle.cost_choose.proofs.+branch_result+fill_branches+rest_result.Tie.{close}
 
 abbrev μ-branch-result : Measures 3 branch-result-kinds.ps ℕ
-μ-branch-result κs a = 3 * (features (a .1 .0 .now) - a .1 .1 .1 .0) + 1
+μ-branch-result κs a = 3 * (features (plain (a .1 .0 .now)) - a .1 .1 .1 .0) + 1
 
 abbrev μ-fill-branches : Measures 3 fill-branches-kinds.ps ℕ
-μ-fill-branches κs a = 3 * (features (a .1 .0 .now) - a .1 .1 .1 .0) - 1
+μ-fill-branches κs a = 3 * (features (plain (a .1 .0 .now)) - a .1 .1 .1 .0) - 1
 
 abbrev μ-rest-result : Measures 3 rest-result-kinds.ps ℕ
-μ-rest-result κs a = 3 * (features (a .1 .0 .now) - a .1 .1 .1 .0)
+μ-rest-result κs a = 3 * (features (plain (a .1 .0 .now)) - a .1 .1 .1 .0)
 
 abbrev branch-result-at : ℕ → In 3 branch-result-kinds.ps
 branch-result-at t =
@@ -88,10 +95,10 @@ abbrev branch-result-claims : ℕ → branch-result-lts.Claims
 branch-result-claims t = (sum-word-reads.Asked, sum-word-reads.Learnt, difference-word-reads.Asked, difference-word-reads.Learnt, rest-result-below t, rest-result.Post)
 
 abbrev fill-branches-claims : ℕ → fill-branches-lts.Claims
-fill-branches-claims t = (head-word-reads.Asked, head-word-reads.Learnt, wide-reads.Asked, wide-reads.Learnt, branch-at-reads.Asked, branch-at-reads.Learnt, arm-at-reads.Asked, arm-at-reads.Learnt, branch-result-below t, branch-result.Post)
+fill-branches-claims t = (head-word-reads.Asked, head-word-reads.Learnt, wide-reads.Asked, wide-reads.Learnt, branch-at-reads.Asked, branch-at-reads.Learnt, arm-in-reads.Asked, arm-in-reads.Learnt, branch-result-below t, branch-result.Post)
 
 abbrev rest-result-claims : ℕ → rest-result-lts.Claims
-rest-result-claims t = (ended-reads.Asked, ended-reads.Learnt, lowest-reads.Asked, lowest-reads.Learnt, rest-result-below t, rest-result.Post, tag-of-reads.Asked, tag-of-reads.Learnt, recall-reads.Asked, recall-reads.Learnt, fill-branches-below t, fill-branches.Post, make-reads.Asked, make-reads.Learnt, remember-reads.Asked, remember-reads.Learnt)
+rest-result-claims t = (ended-reads.Asked, ended-reads.Learnt, lowest-of-reads.Asked, lowest-of-reads.Learnt, rest-result-below t, rest-result.Post, tag-of-reads.Asked, tag-of-reads.Learnt, recall-in-reads.Asked, recall-in-reads.Learnt, fill-branches-below t, fill-branches.Post, make-in-reads.Asked, make-in-reads.Learnt, remember-in-reads.Asked, remember-in-reads.Learnt)
 
 branch-result-sum-word-requires : (t : ℕ) → branch-result-lts.Need-sum-word-requires (branch-result-claims t) (branch-result-at t) branch-result.Post
 branch-result-sum-word-requires t c κs = (c .before .before .before) .pre .1 .0 .ahead
@@ -134,46 +141,46 @@ branch-result-returns-2 t c = let p = (c .before .before .before .before .before
     (choice-raised _ _ _ _ _ _ _ _ _ p _ _ (more-is _ _ _ _ _ _ _ _ _ p _ ((c .before .before .before .before .before .before .before .before .before .before .before .difference-word) .result) ((c .before .before .before .before .before .before .before .before .before .before .before .before .sum-word) .ensures) ((c .before .before .before .before .before .before .before .before .before .before .before .difference-word) .ensures)) _ ((c .before .before .before .before .before .before .before .before .rest-result) .ensures .0) _ _ _ ((c .before .before .z) .given .1) ((c .sum-word2) .ensures), still _ _ _ _ _ _ ((c .before .before .z) .given .1) ((c .before .before .before .before .before .before .before .before .rest-result) .ensures .1))
 
 abbrev fill-branches-Inv-loop : fill-branches-lts.InvT-loop
-fill-branches-Inv-loop r t₀ s₀ k b x y d n goes₀ adds₀ v₀ t s goes adds v = (n ≡ size t₀ k) × (v ≤ n) × Filling t₀ t k (choice (lent r k b) (nodes t₀) k (target x) (target y) (int d)) v goes adds × Remembers r t s × (length s ≡ length s₀)
+fill-branches-Inv-loop r t₀ s₀ k b x y d n goes₀ adds₀ v₀ t s goes adds v = (n ≡ size (plain t₀) k) × (v ≤ n) × Filling (plain t₀) (plain t) k (choice (lent r k b) (nodes (plain t₀)) k (target x) (target y) (int d)) v goes adds × Noted r t s × (length t ≡ length t₀) × (length s ≡ length s₀)
 
 abbrev fill-branches-μ-loop : fill-branches-lts.MeasureT-loop
 fill-branches-μ-loop r t₀ s₀ k b x y d n goes₀ adds₀ v₀ t s goes adds v = n - v
 
 fill-branches-add-head-word : (t : ℕ) → fill-branches-lts.Need-add-head-word (fill-branches-claims t) (fill-branches-at t) fill-branches.Post fill-branches-Inv-loop fill-branches-μ-loop
-fill-branches-add-head-word t c = search needs
+fill-branches-add-head-word t c = let a = (c .before .before .before .before) in omega (arith, a .pre .1 .0 .holds .laid .laid .few, a .pre .1 .2)
 
 fill-branches-head-word-requires : (t : ℕ) → fill-branches-lts.Need-head-word-requires (fill-branches-claims t) (fill-branches-at t) fill-branches.Post fill-branches-Inv-loop fill-branches-μ-loop
-fill-branches-head-word-requires t c κs = search needs
+fill-branches-head-word-requires t c κs = let a = (c .before .before .before .before) in omega (arith, a .pre .1 .0 .holds .laid .laid .few, a .pre .1 .2, a .pre .1 .0 .holds .laid .laid .room, length-plain (a .args .t .now))
 
 fill-branches-wide-requires : (t : ℕ) → fill-branches-lts.Need-wide-requires (fill-branches-claims t) (fill-branches-at t) fill-branches.Post fill-branches-Inv-loop fill-branches-μ-loop
 fill-branches-wide-requires t c κs = search needs
 
 fill-branches-loop-holds : (t : ℕ) → fill-branches-lts.Need-loop-holds (fill-branches-claims t) (fill-branches-at t) fill-branches.Post fill-branches-Inv-loop fill-branches-μ-loop
 fill-branches-loop-holds t c = let a = (c .before .before .before .before .before .before) in
-    let e : (c .wide) .result ≡ size (a .args .t .now) (a .args .k) = (c .wide) .ensures .0 ∙ (c .before .head-word) .ensures in
-    (e, omega arith, fill-start _ (a .args .k) _ (a .pre .1 .0 .holds) (a .pre .1 .2) _ _ refl refl (λ u h. getD-replicate 8 u 0 0 h), a .pre .1 .1, refl)
+    let e : (c .wide) .result ≡ size (plain (a .args .t .now)) (a .args .k) = (c .wide) .ensures .0 ∙ (c .before .head-word) .ensures ∙ sym (plain-head (a .args .t .now) (3 + a .args .k) (omega (arith, a .pre .1 .0 .holds .laid .laid .few, a .pre .1 .2))) in
+    (e, omega arith, fill-start _ (a .args .k) _ (a .pre .1 .0 .holds) (a .pre .1 .2) _ _ refl refl (λ u h. getD-replicate 8 u 0 0 h), a .pre .1 .1, refl, refl)
 
 fill-branches-branch-at-requires : (t : ℕ) → fill-branches-lts.Need-branch-at-requires (fill-branches-claims t) (fill-branches-at t) fill-branches.Post fill-branches-Inv-loop fill-branches-μ-loop
 fill-branches-branch-at-requires t c κs = let p = (c .before .before .before .before .before .before .before .before) .pre .1 in
     let q = rule-step _ _ _ _ _ _ _ (p .0) ((c .before .loop) .v) (p .2) (omega (arith, (c .before .loop) .inv .0, (c .loop-test))) in
     (p .0 .rule, q .0, q .1)
 
-fill-branches-arm-at-requires : (t : ℕ) → fill-branches-lts.Need-arm-at-requires (fill-branches-claims t) (fill-branches-at t) fill-branches.Post fill-branches-Inv-loop fill-branches-μ-loop
-fill-branches-arm-at-requires t c κs = let a = (c .before .before .before .before .before .before .before .before .before .before) in
+fill-branches-arm-in-requires : (t : ℕ) → fill-branches-lts.Need-arm-in-requires (fill-branches-claims t) (fill-branches-at t) fill-branches.Post fill-branches-Inv-loop fill-branches-μ-loop
+fill-branches-arm-in-requires t c κs = let a = (c .before .before .before .before .before .before .before .before .before .before) in
     let l = (c .before .before .before .loop) in
     let fl = l .inv .2 in
     let kp = fl .filled .grown .kept in (
-      first-place _ _ _ _ _ _ _ (choices-ext _ (a .args .t .now) (a .args .k) _ _ _ _ (a .pre .1 .0) _ _ (l .v) (l .goes) (l .adds) fl (a .pre .1 .2)),
+      first-place _ _ _ _ _ _ _ (choices-ext _ (plain (a .args .t .now)) (a .args .k) _ _ _ _ (a .pre .1 .0) _ _ (l .v) (l .goes) (l .adds) fl (a .pre .1 .2)),
       omega (arith, kept-features _ _ kp, a .pre .1 .2),
       omega (arith, kept-size _ _ kp (a .pre .1 .0 .holds .laid .laid .few) (a .args .k) (a .pre .1 .2), l .inv .0, (c .before .before .loop-test)),
     )
 
-fill-branches-arm-at-requires-2 : (t : ℕ) → fill-branches-lts.Need-arm-at-requires-2 (fill-branches-claims t) (fill-branches-at t) fill-branches.Post fill-branches-Inv-loop fill-branches-μ-loop
-fill-branches-arm-at-requires-2 t c κs = let a = (c .before .before .before .before .before .before .before .before .before .before .before .before) in
+fill-branches-arm-in-requires-2 : (t : ℕ) → fill-branches-lts.Need-arm-in-requires-2 (fill-branches-claims t) (fill-branches-at t) fill-branches.Post fill-branches-Inv-loop fill-branches-μ-loop
+fill-branches-arm-in-requires-2 t c κs = let a = (c .before .before .before .before .before .before .before .before .before .before .before .before) in
     let l = (c .before .before .before .before .before .loop) in
     let fl = l .inv .2 in
     let kp = fl .filled .grown .kept in (
-      second-place _ _ _ _ _ _ _ (choices-ext _ (a .args .t .now) (a .args .k) _ _ _ _ (a .pre .1 .0) _ _ (l .v) (l .goes) (l .adds) fl (a .pre .1 .2)),
+      second-place _ _ _ _ _ _ _ (choices-ext _ (plain (a .args .t .now)) (a .args .k) _ _ _ _ (a .pre .1 .0) _ _ (l .v) (l .goes) (l .adds) fl (a .pre .1 .2)),
       omega (arith, kept-features _ _ kp, a .pre .1 .2),
       omega (arith, kept-size _ _ kp (a .pre .1 .0 .holds .laid .laid .few) (a .args .k) (a .pre .1 .2), l .inv .0, (c .before .before .before .before .loop-test)),
     )
@@ -188,7 +195,7 @@ fill-branches-branch-result-requires t c κs = let a = (c .before .before .befor
     let kp = fl .filled .grown .kept in
     let n = kept-features _ _ kp in
     let hk = a .pre .1 .2 in
-    (omega arith, (choices-step _ _ _ _ _ _ _ (choices-ext _ (a .args .t .now) (a .args .k) _ _ _ _ (a .pre .1 .0) _ _ (l .v) (l .goes) (l .adds) fl hk) (l .v) _ _ _ _ _ (omega arith) (omega (arith, kept-size _ _ kp (a .pre .1 .0 .holds .laid .laid .few) (a .args .k) hk, l .inv .0, (c .before .before .before .before .before .before .before .loop-test))) ((c .before .before .before .before .before .before .branch-at) .ensures) ((c .before .before .before .before .arm-at) .ensures) ((c .before .before .arm-at2) .ensures), l .inv .3))
+    (omega arith, (choices-step _ _ _ _ _ _ _ (choices-ext _ (plain (a .args .t .now)) (a .args .k) _ _ _ _ (a .pre .1 .0) _ _ (l .v) (l .goes) (l .adds) fl hk) (l .v) _ _ _ _ _ (omega arith) (omega (arith, kept-size _ _ kp (a .pre .1 .0 .holds .laid .laid .few) (a .args .k) hk, l .inv .0, (c .before .before .before .before .before .before .before .loop-test))) ((c .before .before .before .before .before .before .branch-at) .ensures) ((c .before .before .before .before .arm-in) .ensures) ((c .before .before .arm-in2) .ensures), l .inv .3))
 
 fill-branches-enum-known-z : (t : ℕ) → fill-branches-lts.Need-enum-known-z (fill-branches-claims t) (fill-branches-at t) fill-branches.Post fill-branches-Inv-loop fill-branches-μ-loop
 fill-branches-enum-known-z t c = search needs
@@ -197,7 +204,7 @@ fill-branches-enum-told : (t : ℕ) → fill-branches-lts.Need-enum-told (fill-b
 fill-branches-enum-told t c = search needs
 
 fill-branches-same-length : (t : ℕ) → fill-branches-lts.Need-same-length (fill-branches-claims t) (fill-branches-at t) fill-branches.Post fill-branches-Inv-loop fill-branches-μ-loop
-fill-branches-same-length t c = omega (arith, (c .before .before .before .before .before .before .before .before .before .before .before .before .before .before .before .loop) .inv .2 .filled .grown .kept .long, (c .before .before .before .before .before .before .branch-result) .ensures .0 .grown .kept .long)
+fill-branches-same-length t c = search needs
 
 fill-branches-same-length-2 : (t : ℕ) → fill-branches-lts.Need-same-length-2 (fill-branches-claims t) (fill-branches-at t) fill-branches.Post fill-branches-Inv-loop fill-branches-μ-loop
 fill-branches-same-length-2 t c = search needs
@@ -206,8 +213,8 @@ fill-branches-returns : (t : ℕ) → fill-branches-lts.Need-returns (fill-branc
 fill-branches-returns t c = let a = (c .before .before .before .before .before .before .before .before .before .before .before .before .before .before .before .before .before .before .before .before .before .before) in
     let l = (c .before .before .before .before .before .before .before .before .before .before .before .before .before .before .before .loop) in
     let fl = l .inv .2 in (
-      fill-stop (a .args .t .now) (a .args .k) _ (a .pre .1 .0 .holds) (a .pre .1 .2) (l .t) _ (l .v) (l .goes) (l .adds) _ _ fl (omega (arith, l .inv .0, (c .before .before .before .before .before .before .before .before .before .before .before .before .before .before .loop-test)))
-          (choice-held _ (a .args .t .now) (a .args .k) _ _ _ _ (a .pre .1 .0) (l .t) (l .v) _ _ _ _ _ (filling-ext (a .args .t .now) (a .args .k) _ (a .pre .1 .0 .holds) (a .pre .1 .2) (l .t) (l .v) (l .goes) (l .adds) fl) ((c .before .before .before .before .before .before .before .before .before .before .before .before .before .branch-at) .ensures) ((c .before .before .before .before .before .before .before .before .before .before .before .arm-at) .ensures) ((c .before .before .before .before .before .before .before .before .before .arm-at2) .ensures))
+      fill-stop (plain (a .args .t .now)) (a .args .k) _ (a .pre .1 .0 .holds) (a .pre .1 .2) (plain (l .t)) _ (l .v) (l .goes) (l .adds) _ _ fl (omega (arith, l .inv .0, (c .before .before .before .before .before .before .before .before .before .before .before .before .before .before .loop-test)))
+          (choice-held _ (plain (a .args .t .now)) (a .args .k) _ _ _ _ (a .pre .1 .0) (plain (l .t)) (l .v) _ _ _ _ _ (filling-ext (plain (a .args .t .now)) (a .args .k) _ (a .pre .1 .0 .holds) (a .pre .1 .2) (plain (l .t)) (l .v) (l .goes) (l .adds) fl) ((c .before .before .before .before .before .before .before .before .before .before .before .before .before .branch-at) .ensures) ((c .before .before .before .before .before .before .before .before .before .before .before .arm-in) .ensures) ((c .before .before .before .before .before .before .before .before .before .arm-in2) .ensures))
           ((c .before .before .before .before .before .before .branch-result) .ensures .0) ((c .enum-told) .given .1),
       tt,
     )
@@ -238,10 +245,11 @@ fill-branches-loop-again t c = let a = (c .before .before .before .before .befor
     let fl = l .inv .2 in (
       l .inv .0,
       omega (arith, (c .before .before .before .before .before .before .before .before .before .before .before .before .before .before .before .loop-test)),
-      fill-more (a .args .t .now) (a .args .k) _ (a .pre .1 .0 .holds) (a .pre .1 .2) (l .t) _ (l .v) _ _ (l .goes) (l .adds) _ _ fl (omega (arith, l .inv .0, (c .before .before .before .before .before .before .before .before .before .before .before .before .before .before .before .loop-test)))
-          (choice-held _ (a .args .t .now) (a .args .k) _ _ _ _ (a .pre .1 .0) (l .t) (l .v) _ _ _ _ _ (filling-ext (a .args .t .now) (a .args .k) _ (a .pre .1 .0 .holds) (a .pre .1 .2) (l .t) (l .v) (l .goes) (l .adds) fl) ((c .before .before .before .before .before .before .before .before .before .before .before .before .before .before .branch-at) .ensures) ((c .before .before .before .before .before .before .before .before .before .before .before .before .arm-at) .ensures) ((c .before .before .before .before .before .before .before .before .before .before .arm-at2) .ensures))
+      fill-more (plain (a .args .t .now)) (a .args .k) _ (a .pre .1 .0 .holds) (a .pre .1 .2) (plain (l .t)) _ (l .v) _ _ (l .goes) (l .adds) _ _ fl (omega (arith, l .inv .0, (c .before .before .before .before .before .before .before .before .before .before .before .before .before .before .before .loop-test)))
+          (choice-held _ (plain (a .args .t .now)) (a .args .k) _ _ _ _ (a .pre .1 .0) (plain (l .t)) (l .v) _ _ _ _ _ (filling-ext (plain (a .args .t .now)) (a .args .k) _ (a .pre .1 .0 .holds) (a .pre .1 .2) (plain (l .t)) (l .v) (l .goes) (l .adds) fl) ((c .before .before .before .before .before .before .before .before .before .before .before .before .before .before .branch-at) .ensures) ((c .before .before .before .before .before .before .before .before .before .before .before .before .arm-in) .ensures) ((c .before .before .before .before .before .before .before .before .before .before .arm-in2) .ensures))
           ((c .before .before .before .before .before .before .before .branch-result) .ensures .0) ((c .before .z) .given .1),
       still _ _ _ _ _ _ ((c .before .z) .given .1) ((c .before .before .before .before .before .before .before .branch-result) .ensures .1),
+      search needs,
       search needs,
     )
 
@@ -254,7 +262,7 @@ fill-branches-same-length-4 t c = search needs
 fill-branches-returns-2 : (t : ℕ) → fill-branches-lts.Need-returns-2 (fill-branches-claims t) (fill-branches-at t) fill-branches.Post fill-branches-Inv-loop fill-branches-μ-loop
 fill-branches-returns-2 t c = let a = (c .before .before .before .before .before .before .before .before) in
     let l = (c .before .loop) in
-    let e : l .v ≡ size (a .args .t .now) (a .args .k) = omega (arith, l .inv .0, l .inv .1, (c .loop-test)) in
+    let e : l .v ≡ size (plain (a .args .t .now)) (a .args .k) = omega (arith, l .inv .0, l .inv .1, (c .loop-test)) in
     (rw e at (l .inv .2), l .inv .3)
 
 rest-result-ended-requires : (t : ℕ) → rest-result-lts.Need-ended-requires (rest-result-claims t) (rest-result-at t) rest-result.Post
@@ -264,14 +272,14 @@ rest-result-returns : (t : ℕ) → rest-result-lts.Need-returns (rest-result-cl
 rest-result-returns t c = let a = (c .before .before .before .before .before) in
     (choice-ends _ _ _ _ _ _ _ (a .pre .1 .0) (omega (arith, (c .before .if1))) (a .args .d) refl _ ((c .ended) .ensures), still-there _ _ _ ((c .ended) .result) (a .pre .1 .1))
 
-rest-result-lowest-requires : (t : ℕ) → rest-result-lts.Need-lowest-requires (rest-result-claims t) (rest-result-at t) rest-result.Post
-rest-result-lowest-requires t c κs = let p = (c .before .before .before .before .before) .pre .1 .0 in
+rest-result-lowest-of-requires : (t : ℕ) → rest-result-lts.Need-lowest-of-requires (rest-result-claims t) (rest-result-at t) rest-result.Post
+rest-result-lowest-of-requires t c κs = let p = (c .before .before .before .before .before) .pre .1 .0 in
     (record { from = _; lends = p .rule }, p .holds .laid .laid, good-small _ _ _ (p .first), good-small _ _ _ (p .second))
 
 rest-result-rest-result-requires : (t : ℕ) → rest-result-lts.Need-rest-result-requires (rest-result-claims t) (rest-result-at t) rest-result.Post
 rest-result-rest-result-requires t c κs = let p = (c .before .before .before .before .before .before .before .before .before) .pre .1 in
-    let m = skip-most _ _ _ _ _ _ _ ((c .before .before .before .lowest) .ensures) _ (p .0) (omega (arith, (c .before .before .if2))) in
-    (omega arith, (choices-skip _ _ _ _ _ _ _ ((c .before .before .before .lowest) .ensures) _ (p .0) (omega (arith, (c .before .before .if2))), p .1))
+    let m = skip-most _ _ _ _ _ _ _ ((c .before .before .before .lowest-of) .ensures) _ (p .0) (omega (arith, (c .before .before .if2))) in
+    (omega arith, (choices-skip _ _ _ _ _ _ _ ((c .before .before .before .lowest-of) .ensures) _ (p .0) (omega (arith, (c .before .before .if2))), p .1))
 
 rest-result-same-length : (t : ℕ) → rest-result-lts.Need-same-length (rest-result-claims t) (rest-result-at t) rest-result.Post
 rest-result-same-length t c = search needs
@@ -281,15 +289,15 @@ rest-result-same-length-2 t c = search needs
 
 rest-result-returns-2 : (t : ℕ) → rest-result-lts.Need-returns-2 (rest-result-claims t) (rest-result-at t) rest-result.Post
 rest-result-returns-2 t c = let p = (c .before .before .before .before .before .before .before .before .before .before .before .before .before .before) .pre .1 in
-    (choice-skip _ _ _ _ _ _ _ ((c .before .before .before .before .before .before .before .before .lowest) .ensures) _ (p .0) (omega (arith, (c .before .before .before .before .before .before .before .if2))) _ ((c .before .before .before .before .rest-result) .result) ((c .before .before .before .before .rest-result) .ensures .0), (c .before .before .before .before .rest-result) .ensures .1)
+    (choice-skip _ _ _ _ _ _ _ ((c .before .before .before .before .before .before .before .before .lowest-of) .ensures) _ (p .0) (omega (arith, (c .before .before .before .before .before .before .before .if2))) _ ((c .before .before .before .before .rest-result) .result) ((c .before .before .before .before .rest-result) .ensures .0), (c .before .before .before .before .rest-result) .ensures .1)
 
 rest-result-tag-of-requires : (t : ℕ) → rest-result-lts.Need-tag-of-requires (rest-result-claims t) (rest-result-at t) rest-result.Post
 rest-result-tag-of-requires t c κs = let p = (c .before .before .before .before .before .before .before) .pre .1 .0 in
     let hk = still-left _ _ _ _ _ _ _ p (omega (arith, (c .before .before .before .if1))) in
     (omega (arith, p .holds .laid .laid .few), lent-small (p .rule))
 
-rest-result-recall-requires : (t : ℕ) → rest-result-lts.Need-recall-requires (rest-result-claims t) (rest-result-at t) rest-result.Post
-rest-result-recall-requires t c κs = search needs
+rest-result-recall-in-requires : (t : ℕ) → rest-result-lts.Need-recall-in-requires (rest-result-claims t) (rest-result-at t) rest-result.Post
+rest-result-recall-in-requires t c κs = (c .before .before .before .before .before .before .before .before .before .before) .pre .1 .1 .room
 
 rest-result-enum-known-memo : (t : ℕ) → rest-result-lts.Need-enum-known-memo (rest-result-claims t) (rest-result-at t) rest-result.Post
 rest-result-enum-known-memo t c = search needs
@@ -301,25 +309,26 @@ rest-result-same-length-4 : (t : ℕ) → rest-result-lts.Need-same-length-4 (re
 rest-result-same-length-4 t c = search needs
 
 rest-result-returns-3 : (t : ℕ) → rest-result-lts.Need-returns-3 (rest-result-claims t) (rest-result-at t) rest-result.Post
-rest-result-returns-3 t c = let a = (c .before .before .before .before .before .before .before .before .before .before .before .before .before) in
+rest-result-returns-3 t c = let a = (c .before .before .before .before .before .before .before .before .before .before .before .before .before .before) in
     let p = a .pre .1 in
-    let hk = still-left _ _ _ _ _ _ _ (p .0) (omega (arith, (c .before .before .before .before .before .before .before .before .before .if1))) in
-    (hit _ _ ((c .before .before .before .before .before .tag-of) .result) (a .args .k) (a .args .b) (a .args .x) (a .args .y) (a .args .d) (a .args .s .now) _ _ _ (p .0) (omega (arith, p .0 .holds .laid .laid .few)) ((c .before .before .before .before .before .tag-of) .ensures) (p .1) ((c .before .before .before .recall) .ensures) ((c .before .memo) .given .1), p .1)
+    let hk = still-left _ _ _ _ _ _ _ (p .0) (omega (arith, (c .before .before .before .before .before .before .before .before .before .before .if1))) in
+    (hit _ _ ((c .before .before .before .before .before .before .tag-of) .result) (a .args .k) (a .args .b) (a .args .x) (a .args .y) (a .args .d) (memory (a .args .t .now) (a .args .s .now)) _ _ _ (p .0) (omega (arith, p .0 .holds .laid .laid .few)) ((c .before .before .before .before .before .before .tag-of) .ensures) (p .1 .right) ((c .before .before .before .recall-in) .ensures) ((c .before .memo) .given .1), p .1)
 
 rest-result-enum-told : (t : ℕ) → rest-result-lts.Need-enum-told (rest-result-claims t) (rest-result-at t) rest-result.Post
 rest-result-enum-told t c = search needs
 
 rest-result-fill-branches-requires : (t : ℕ) → rest-result-lts.Need-fill-branches-requires (rest-result-claims t) (rest-result-at t) rest-result.Post
-rest-result-fill-branches-requires t c κs = let p = (c .before .before .before .before .before .before .before .before .before .before .before .before .before .before) .pre .1 in
-    let hk = still-left _ _ _ _ _ _ _ (p .0) (omega (arith, (c .before .before .before .before .before .before .before .before .before .before .if1))) in
+rest-result-fill-branches-requires t c κs = let p = (c .before .before .before .before .before .before .before .before .before .before .before .before .before .before .before) .pre .1 in
+    let hk = still-left _ _ _ _ _ _ _ (p .0) (omega (arith, (c .before .before .before .before .before .before .before .before .before .before .before .if1))) in
     (omega arith, (p .0, p .1, hk))
 
-rest-result-make-requires : (t : ℕ) → rest-result-lts.Need-make-requires (rest-result-claims t) (rest-result-at t) rest-result.Post
-rest-result-make-requires t c κs = let a = (c .before .before .before .before .before .before .before .before .before .before .before .before .before .before .before .before .before .before .before .before .before .before .before) in
+rest-result-make-in-requires : (t : ℕ) → rest-result-lts.Need-make-in-requires (rest-result-claims t) (rest-result-at t) rest-result.Post
+rest-result-make-in-requires t c κs = let a = (c .before .before .before .before .before .before .before .before .before .before .before .before .before .before .before .before .before .before .before .before .before .before .before .before) in
     let p = a .pre .1 .0 in
-    let hk = still-left _ _ _ _ _ _ _ p (omega (arith, (c .before .before .before .before .before .before .before .before .before .before .before .before .before .before .before .before .before .before .before .if1))) in
-    let fl = filled _ _ _ _ _ _ _ ((c .before .before .before .if3) .taken) ((c .before .before .before .before .before .before .before .before .fill-branches) .ensures .0) in
-    (fl .filled .grown .well, omega (arith, kept-features _ _ (fl .filled .grown .kept)), fill-armed (a .args .t .now) (a .args .k) _ (p .holds) hk _ _ _ fl (fill-near (a .args .t .now) (a .args .k) _ (p .holds) hk _ _ _ fl (choice-near _ _ _ _ _ _ _ p)))
+    let g : Cost = choice (lent (a .args .r .now) (a .args .k) (a .args .b)) (nodes (plain (a .args .t .now))) (a .args .k) (target (a .args .x)) (target (a .args .y)) (int (a .args .d)) in
+    let hk = still-left _ _ _ _ _ _ _ p (omega (arith, (c .before .before .before .before .before .before .before .before .before .before .before .before .before .before .before .before .before .before .before .before .if1))) in
+    let fl = filled _ _ _ g _ _ _ ((c .before .before .before .if3) .taken) ((c .before .before .before .before .before .before .before .before .fill-branches) .ensures .0) in
+    (still-if _ _ _ _ ((c .before .before .before .if3) .taken) ((c .before .before .before .before .before .before .before .before .fill-branches) .ensures .1) .room, fl .filled .grown .well, omega (arith, kept-features _ _ (fl .filled .grown .kept)), fill-armed (plain (a .args .t .now)) (a .args .k) g (p .holds) hk _ _ _ fl (fill-near (plain (a .args .t .now)) (a .args .k) g (p .holds) hk _ _ _ fl (choice-near _ _ _ _ _ _ _ p)))
 
 rest-result-enum-known-z : (t : ℕ) → rest-result-lts.Need-enum-known-z (rest-result-claims t) (rest-result-at t) rest-result.Post
 rest-result-enum-known-z t c = search needs
@@ -334,14 +343,19 @@ rest-result-same-length-6 : (t : ℕ) → rest-result-lts.Need-same-length-6 (re
 rest-result-same-length-6 t c = search needs
 
 rest-result-returns-4 : (t : ℕ) → rest-result-lts.Need-returns-4 (rest-result-claims t) (rest-result-at t) rest-result.Post
-rest-result-returns-4 t c = let a = (c .before .before .before .before .before .before .before .before .before .before .before .before .before .before .before .before .before .before .before .before .before .before .before .before .before .before .before .before) in
+rest-result-returns-4 t c = let a = (c .before .before .before .before .before .before .before .before .before .before .before .before .before .before .before .before .before .before .before .before .before .before .before .before .before .before .before .before .before) in
     let p = a .pre .1 .0 in
-    let hk = still-left _ _ _ _ _ _ _ p (omega (arith, (c .before .before .before .before .before .before .before .before .before .before .before .before .before .before .before .before .before .before .before .before .before .before .before .before .if1))) in
-    let fl = filled _ _ _ _ _ _ _ ((c .before .before .before .before .before .before .before .before .if3) .taken) ((c .before .before .before .before .before .before .before .before .before .before .before .before .before .fill-branches) .ensures .0) in
-    (gives-none ((c .enum-told2) .given .1) (fill-make (a .args .t .now) (a .args .k) _ (p .holds) hk _ _ _ _ ((c .before .before .before .before .make) .result) fl ((c .before .before .before .before .make) .ensures)), tt)
+    let g : Cost = choice (lent (a .args .r .now) (a .args .k) (a .args .b)) (nodes (plain (a .args .t .now))) (a .args .k) (target (a .args .x)) (target (a .args .y)) (int (a .args .d)) in
+    let hk = still-left _ _ _ _ _ _ _ p (omega (arith, (c .before .before .before .before .before .before .before .before .before .before .before .before .before .before .before .before .before .before .before .before .before .before .before .before .before .if1))) in
+    let fl = filled _ _ _ g _ _ _ ((c .before .before .before .before .before .before .before .before .if3) .taken) ((c .before .before .before .before .before .before .before .before .before .before .before .before .before .fill-branches) .ensures .0) in
+    (gives-none ((c .enum-told2) .given .1) (fill-make (plain (a .args .t .now)) (a .args .k) g (p .holds) hk _ _ _ _ ((c .before .before .before .before .make-in) .result) fl ((c .before .before .before .before .make-in) .ensures .0)), tt)
 
-rest-result-remember-requires : (t : ℕ) → rest-result-lts.Need-remember-requires (rest-result-claims t) (rest-result-at t) rest-result.Post
-rest-result-remember-requires t c κs = omega (arith, (c .before .before .before .before .before .before .before .before .before .before .before .before .before .before .before .before .before .before .before .before .before .before .tag-of) .ensures)
+rest-result-remember-in-requires : (t : ℕ) → rest-result-lts.Need-remember-in-requires (rest-result-claims t) (rest-result-at t) rest-result.Post
+rest-result-remember-in-requires t c κs = let a = (c .before .before .before .before .before .before .before .before .before .before .before .before .before .before .before .before .before .before .before .before .before .before .before .before .before .before .before .before .before .before .before .before) in
+    let g : Cost = choice (lent (a .args .r .now) (a .args .k) (a .args .b)) (nodes (plain (a .args .t .now))) (a .args .k) (target (a .args .x)) (target (a .args .y)) (int (a .args .d)) in
+    let f = (c .before .before .before .before .before .before .before .before .before .before .before .before .before .before .before .before .fill-branches) in
+    let fl = filled _ _ _ g _ _ _ ((c .before .before .before .before .before .before .before .before .before .before .before .if3) .taken) (f .ensures .0) in
+    (noted-made _ _ _ _ (f .result .goes) (f .result .adds) _ _ _ _ (fl .filled .grown .well) ((c .before .before .before .before .before .before .before .make-in) .ensures) ((c .before .before .before .z) .given .1) (still-if _ _ _ _ ((c .before .before .before .before .before .before .before .before .before .before .before .if3) .taken) (f .ensures .1)) .room, omega (arith, (c .before .before .before .before .before .before .before .before .before .before .before .before .before .before .before .before .before .before .before .before .before .before .before .before .tag-of) .ensures))
 
 rest-result-same-length-7 : (t : ℕ) → rest-result-lts.Need-same-length-7 (rest-result-claims t) (rest-result-at t) rest-result.Post
 rest-result-same-length-7 t c = search needs
@@ -350,16 +364,19 @@ rest-result-same-length-8 : (t : ℕ) → rest-result-lts.Need-same-length-8 (re
 rest-result-same-length-8 t c = search needs
 
 rest-result-returns-5 : (t : ℕ) → rest-result-lts.Need-returns-5 (rest-result-claims t) (rest-result-at t) rest-result.Post
-rest-result-returns-5 t c = let a = (c .before .before .before .before .before .before .before .before .before .before .before .before .before .before .before .before .before .before .before .before .before .before .before .before .before .before .before .before .before .before .before .before .before) in
+rest-result-returns-5 t c = let a = (c .before .before .before .before .before .before .before .before .before .before .before .before .before .before .before .before .before .before .before .before .before .before .before .before .before .before .before .before .before .before .before .before .before .before .before .before .before) in
     let p = a .pre .1 .0 in
-    let hk = still-left _ _ _ _ _ _ _ p (omega (arith, (c .before .before .before .before .before .before .before .before .before .before .before .before .before .before .before .before .before .before .before .before .before .before .before .before .before .before .before .before .before .if1))) in
-    let fl = filled _ _ _ _ _ _ _ ((c .before .before .before .before .before .before .before .before .before .before .before .before .before .if3) .taken) ((c .before .before .before .before .before .before .before .before .before .before .before .before .before .before .before .before .before .before .fill-branches) .ensures .0) in
-    let q = (c .before .before .before .before .before .z) .given .1 in
-    let re = gives-is q (fill-make (a .args .t .now) (a .args .k) _ (p .holds) hk _ _ _ _ ((c .before .before .before .before .before .before .before .before .before .make) .result) fl ((c .before .before .before .before .before .before .before .before .before .make) .ensures)) in (
-      re,
-      remembers-stored _ _ _ ((c .before .before .before .before .before .before .before .before .before .before .before .before .before .before .before .before .before .before .before .before .before .before .before .before .before .tag-of) .result) (a .args .k) (a .args .b) (a .args .x) (a .args .y) (a .args .d) _ _ _ _ p (omega (arith, p .holds .laid .laid .few)) ((c .before .before .before .before .before .before .before .before .before .before .before .before .before .before .before .before .before .before .before .before .before .before .before .before .before .tag-of) .ensures)
-          (remembers-made _ _ _ (a .args .k) ((c .before .before .before .before .before .before .before .before .before .before .before .before .before .before .before .before .before .before .fill-branches) .result .goes) ((c .before .before .before .before .before .before .before .before .before .before .before .before .before .before .before .before .before .before .fill-branches) .result .adds) _ _ _ _ (fl .filled .grown .well) ((c .before .before .before .before .before .before .before .before .before .make) .ensures) q (still-if _ _ _ _ ((c .before .before .before .before .before .before .before .before .before .before .before .before .before .if3) .taken) ((c .before .before .before .before .before .before .before .before .before .before .before .before .before .before .before .before .before .before .fill-branches) .ensures .1)))
-          ((c .before .before .remember) .ensures) re,
+    let g : Cost = choice (lent (a .args .r .now) (a .args .k) (a .args .b)) (nodes (plain (a .args .t .now))) (a .args .k) (target (a .args .x)) (target (a .args .y)) (int (a .args .d)) in
+    let hk = still-left _ _ _ _ _ _ _ p (omega (arith, (c .before .before .before .before .before .before .before .before .before .before .before .before .before .before .before .before .before .before .before .before .before .before .before .before .before .before .before .before .before .before .before .before .before .if1))) in
+    let fl = filled _ _ _ g _ _ _ ((c .before .before .before .before .before .before .before .before .before .before .before .before .before .before .before .before .if3) .taken) ((c .before .before .before .before .before .before .before .before .before .before .before .before .before .before .before .before .before .before .before .before .before .fill-branches) .ensures .0) in
+    let q = (c .before .before .before .before .before .before .before .before .z) .given .1 in
+    let f = (c .before .before .before .before .before .before .before .before .before .before .before .before .before .before .before .before .before .before .before .before .before .fill-branches) in
+    let m = (c .before .before .before .before .before .before .before .before .before .before .before .before .make-in) in
+    let u = (c .before .before .before .before .before .before .before .before .before .before .before .before .before .before .before .before .before .before .before .before .before .before .before .before .before .before .before .before .before .tag-of) in
+    let re = gives-is q (fill-make (plain (a .args .t .now)) (a .args .k) g (p .holds) hk _ _ _ _ (m .result) fl (m .ensures .0)) in
+    let nm = noted-made _ _ _ (a .args .k) (f .result .goes) (f .result .adds) _ _ _ _ (fl .filled .grown .well) (m .ensures) q (still-if _ _ _ _ ((c .before .before .before .before .before .before .before .before .before .before .before .before .before .before .before .before .if3) .taken) (f .ensures .1)) in (
+      subst (λ (w : List ℕ). Result (plain (a .args .t .now)) w (a .args .k) g (Is ((c .before .before .before .before .before .before .before .before .z) .given .0 .0) ((c .before .before .before .before .before .before .before .before .z) .given .0 .1 .0))) (sym ((c .before .before .before .before .remember-in) .ensures .0)) re,
+      noted-stored _ (a .args .t .now) _ _ _ _ (u .result) (a .args .k) (a .args .b) (a .args .x) (a .args .y) (a .args .d) _ _ p (omega (arith, p .holds .laid .laid .few)) (u .ensures) nm ((c .before .before .before .before .remember-in) .ensures) re,
     )
 
 rest-result-same-length-9 : (t : ℕ) → rest-result-lts.Need-same-length-9 (rest-result-claims t) (rest-result-at t) rest-result.Post
@@ -369,10 +386,11 @@ rest-result-same-length-10 : (t : ℕ) → rest-result-lts.Need-same-length-10 (
 rest-result-same-length-10 t c = search needs
 
 rest-result-returns-6 : (t : ℕ) → rest-result-lts.Need-returns-6 (rest-result-claims t) (rest-result-at t) rest-result.Post
-rest-result-returns-6 t c = let a = (c .before .before .before .before .before .before .before .before .before .before .before .before .before .before .before .before .before .before .before .before) in
+rest-result-returns-6 t c = let a = (c .before .before .before .before .before .before .before .before .before .before .before .before .before .before .before .before .before .before .before .before .before) in
     let p = a .pre .1 .0 in
-    let hk = still-left _ _ _ _ _ _ _ p (omega (arith, (c .before .before .before .before .before .before .before .before .before .before .before .before .before .before .before .before .if1))) in
-    (stop-result (a .args .t .now) (a .args .k) _ (p .holds) hk _ (not-filled _ _ _ _ _ _ _ ((c .if3) .left) ((c .before .before .before .before .before .fill-branches) .ensures .0)), tt)
+    let g : Cost = choice (lent (a .args .r .now) (a .args .k) (a .args .b)) (nodes (plain (a .args .t .now))) (a .args .k) (target (a .args .x)) (target (a .args .y)) (int (a .args .d)) in
+    let hk = still-left _ _ _ _ _ _ _ p (omega (arith, (c .before .before .before .before .before .before .before .before .before .before .before .before .before .before .before .before .before .if1))) in
+    (stop-result (plain (a .args .t .now)) (a .args .k) g (p .holds) hk _ (not-filled _ _ _ g _ _ _ ((c .if3) .left) ((c .before .before .before .before .before .fill-branches) .ensures .0)), tt)
 
 pub +branch-result+fill-branches+rest-result-spec : {M : Type 1} → statement M
 +branch-result+fill-branches+rest-result-spec =
@@ -401,8 +419,8 @@ pub +branch-result+fill-branches+rest-result-spec : {M : Type 1} → statement M
     (fill-branches-wide-requires t)
     (fill-branches-loop-holds t)
     (fill-branches-branch-at-requires t)
-    (fill-branches-arm-at-requires t)
-    (fill-branches-arm-at-requires-2 t)
+    (fill-branches-arm-in-requires t)
+    (fill-branches-arm-in-requires-2 t)
     (fill-branches-add-branch-result t)
     (fill-branches-branch-result-requires t)
     (fill-branches-enum-known-z t)
@@ -425,26 +443,26 @@ pub +branch-result+fill-branches+rest-result-spec : {M : Type 1} → statement M
     rest-result.Post
     (rest-result-ended-requires t)
     (rest-result-returns t)
-    (rest-result-lowest-requires t)
+    (rest-result-lowest-of-requires t)
     (rest-result-rest-result-requires t)
     (rest-result-same-length t)
     (rest-result-same-length-2 t)
     (rest-result-returns-2 t)
     (rest-result-tag-of-requires t)
-    (rest-result-recall-requires t)
+    (rest-result-recall-in-requires t)
     (rest-result-enum-known-memo t)
     (rest-result-same-length-3 t)
     (rest-result-same-length-4 t)
     (rest-result-returns-3 t)
     (rest-result-enum-told t)
     (rest-result-fill-branches-requires t)
-    (rest-result-make-requires t)
+    (rest-result-make-in-requires t)
     (rest-result-enum-known-z t)
     (rest-result-enum-told-2 t)
     (rest-result-same-length-5 t)
     (rest-result-same-length-6 t)
     (rest-result-returns-4 t)
-    (rest-result-remember-requires t)
+    (rest-result-remember-in-requires t)
     (rest-result-same-length-7 t)
     (rest-result-same-length-8 t)
     (rest-result-returns-5 t)

@@ -1,20 +1,28 @@
 -- `cost_engine::rest_result`, `fill_branches` and `branch_result` meet their contracts: the remaining features fall; the first v branches are filled, and the memory is right for the table so far. Assumes nothing.
-use Rattle.cost_memory.proofs.Remembering.{hit, remembers-stored}
+use Rattle.cost_memory.proofs.Remembering.{hit}
 use mathlib.Core.Path.{_≡_, refl, sym, subst, _∙_}
+use mathlib.Core.List.{List}
 use Prim.Native.Nat.{ℕ, _+_, _-_, _*_, _≤_, _<_}
 use native.Mathlib.Omega.{arith}
 use lib.IntN.{ℤ}
 use lib.ListN.{length, getD-replicate}
+use Rattle.theory.specs.Costs.{Cost}
 use Rattle.cost_laws.specs.Integers.{int}
 use Rattle.words.specs.Words.{features, size}
 use Rattle.words.proofs.Words.{kept-features, kept-size}
+use Rattle.notes.specs.Plain.{plain}
+use Rattle.notes.proofs.Plain.{length-plain}
 use Rattle.cost_words.specs.Words.{target, nodes}
-use Rattle.cost_nodes.specs.Nodes.{Filling}
+use Rattle.cost_nodes.specs.Nodes.{Filling, Result}
+use Rattle.cost_nodes.specs.declared.Answer.the-variants.{Is}
 use Rattle.cost_nodes.proofs.Filling.{gives-is, gives-none, fill-start, fill-more, fill-stop, stop-result, fill-armed, fill-near, fill-make, filled, not-filled, filling-ext}
 use Rattle.cost_nodes.proofs.Stepping.{good-small}
+use Rattle.notes.specs.Far.{memory}
+use Rattle.cost_notes.proofs.Remembering.{noted-stored}
+use Rattle.cost_notes.proofs.Reading.{plain-head}
 use Rattle.cost_engine.specs.Joint.{jointFrom, Operands}
-use Rattle.cost_engine.specs.Memory.{Remembers}
-use Rattle.cost_engine.proofs.Recalling.{recalled-result, result-recalled, right-here, remembers-made, still, still-if}
+use Rattle.cost_engine.specs.Memory.{Noted}
+use Rattle.cost_engine.proofs.Recalling.{recalled-result, result-recalled, right-here, noted-made, still, still-if}
 use Rattle.cost_engine.proofs.Walking.{first-place, second-place, operands-more, operands-end, at-gap, still-left, skip-left, operands-skip, joint-skip, operands-step, joint-held, operands-ext, joint-ends, sum-fits, joint-raised, joint-stopped}
 use borrow.Author.Needs.{needs}
 use borrow.Fn.Kinds.{In}
@@ -28,14 +36,14 @@ use Rattle.cost_engine.proofs.+branch_result+fill_branches+rest_result.
 use Rattle.cost_engine.proofs.rest_result.Reads as rest-result
 use Rattle.cost_engine.proofs.rest_result.Kinds as rest-result-kinds
 use Rattle.cost_engine.proofs.+branch_result+fill_branches+rest_result.Lts-rest_result as rest-result-lts
-use Rattle.cost_engine.proofs.lowest.Reads as lowest-reads
+use Rattle.cost_notes.proofs.lowest.Reads as lowest-reads
 use Rattle.cost_engine.proofs.operators.ahead_word.Reads as ahead-word-reads
 use Rattle.cost_engine.proofs.operators.end_word.Reads as end-word-reads
 use Rattle.cost_engine.proofs.operators.gap_word.Reads as gap-word-reads
-use Rattle.cost_memory.proofs.recall.Reads as recall-reads
-use Rattle.cost_memory.proofs.remember.Reads as remember-reads
-use Rattle.cost_nodes.proofs.arm_at.Reads as arm-at-reads
-use Rattle.cost_nodes.proofs.make.Reads as make-reads
+use Rattle.cost_notes.proofs.recall_in.Reads as recall-in-reads
+use Rattle.cost_notes.proofs.remember_in.Reads as remember-in-reads
+use Rattle.cost_notes.proofs.arm_in.Reads as arm-in-reads
+use Rattle.cost_notes.proofs.make_in.Reads as make-in-reads
 use Rattle.cost_words.proofs.sum_word.Reads as sum-word-reads
 use Rattle.words.proofs.head_word.Reads as head-word-reads
 use Rattle.words.proofs.narrow.Reads as narrow-reads
@@ -44,13 +52,13 @@ use Rattle.cost_engine.proofs.+branch_result+fill_branches+rest_result.
 use Rattle.cost_engine.proofs.+branch_result+fill_branches+rest_result.Tie.{close}
 
 abbrev μ-branch-result : Measures 2 branch-result-kinds.ps ℕ
-μ-branch-result κs a = 3 * (features (a .0 .now) - a .1 .1 .1 .0) + 1
+μ-branch-result κs a = 3 * (features (plain (a .0 .now)) - a .1 .1 .1 .0) + 1
 
 abbrev μ-fill-branches : Measures 2 fill-branches-kinds.ps ℕ
-μ-fill-branches κs a = 3 * (features (a .0 .now) - a .1 .1 .1 .0) - 1
+μ-fill-branches κs a = 3 * (features (plain (a .0 .now)) - a .1 .1 .1 .0) - 1
 
 abbrev μ-rest-result : Measures 2 rest-result-kinds.ps ℕ
-μ-rest-result κs a = 3 * (features (a .0 .now) - a .1 .1 .1 .0)
+μ-rest-result κs a = 3 * (features (plain (a .0 .now)) - a .1 .1 .1 .0)
 
 abbrev branch-result-at : ℕ → In 2 branch-result-kinds.ps
 branch-result-at t =
@@ -88,17 +96,17 @@ abbrev branch-result-claims : ℕ → branch-result-lts.Claims
 branch-result-claims t = (gap-word-reads.Asked, gap-word-reads.Learnt, rest-result-below t, rest-result.Post, ahead-word-reads.Asked, ahead-word-reads.Learnt, sum-word-reads.Asked, sum-word-reads.Learnt)
 
 abbrev fill-branches-claims : ℕ → fill-branches-lts.Claims
-fill-branches-claims t = (head-word-reads.Asked, head-word-reads.Learnt, wide-reads.Asked, wide-reads.Learnt, arm-at-reads.Asked, arm-at-reads.Learnt, branch-result-below t, branch-result.Post)
+fill-branches-claims t = (head-word-reads.Asked, head-word-reads.Learnt, wide-reads.Asked, wide-reads.Learnt, arm-in-reads.Asked, arm-in-reads.Learnt, branch-result-below t, branch-result.Post)
 
 abbrev rest-result-claims : ℕ → rest-result-lts.Claims
-rest-result-claims t = (end-word-reads.Asked, end-word-reads.Learnt, lowest-reads.Asked, lowest-reads.Learnt, rest-result-below t, rest-result.Post, narrow-reads.Asked, narrow-reads.Learnt, recall-reads.Asked, recall-reads.Learnt, fill-branches-below t, fill-branches.Post, make-reads.Asked, make-reads.Learnt, remember-reads.Asked, remember-reads.Learnt)
+rest-result-claims t = (end-word-reads.Asked, end-word-reads.Learnt, lowest-reads.Asked, lowest-reads.Learnt, rest-result-below t, rest-result.Post, narrow-reads.Asked, narrow-reads.Learnt, recall-in-reads.Asked, recall-in-reads.Learnt, fill-branches-below t, fill-branches.Post, make-in-reads.Asked, make-in-reads.Learnt, remember-in-reads.Asked, remember-in-reads.Learnt)
 
 branch-result-gap-word-requires : (t : ℕ) → branch-result-lts.Need-gap-word-requires (branch-result-claims t) (branch-result-at t) branch-result.Post
 branch-result-gap-word-requires t c κs = operands-more _ _ _ _ _ _ ((c .before .before) .pre .1 .0 .rest)
 
 branch-result-rest-result-requires : (t : ℕ) → branch-result-lts.Need-rest-result-requires (branch-result-claims t) (branch-result-at t) branch-result.Post
 branch-result-rest-result-requires t c κs = let a = (c .before .before .before .before .before) in
-    (omega arith, (subst (λ (z : ℤ). Operands (a .args .t .now) (a .args .o) (a .args .k) (a .args .a .to) (a .args .b .to) z) (sym ((c .before .before .gap-word) .ensures)) (a .pre .1 .0 .rest), a .pre .1 .1))
+    (omega arith, (subst (λ (z : ℤ). Operands (plain (a .args .t .now)) (a .args .o) (a .args .k) (a .args .a .to) (a .args .b .to) z) (sym ((c .before .before .gap-word) .ensures)) (a .pre .1 .0 .rest), a .pre .1 .1))
 
 branch-result-enum-known-z : (t : ℕ) → branch-result-lts.Need-enum-known-z (branch-result-claims t) (branch-result-at t) branch-result.Post
 branch-result-enum-known-z t c = search needs
@@ -114,16 +122,16 @@ branch-result-same-length-2 t c = search needs
 
 branch-result-returns : (t : ℕ) → branch-result-lts.Need-returns (branch-result-claims t) (branch-result-at t) branch-result.Post
 branch-result-returns t c = let a = (c .before .before .before .before .before .before .before .before .before .before .before .before) in
-    let r = at-gap (a .args .t .now) _ _ _ _ _ _ _ ((c .before .before .before .before .before .before .rest-result) .result) ((c .before .before .before .before .before .before .before .before .before .gap-word) .ensures) ((c .before .before .before .before .before .before .rest-result) .ensures .0) in
-    (joint-stopped (a .args .t .now) _ _ _ _ _ _ _ (a .pre .1 .0) _ (gives-none ((c .enum-told) .given .1) r), tt)
+    let r = at-gap (plain (a .args .t .now)) _ _ _ _ _ _ _ ((c .before .before .before .before .before .before .rest-result) .result) ((c .before .before .before .before .before .before .before .before .before .gap-word) .ensures) ((c .before .before .before .before .before .before .rest-result) .ensures .0) in
+    (joint-stopped (plain (a .args .t .now)) _ _ _ _ _ _ _ (a .pre .1 .0) _ (gives-none ((c .enum-told) .given .1) r), tt)
 
 branch-result-ahead-word-requires : (t : ℕ) → branch-result-lts.Need-ahead-word-requires (branch-result-claims t) (branch-result-at t) branch-result.Post
 branch-result-ahead-word-requires t c κs = (c .before .before .before .before .before .before .before .before .before .before .before .before .before) .pre .1 .0 .lead
 
 branch-result-sum-word-requires : (t : ℕ) → branch-result-lts.Need-sum-word-requires (branch-result-claims t) (branch-result-at t) branch-result.Post
 branch-result-sum-word-requires t c κs = let a = (c .before .before .before .before .before .before .before .before .before .before .before .before .before .before) in
-    let r = at-gap (a .args .t .now) _ _ _ _ _ _ _ ((c .before .before .before .before .before .before .before .before .rest-result) .result) ((c .before .before .before .before .before .before .before .before .before .before .before .gap-word) .ensures) ((c .before .before .before .before .before .before .before .before .rest-result) .ensures .0) in
-    sum-fits (a .args .t .now) _ _ _ _ _ _ _ (a .pre .1 .0) _ ((c .ahead-word) .result) _ _ ((c .ahead-word) .ensures) (gives-is ((c .before .before .z) .given .1) r)
+    let r = at-gap (plain (a .args .t .now)) _ _ _ _ _ _ _ ((c .before .before .before .before .before .before .before .before .rest-result) .result) ((c .before .before .before .before .before .before .before .before .before .before .before .gap-word) .ensures) ((c .before .before .before .before .before .before .before .before .rest-result) .ensures .0) in
+    sum-fits (plain (a .args .t .now)) _ _ _ _ _ _ _ (a .pre .1 .0) _ ((c .ahead-word) .result) _ _ ((c .ahead-word) .ensures) (gives-is ((c .before .before .z) .given .1) r)
 
 branch-result-same-length-3 : (t : ℕ) → branch-result-lts.Need-same-length-3 (branch-result-claims t) (branch-result-at t) branch-result.Post
 branch-result-same-length-3 t c = search needs
@@ -133,47 +141,47 @@ branch-result-same-length-4 t c = search needs
 
 branch-result-returns-2 : (t : ℕ) → branch-result-lts.Need-returns-2 (branch-result-claims t) (branch-result-at t) branch-result.Post
 branch-result-returns-2 t c = let a = (c .before .before .before .before .before .before .before .before .before .before .before .before .before .before .before) in
-    let r = at-gap (a .args .t .now) _ _ _ _ _ _ _ ((c .before .before .before .before .before .before .before .before .before .rest-result) .result) ((c .before .before .before .before .before .before .before .before .before .before .before .before .gap-word) .ensures) ((c .before .before .before .before .before .before .before .before .before .rest-result) .ensures .0) in (
-      joint-raised (a .args .t .now) _ _ _ _ _ _ _ (a .pre .1 .0) _ ((c .before .ahead-word) .result) _ _ _ ((c .before .ahead-word) .ensures) ((c .sum-word) .ensures) (gives-is ((c .before .before .before .z) .given .1) r),
+    let r = at-gap (plain (a .args .t .now)) _ _ _ _ _ _ _ ((c .before .before .before .before .before .before .before .before .before .rest-result) .result) ((c .before .before .before .before .before .before .before .before .before .before .before .before .gap-word) .ensures) ((c .before .before .before .before .before .before .before .before .before .rest-result) .ensures .0) in (
+      joint-raised (plain (a .args .t .now)) _ _ _ _ _ _ _ (a .pre .1 .0) _ ((c .before .ahead-word) .result) _ _ _ ((c .before .ahead-word) .ensures) ((c .sum-word) .ensures) (gives-is ((c .before .before .before .z) .given .1) r),
       still _ _ _ _ _ _ ((c .before .before .before .z) .given .1) ((c .before .before .before .before .before .before .before .before .before .rest-result) .ensures .1),
     )
 
 abbrev fill-branches-Inv-loop : fill-branches-lts.InvT-loop
-fill-branches-Inv-loop t₀ s₀ o k x y d m goes₀ adds₀ v₀ t s goes adds v = (m ≡ size t₀ k) × (v ≤ m) × Filling t₀ t k (jointFrom o (nodes t₀) k (target x) (target y) (int d)) v goes adds × Remembers t o s × (length s ≡ length s₀)
+fill-branches-Inv-loop t₀ s₀ o k x y d m goes₀ adds₀ v₀ t s goes adds v = (m ≡ size (plain t₀) k) × (v ≤ m) × Filling (plain t₀) (plain t) k (jointFrom o (nodes (plain t₀)) k (target x) (target y) (int d)) v goes adds × Noted t o s × (length t ≡ length t₀) × (length s ≡ length s₀)
 
 abbrev fill-branches-μ-loop : fill-branches-lts.MeasureT-loop
 fill-branches-μ-loop t₀ s₀ o k x y d m goes₀ adds₀ v₀ t s goes adds v = m - v
 
 fill-branches-add-head-word : (t : ℕ) → fill-branches-lts.Need-add-head-word (fill-branches-claims t) (fill-branches-at t) fill-branches.Post fill-branches-Inv-loop fill-branches-μ-loop
-fill-branches-add-head-word t c = search needs
+fill-branches-add-head-word t c = let a = (c .before .before .before) in omega (arith, a .pre .1 .0 .holds .laid .laid .few, a .pre .1 .2)
 
 fill-branches-head-word-requires : (t : ℕ) → fill-branches-lts.Need-head-word-requires (fill-branches-claims t) (fill-branches-at t) fill-branches.Post fill-branches-Inv-loop fill-branches-μ-loop
-fill-branches-head-word-requires t c κs = search needs
+fill-branches-head-word-requires t c κs = let a = (c .before .before .before) in omega (arith, a .pre .1 .0 .holds .laid .laid .few, a .pre .1 .2, a .pre .1 .0 .holds .laid .laid .room, length-plain (a .args .t .now))
 
 fill-branches-wide-requires : (t : ℕ) → fill-branches-lts.Need-wide-requires (fill-branches-claims t) (fill-branches-at t) fill-branches.Post fill-branches-Inv-loop fill-branches-μ-loop
 fill-branches-wide-requires t c κs = search needs
 
 fill-branches-loop-holds : (t : ℕ) → fill-branches-lts.Need-loop-holds (fill-branches-claims t) (fill-branches-at t) fill-branches.Post fill-branches-Inv-loop fill-branches-μ-loop
 fill-branches-loop-holds t c = let a = (c .before .before .before .before .before) in
-    let e : (c .wide) .result ≡ size (a .args .t .now) (a .args .k) = (c .wide) .ensures .0 ∙ (c .before .head-word) .ensures in
-    (e, omega arith, fill-start _ (a .args .k) _ (a .pre .1 .0 .holds) (a .pre .1 .2) _ _ refl refl (λ u h. getD-replicate 8 u 0 0 h), a .pre .1 .1, refl)
+    let e : (c .wide) .result ≡ size (plain (a .args .t .now)) (a .args .k) = (c .wide) .ensures .0 ∙ (c .before .head-word) .ensures ∙ sym (plain-head (a .args .t .now) (3 + a .args .k) (omega (arith, a .pre .1 .0 .holds .laid .laid .few, a .pre .1 .2))) in
+    (e, omega arith, fill-start _ (a .args .k) _ (a .pre .1 .0 .holds) (a .pre .1 .2) _ _ refl refl (λ u h. getD-replicate 8 u 0 0 h), a .pre .1 .1, refl, refl)
 
-fill-branches-arm-at-requires : (t : ℕ) → fill-branches-lts.Need-arm-at-requires (fill-branches-claims t) (fill-branches-at t) fill-branches.Post fill-branches-Inv-loop fill-branches-μ-loop
-fill-branches-arm-at-requires t c κs = let a = (c .before .before .before .before .before .before .before .before) in
+fill-branches-arm-in-requires : (t : ℕ) → fill-branches-lts.Need-arm-in-requires (fill-branches-claims t) (fill-branches-at t) fill-branches.Post fill-branches-Inv-loop fill-branches-μ-loop
+fill-branches-arm-in-requires t c κs = let a = (c .before .before .before .before .before .before .before .before) in
     let l = (c .before .before .loop) in
     let fl = l .inv .2 in
     let kp = fl .filled .grown .kept in (
-      first-place _ _ _ _ _ _ (operands-ext (a .args .t .now) _ (a .args .k) _ _ _ (a .pre .1 .0) _ _ (l .v) (l .goes) (l .adds) fl (a .pre .1 .2)),
+      first-place _ _ _ _ _ _ (operands-ext (plain (a .args .t .now)) _ (a .args .k) _ _ _ (a .pre .1 .0) _ _ (l .v) (l .goes) (l .adds) fl (a .pre .1 .2)),
       omega (arith, kept-features _ _ kp, a .pre .1 .2),
       omega (arith, kept-size _ _ kp (a .pre .1 .0 .holds .laid .laid .few) (a .args .k) (a .pre .1 .2), l .inv .0, (c .before .loop-test)),
     )
 
-fill-branches-arm-at-requires-2 : (t : ℕ) → fill-branches-lts.Need-arm-at-requires-2 (fill-branches-claims t) (fill-branches-at t) fill-branches.Post fill-branches-Inv-loop fill-branches-μ-loop
-fill-branches-arm-at-requires-2 t c κs = let a = (c .before .before .before .before .before .before .before .before .before .before) in
+fill-branches-arm-in-requires-2 : (t : ℕ) → fill-branches-lts.Need-arm-in-requires-2 (fill-branches-claims t) (fill-branches-at t) fill-branches.Post fill-branches-Inv-loop fill-branches-μ-loop
+fill-branches-arm-in-requires-2 t c κs = let a = (c .before .before .before .before .before .before .before .before .before .before) in
     let l = (c .before .before .before .before .loop) in
     let fl = l .inv .2 in
     let kp = fl .filled .grown .kept in (
-      second-place _ _ _ _ _ _ (operands-ext (a .args .t .now) _ (a .args .k) _ _ _ (a .pre .1 .0) _ _ (l .v) (l .goes) (l .adds) fl (a .pre .1 .2)),
+      second-place _ _ _ _ _ _ (operands-ext (plain (a .args .t .now)) _ (a .args .k) _ _ _ (a .pre .1 .0) _ _ (l .v) (l .goes) (l .adds) fl (a .pre .1 .2)),
       omega (arith, kept-features _ _ kp, a .pre .1 .2),
       omega (arith, kept-size _ _ kp (a .pre .1 .0 .holds .laid .laid .few) (a .args .k) (a .pre .1 .2), l .inv .0, (c .before .before .before .loop-test)),
     )
@@ -188,7 +196,7 @@ fill-branches-branch-result-requires t c κs = let a = (c .before .before .befor
     let kp = fl .filled .grown .kept in
     let n = kept-features _ _ kp in
     let hk = a .pre .1 .2 in
-    (omega arith, (operands-step _ _ _ _ _ _ (operands-ext (a .args .t .now) _ (a .args .k) _ _ _ (a .pre .1 .0) _ _ (l .v) (l .goes) (l .adds) fl hk) (l .v) _ _ _ _ (omega arith) (omega (arith, kept-size _ _ kp (a .pre .1 .0 .holds .laid .laid .few) (a .args .k) hk, l .inv .0, (c .before .before .before .before .before .before .loop-test))) ((c .before .before .before .before .arm-at) .ensures) ((c .before .before .arm-at2) .ensures), l .inv .3))
+    (omega arith, (operands-step _ _ _ _ _ _ (operands-ext (plain (a .args .t .now)) _ (a .args .k) _ _ _ (a .pre .1 .0) _ _ (l .v) (l .goes) (l .adds) fl hk) (l .v) _ _ _ _ (omega arith) (omega (arith, kept-size _ _ kp (a .pre .1 .0 .holds .laid .laid .few) (a .args .k) hk, l .inv .0, (c .before .before .before .before .before .before .loop-test))) ((c .before .before .before .before .arm-in) .ensures) ((c .before .before .arm-in2) .ensures), l .inv .3))
 
 fill-branches-enum-known-z : (t : ℕ) → fill-branches-lts.Need-enum-known-z (fill-branches-claims t) (fill-branches-at t) fill-branches.Post fill-branches-Inv-loop fill-branches-μ-loop
 fill-branches-enum-known-z t c = search needs
@@ -206,8 +214,8 @@ fill-branches-returns : (t : ℕ) → fill-branches-lts.Need-returns (fill-branc
 fill-branches-returns t c = let a = (c .before .before .before .before .before .before .before .before .before .before .before .before .before .before .before .before .before .before .before .before) in
     let l = (c .before .before .before .before .before .before .before .before .before .before .before .before .before .before .loop) in
     let fl = l .inv .2 in (
-      fill-stop (a .args .t .now) (a .args .k) _ (a .pre .1 .0 .holds) (a .pre .1 .2) (l .t) _ (l .v) (l .goes) (l .adds) _ _ fl (omega (arith, l .inv .0, (c .before .before .before .before .before .before .before .before .before .before .before .before .before .loop-test)))
-          (joint-held (a .args .t .now) _ (a .args .k) _ _ _ (a .pre .1 .0) (l .t) (l .v) _ _ _ _ (filling-ext (a .args .t .now) (a .args .k) _ (a .pre .1 .0 .holds) (a .pre .1 .2) (l .t) (l .v) (l .goes) (l .adds) fl) ((c .before .before .before .before .before .before .before .before .before .before .before .arm-at) .ensures) ((c .before .before .before .before .before .before .before .before .before .arm-at2) .ensures))
+      fill-stop (plain (a .args .t .now)) (a .args .k) _ (a .pre .1 .0 .holds) (a .pre .1 .2) (plain (l .t)) _ (l .v) (l .goes) (l .adds) _ _ fl (omega (arith, l .inv .0, (c .before .before .before .before .before .before .before .before .before .before .before .before .before .loop-test)))
+          (joint-held (plain (a .args .t .now)) _ (a .args .k) _ _ _ (a .pre .1 .0) (plain (l .t)) (l .v) _ _ _ _ (filling-ext (plain (a .args .t .now)) (a .args .k) _ (a .pre .1 .0 .holds) (a .pre .1 .2) (plain (l .t)) (l .v) (l .goes) (l .adds) fl) ((c .before .before .before .before .before .before .before .before .before .before .before .arm-in) .ensures) ((c .before .before .before .before .before .before .before .before .before .arm-in2) .ensures))
           ((c .before .before .before .before .before .before .branch-result) .ensures .0) ((c .enum-told) .given .1),
       tt,
     )
@@ -238,10 +246,11 @@ fill-branches-loop-again t c = let a = (c .before .before .before .before .befor
     let fl = l .inv .2 in (
       l .inv .0,
       omega (arith, (c .before .before .before .before .before .before .before .before .before .before .before .before .before .before .loop-test)),
-      fill-more (a .args .t .now) (a .args .k) _ (a .pre .1 .0 .holds) (a .pre .1 .2) (l .t) _ (l .v) _ _ (l .goes) (l .adds) _ _ fl (omega (arith, l .inv .0, (c .before .before .before .before .before .before .before .before .before .before .before .before .before .before .loop-test)))
-          (joint-held (a .args .t .now) _ (a .args .k) _ _ _ (a .pre .1 .0) (l .t) (l .v) _ _ _ _ (filling-ext (a .args .t .now) (a .args .k) _ (a .pre .1 .0 .holds) (a .pre .1 .2) (l .t) (l .v) (l .goes) (l .adds) fl) ((c .before .before .before .before .before .before .before .before .before .before .before .before .arm-at) .ensures) ((c .before .before .before .before .before .before .before .before .before .before .arm-at2) .ensures))
+      fill-more (plain (a .args .t .now)) (a .args .k) _ (a .pre .1 .0 .holds) (a .pre .1 .2) (plain (l .t)) _ (l .v) _ _ (l .goes) (l .adds) _ _ fl (omega (arith, l .inv .0, (c .before .before .before .before .before .before .before .before .before .before .before .before .before .before .loop-test)))
+          (joint-held (plain (a .args .t .now)) _ (a .args .k) _ _ _ (a .pre .1 .0) (plain (l .t)) (l .v) _ _ _ _ (filling-ext (plain (a .args .t .now)) (a .args .k) _ (a .pre .1 .0 .holds) (a .pre .1 .2) (plain (l .t)) (l .v) (l .goes) (l .adds) fl) ((c .before .before .before .before .before .before .before .before .before .before .before .before .arm-in) .ensures) ((c .before .before .before .before .before .before .before .before .before .before .arm-in2) .ensures))
           ((c .before .before .before .before .before .before .before .branch-result) .ensures .0) ((c .before .z) .given .1),
       still _ _ _ _ _ _ ((c .before .z) .given .1) ((c .before .before .before .before .before .before .before .branch-result) .ensures .1),
+      search needs,
       search needs,
     )
 
@@ -254,7 +263,7 @@ fill-branches-same-length-4 t c = search needs
 fill-branches-returns-2 : (t : ℕ) → fill-branches-lts.Need-returns-2 (fill-branches-claims t) (fill-branches-at t) fill-branches.Post fill-branches-Inv-loop fill-branches-μ-loop
 fill-branches-returns-2 t c = let a = (c .before .before .before .before .before .before .before) in
     let l = (c .before .loop) in
-    let e : l .v ≡ size (a .args .t .now) (a .args .k) = omega (arith, l .inv .0, l .inv .1, (c .loop-test)) in
+    let e : l .v ≡ size (plain (a .args .t .now)) (a .args .k) = omega (arith, l .inv .0, l .inv .1, (c .loop-test)) in
     (rw e at (l .inv .2), l .inv .3)
 
 rest-result-add-if1 : (t : ℕ) → rest-result-lts.Need-add-if1 (rest-result-claims t) (rest-result-at t) rest-result.Post
@@ -297,8 +306,8 @@ rest-result-narrow-requires t c κs = let a = (c .before .before .before .before
     let hk = still-left _ _ _ _ _ _ (a .pre .1 .0) ((c .before .before .before .if1) .left) in
     omega (arith, a .pre .1 .0 .holds .laid .laid .few)
 
-rest-result-recall-requires : (t : ℕ) → rest-result-lts.Need-recall-requires (rest-result-claims t) (rest-result-at t) rest-result.Post
-rest-result-recall-requires t c κs = search needs
+rest-result-recall-in-requires : (t : ℕ) → rest-result-lts.Need-recall-in-requires (rest-result-claims t) (rest-result-at t) rest-result.Post
+rest-result-recall-in-requires t c κs = (c .before .before .before .before .before .before .before .before .before) .pre .1 .1 .room
 
 rest-result-enum-known-memo : (t : ℕ) → rest-result-lts.Need-enum-known-memo (rest-result-claims t) (rest-result-at t) rest-result.Post
 rest-result-enum-known-memo t c = search needs
@@ -310,23 +319,24 @@ rest-result-same-length-4 : (t : ℕ) → rest-result-lts.Need-same-length-4 (re
 rest-result-same-length-4 t c = search needs
 
 rest-result-returns-3 : (t : ℕ) → rest-result-lts.Need-returns-3 (rest-result-claims t) (rest-result-at t) rest-result.Post
-rest-result-returns-3 t c = let a = (c .before .before .before .before .before .before .before .before .before .before .before .before) in
-    let h = hit (a .args .s .now) ((c .before .before .before .before .before .narrow) .result) (a .args .x) (a .args .y) (a .args .d) _ _ _ (a .pre .1 .1) ((c .before .before .before .recall) .ensures) ((c .before .memo) .given .1) (omega (arith, (c .before .before .before .before .before .narrow) .ensures)) in
-    (recalled-result _ _ ((c .before .before .before .before .before .narrow) .result) (a .args .k) _ _ (a .args .d) _ _ (a .pre .1 .0) ((c .before .before .before .before .before .narrow) .ensures) h, a .pre .1 .1)
+rest-result-returns-3 t c = let a = (c .before .before .before .before .before .before .before .before .before .before .before .before .before) in
+    let h = hit (memory (a .args .t .now) (a .args .s .now)) ((c .before .before .before .before .before .before .narrow) .result) (a .args .x) (a .args .y) (a .args .d) _ _ _ (a .pre .1 .1 .right) ((c .before .before .before .recall-in) .ensures) ((c .before .memo) .given .1) (omega (arith, (c .before .before .before .before .before .before .narrow) .ensures)) in
+    (recalled-result _ _ ((c .before .before .before .before .before .before .narrow) .result) (a .args .k) _ _ (a .args .d) _ _ (a .pre .1 .0) ((c .before .before .before .before .before .before .narrow) .ensures) h, a .pre .1 .1)
 
 rest-result-enum-told : (t : ℕ) → rest-result-lts.Need-enum-told (rest-result-claims t) (rest-result-at t) rest-result.Post
 rest-result-enum-told t c = search needs
 
 rest-result-fill-branches-requires : (t : ℕ) → rest-result-lts.Need-fill-branches-requires (rest-result-claims t) (rest-result-at t) rest-result.Post
-rest-result-fill-branches-requires t c κs = let a = (c .before .before .before .before .before .before .before .before .before .before .before .before .before) in
-    let hk = still-left _ _ _ _ _ _ (a .pre .1 .0) ((c .before .before .before .before .before .before .before .before .before .before .if1) .left) in
+rest-result-fill-branches-requires t c κs = let a = (c .before .before .before .before .before .before .before .before .before .before .before .before .before .before) in
+    let hk = still-left _ _ _ _ _ _ (a .pre .1 .0) ((c .before .before .before .before .before .before .before .before .before .before .before .if1) .left) in
     (omega arith, (a .pre .1 .0, a .pre .1 .1, hk))
 
-rest-result-make-requires : (t : ℕ) → rest-result-lts.Need-make-requires (rest-result-claims t) (rest-result-at t) rest-result.Post
-rest-result-make-requires t c κs = let a = (c .before .before .before .before .before .before .before .before .before .before .before .before .before .before .before .before .before .before .before .before .before .before) in
-    let hk = still-left _ _ _ _ _ _ (a .pre .1 .0) ((c .before .before .before .before .before .before .before .before .before .before .before .before .before .before .before .before .before .before .before .if1) .left) in
-    let fl = filled _ _ _ _ _ _ _ ((c .before .before .before .if3) .taken) ((c .before .before .before .before .before .before .before .before .fill-branches) .ensures .0) in
-    (fl .filled .grown .well, omega (arith, kept-features _ _ (fl .filled .grown .kept)), fill-armed (a .args .t .now) (a .args .k) _ (a .pre .1 .0 .holds) hk _ _ _ fl (fill-near (a .args .t .now) (a .args .k) _ (a .pre .1 .0 .holds) hk _ _ _ fl (a .pre .1 .0 .bounded .spread)))
+rest-result-make-in-requires : (t : ℕ) → rest-result-lts.Need-make-in-requires (rest-result-claims t) (rest-result-at t) rest-result.Post
+rest-result-make-in-requires t c κs = let a = (c .before .before .before .before .before .before .before .before .before .before .before .before .before .before .before .before .before .before .before .before .before .before .before) in
+    let g : Cost = jointFrom (a .args .o) (nodes (plain (a .args .t .now))) (a .args .k) (target (a .args .x)) (target (a .args .y)) (int (a .args .d)) in
+    let hk = still-left _ _ _ _ _ _ (a .pre .1 .0) ((c .before .before .before .before .before .before .before .before .before .before .before .before .before .before .before .before .before .before .before .before .if1) .left) in
+    let fl = filled _ _ _ g _ _ _ ((c .before .before .before .if3) .taken) ((c .before .before .before .before .before .before .before .before .fill-branches) .ensures .0) in
+    (still-if _ _ _ _ ((c .before .before .before .if3) .taken) ((c .before .before .before .before .before .before .before .before .fill-branches) .ensures .1) .room, fl .filled .grown .well, omega (arith, kept-features _ _ (fl .filled .grown .kept)), fill-armed (plain (a .args .t .now)) (a .args .k) g (a .pre .1 .0 .holds) hk _ _ _ fl (fill-near (plain (a .args .t .now)) (a .args .k) g (a .pre .1 .0 .holds) hk _ _ _ fl (a .pre .1 .0 .bounded .spread)))
 
 rest-result-enum-known-z : (t : ℕ) → rest-result-lts.Need-enum-known-z (rest-result-claims t) (rest-result-at t) rest-result.Post
 rest-result-enum-known-z t c = search needs
@@ -341,13 +351,15 @@ rest-result-same-length-6 : (t : ℕ) → rest-result-lts.Need-same-length-6 (re
 rest-result-same-length-6 t c = search needs
 
 rest-result-returns-4 : (t : ℕ) → rest-result-lts.Need-returns-4 (rest-result-claims t) (rest-result-at t) rest-result.Post
-rest-result-returns-4 t c = let a = (c .before .before .before .before .before .before .before .before .before .before .before .before .before .before .before .before .before .before .before .before .before .before .before .before .before .before .before) in
-    let hk = still-left _ _ _ _ _ _ (a .pre .1 .0) ((c .before .before .before .before .before .before .before .before .before .before .before .before .before .before .before .before .before .before .before .before .before .before .before .before .if1) .left) in
-    let fl = filled _ _ _ _ _ _ _ ((c .before .before .before .before .before .before .before .before .if3) .taken) ((c .before .before .before .before .before .before .before .before .before .before .before .before .before .fill-branches) .ensures .0) in
-    (gives-none ((c .enum-told2) .given .1) (fill-make (a .args .t .now) (a .args .k) _ (a .pre .1 .0 .holds) hk _ _ _ _ ((c .before .before .before .before .make) .result) fl ((c .before .before .before .before .make) .ensures)), tt)
+rest-result-returns-4 t c = let a = (c .before .before .before .before .before .before .before .before .before .before .before .before .before .before .before .before .before .before .before .before .before .before .before .before .before .before .before .before) in
+    let g : Cost = jointFrom (a .args .o) (nodes (plain (a .args .t .now))) (a .args .k) (target (a .args .x)) (target (a .args .y)) (int (a .args .d)) in
+    let hk = still-left _ _ _ _ _ _ (a .pre .1 .0) ((c .before .before .before .before .before .before .before .before .before .before .before .before .before .before .before .before .before .before .before .before .before .before .before .before .before .if1) .left) in
+    let fl = filled _ _ _ g _ _ _ ((c .before .before .before .before .before .before .before .before .if3) .taken) ((c .before .before .before .before .before .before .before .before .before .before .before .before .before .fill-branches) .ensures .0) in
+    (gives-none ((c .enum-told2) .given .1) (fill-make (plain (a .args .t .now)) (a .args .k) g (a .pre .1 .0 .holds) hk _ _ _ _ ((c .before .before .before .before .make-in) .result) fl ((c .before .before .before .before .make-in) .ensures .0)), tt)
 
-rest-result-remember-requires : (t : ℕ) → rest-result-lts.Need-remember-requires (rest-result-claims t) (rest-result-at t) rest-result.Post
-rest-result-remember-requires t c κs = omega (arith, (c .before .before .before .before .before .before .before .before .before .before .before .before .before .before .before .before .before .before .before .before .before .before .narrow) .ensures)
+rest-result-remember-in-requires : (t : ℕ) → rest-result-lts.Need-remember-in-requires (rest-result-claims t) (rest-result-at t) rest-result.Post
+rest-result-remember-in-requires t c κs = let fl = filled _ _ _ _ _ _ _ ((c .before .before .before .before .before .before .before .before .before .before .before .if3) .taken) ((c .before .before .before .before .before .before .before .before .before .before .before .before .before .before .before .before .fill-branches) .ensures .0) in
+    (noted-made _ _ _ ((c .before .before .before .before .before .before .before .before .before .before .before .before .before .before .before .before .fill-branches) .result .goes) ((c .before .before .before .before .before .before .before .before .before .before .before .before .before .before .before .before .fill-branches) .result .adds) _ _ _ _ _ (fl .filled .grown .well) ((c .before .before .before .before .before .before .before .make-in) .ensures) ((c .before .before .before .z) .given .1) (still-if _ _ _ _ ((c .before .before .before .before .before .before .before .before .before .before .before .if3) .taken) ((c .before .before .before .before .before .before .before .before .before .before .before .before .before .before .before .before .fill-branches) .ensures .1)) .room, omega (arith, (c .before .before .before .before .before .before .before .before .before .before .before .before .before .before .before .before .before .before .before .before .before .before .before .before .narrow) .ensures))
 
 rest-result-same-length-7 : (t : ℕ) → rest-result-lts.Need-same-length-7 (rest-result-claims t) (rest-result-at t) rest-result.Post
 rest-result-same-length-7 t c = search needs
@@ -356,15 +368,15 @@ rest-result-same-length-8 : (t : ℕ) → rest-result-lts.Need-same-length-8 (re
 rest-result-same-length-8 t c = search needs
 
 rest-result-returns-5 : (t : ℕ) → rest-result-lts.Need-returns-5 (rest-result-claims t) (rest-result-at t) rest-result.Post
-rest-result-returns-5 t c = let a = (c .before .before .before .before .before .before .before .before .before .before .before .before .before .before .before .before .before .before .before .before .before .before .before .before .before .before .before .before .before .before .before .before) in
-    let hk = still-left _ _ _ _ _ _ (a .pre .1 .0) ((c .before .before .before .before .before .before .before .before .before .before .before .before .before .before .before .before .before .before .before .before .before .before .before .before .before .before .before .before .before .if1) .left) in
-    let fl = filled _ _ _ _ _ _ _ ((c .before .before .before .before .before .before .before .before .before .before .before .before .before .if3) .taken) ((c .before .before .before .before .before .before .before .before .before .before .before .before .before .before .before .before .before .before .fill-branches) .ensures .0) in
-    let q = (c .before .before .before .before .before .z) .given .1 in
-    let re = gives-is q (fill-make (a .args .t .now) (a .args .k) _ (a .pre .1 .0 .holds) hk _ _ _ _ ((c .before .before .before .before .before .before .before .before .before .make) .result) fl ((c .before .before .before .before .before .before .before .before .before .make) .ensures)) in (
-      re,
-      remembers-stored ((c .before .before .before .before .before .before .before .before .before .before .before .before .before .before .before .before .before .before .before .before .before .before .before .before .before .narrow) .result) (a .args .x) (a .args .y) (a .args .d) _ _ _ _
-          (remembers-made _ _ (a .args .k) ((c .before .before .before .before .before .before .before .before .before .before .before .before .before .before .before .before .before .before .fill-branches) .result .goes) ((c .before .before .before .before .before .before .before .before .before .before .before .before .before .before .before .before .before .before .fill-branches) .result .adds) _ _ _ _ _ (fl .filled .grown .well) ((c .before .before .before .before .before .before .before .before .before .make) .ensures) q (still-if _ _ _ _ ((c .before .before .before .before .before .before .before .before .before .before .before .before .before .if3) .taken) ((c .before .before .before .before .before .before .before .before .before .before .before .before .before .before .before .before .before .before .fill-branches) .ensures .1)))
-          ((c .before .before .remember) .ensures) (right-here _ _ ((c .before .before .before .before .before .before .before .before .before .before .before .before .before .before .before .before .before .before .before .before .before .before .before .before .before .narrow) .result) (a .args .k) _ _ (a .args .d) _ _ ((c .before .before .before .before .before .before .before .before .before .before .before .before .before .before .before .before .before .before .before .before .before .before .before .before .before .narrow) .ensures) (result-recalled _ _ _ (a .args .k) _ _ (a .args .d) _ _ (a .pre .1 .0) re)),
+rest-result-returns-5 t c = let a = (c .before .before .before .before .before .before .before .before .before .before .before .before .before .before .before .before .before .before .before .before .before .before .before .before .before .before .before .before .before .before .before .before .before .before .before .before) in
+    let g : Cost = jointFrom (a .args .o) (nodes (plain (a .args .t .now))) (a .args .k) (target (a .args .x)) (target (a .args .y)) (int (a .args .d)) in
+    let hk = still-left _ _ _ _ _ _ (a .pre .1 .0) ((c .before .before .before .before .before .before .before .before .before .before .before .before .before .before .before .before .before .before .before .before .before .before .before .before .before .before .before .before .before .before .before .before .before .if1) .left) in
+    let fl = filled _ _ _ g _ _ _ ((c .before .before .before .before .before .before .before .before .before .before .before .before .before .before .before .before .if3) .taken) ((c .before .before .before .before .before .before .before .before .before .before .before .before .before .before .before .before .before .before .before .before .before .fill-branches) .ensures .0) in
+    let q = (c .before .before .before .before .before .before .before .before .z) .given .1 in
+    let re = gives-is q (fill-make (plain (a .args .t .now)) (a .args .k) g (a .pre .1 .0 .holds) hk _ _ _ _ ((c .before .before .before .before .before .before .before .before .before .before .before .before .make-in) .result) fl ((c .before .before .before .before .before .before .before .before .before .before .before .before .make-in) .ensures .0)) in
+    let nm = noted-made _ _ (a .args .k) ((c .before .before .before .before .before .before .before .before .before .before .before .before .before .before .before .before .before .before .before .before .before .fill-branches) .result .goes) ((c .before .before .before .before .before .before .before .before .before .before .before .before .before .before .before .before .before .before .before .before .before .fill-branches) .result .adds) _ _ _ _ _ (fl .filled .grown .well) ((c .before .before .before .before .before .before .before .before .before .before .before .before .make-in) .ensures) q (still-if _ _ _ _ ((c .before .before .before .before .before .before .before .before .before .before .before .before .before .before .before .before .if3) .taken) ((c .before .before .before .before .before .before .before .before .before .before .before .before .before .before .before .before .before .before .before .before .before .fill-branches) .ensures .1)) in (
+      subst (λ (u : List ℕ). Result (plain (a .args .t .now)) u (a .args .k) (jointFrom (a .args .o) (nodes (plain (a .args .t .now))) (a .args .k) (target (a .args .x)) (target (a .args .y)) (int (a .args .d))) (Is ((c .before .before .before .before .before .before .before .before .z) .given .0 .0) ((c .before .before .before .before .before .before .before .before .z) .given .0 .1 .0))) (sym ((c .before .before .before .before .remember-in) .ensures .0)) re,
+      noted-stored _ _ _ _ ((c .before .before .before .before .before .before .before .before .before .before .before .before .before .before .before .before .before .before .before .before .before .before .before .before .before .before .before .before .before .narrow) .result) (a .args .x) (a .args .y) (a .args .d) _ _ nm ((c .before .before .before .before .remember-in) .ensures) (right-here _ _ ((c .before .before .before .before .before .before .before .before .before .before .before .before .before .before .before .before .before .before .before .before .before .before .before .before .before .before .before .before .before .narrow) .result) (a .args .k) _ _ (a .args .d) _ _ ((c .before .before .before .before .before .before .before .before .before .before .before .before .before .before .before .before .before .before .before .before .before .before .before .before .before .before .before .before .before .narrow) .ensures) (result-recalled _ _ _ (a .args .k) _ _ (a .args .d) _ _ (a .pre .1 .0) re)),
     )
 
 rest-result-same-length-9 : (t : ℕ) → rest-result-lts.Need-same-length-9 (rest-result-claims t) (rest-result-at t) rest-result.Post
@@ -374,9 +386,10 @@ rest-result-same-length-10 : (t : ℕ) → rest-result-lts.Need-same-length-10 (
 rest-result-same-length-10 t c = search needs
 
 rest-result-returns-6 : (t : ℕ) → rest-result-lts.Need-returns-6 (rest-result-claims t) (rest-result-at t) rest-result.Post
-rest-result-returns-6 t c = let a = (c .before .before .before .before .before .before .before .before .before .before .before .before .before .before .before .before .before .before .before) in
-    let hk = still-left _ _ _ _ _ _ (a .pre .1 .0) ((c .before .before .before .before .before .before .before .before .before .before .before .before .before .before .before .before .if1) .left) in
-    (stop-result (a .args .t .now) (a .args .k) _ (a .pre .1 .0 .holds) hk _ (not-filled _ _ _ _ _ _ _ ((c .if3) .left) ((c .before .before .before .before .before .fill-branches) .ensures .0)), tt)
+rest-result-returns-6 t c = let a = (c .before .before .before .before .before .before .before .before .before .before .before .before .before .before .before .before .before .before .before .before) in
+    let g : Cost = jointFrom (a .args .o) (nodes (plain (a .args .t .now))) (a .args .k) (target (a .args .x)) (target (a .args .y)) (int (a .args .d)) in
+    let hk = still-left _ _ _ _ _ _ (a .pre .1 .0) ((c .before .before .before .before .before .before .before .before .before .before .before .before .before .before .before .before .before .if1) .left) in
+    (stop-result (plain (a .args .t .now)) (a .args .k) g (a .pre .1 .0 .holds) hk _ (not-filled _ _ _ g _ _ _ ((c .if3) .left) ((c .before .before .before .before .before .fill-branches) .ensures .0)), tt)
 
 pub +branch-result+fill-branches+rest-result-spec : {M : Type 1} → statement M
 +branch-result+fill-branches+rest-result-spec =
@@ -404,8 +417,8 @@ pub +branch-result+fill-branches+rest-result-spec : {M : Type 1} → statement M
     (fill-branches-head-word-requires t)
     (fill-branches-wide-requires t)
     (fill-branches-loop-holds t)
-    (fill-branches-arm-at-requires t)
-    (fill-branches-arm-at-requires-2 t)
+    (fill-branches-arm-in-requires t)
+    (fill-branches-arm-in-requires-2 t)
     (fill-branches-add-branch-result t)
     (fill-branches-branch-result-requires t)
     (fill-branches-enum-known-z t)
@@ -437,20 +450,20 @@ pub +branch-result+fill-branches+rest-result-spec : {M : Type 1} → statement M
     (rest-result-returns-2 t)
     (rest-result-add-narrow t)
     (rest-result-narrow-requires t)
-    (rest-result-recall-requires t)
+    (rest-result-recall-in-requires t)
     (rest-result-enum-known-memo t)
     (rest-result-same-length-3 t)
     (rest-result-same-length-4 t)
     (rest-result-returns-3 t)
     (rest-result-enum-told t)
     (rest-result-fill-branches-requires t)
-    (rest-result-make-requires t)
+    (rest-result-make-in-requires t)
     (rest-result-enum-known-z t)
     (rest-result-enum-told-2 t)
     (rest-result-same-length-5 t)
     (rest-result-same-length-6 t)
     (rest-result-returns-4 t)
-    (rest-result-remember-requires t)
+    (rest-result-remember-in-requires t)
     (rest-result-same-length-7 t)
     (rest-result-same-length-8 t)
     (rest-result-returns-5 t)

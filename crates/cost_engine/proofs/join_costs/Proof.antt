@@ -1,48 +1,42 @@
--- `cost_engine::join_costs` meets its contract: own words and an emptied memory are right, and with no difference the joint cost is that of the two. Assumes nothing.
+-- `cost_engine::join_costs` meets its contract: at rest, with an emptied scratch, nothing is remembered, and with no difference the joint cost is that of the two. Assumes nothing.
+use Rattle.notes.proofs.Alike.{grown-roomy}
+use Rattle.cost_words.specs.Words.{branch}
 use Rattle.cost_words.proofs.Packing.{int-zero}
-use Rattle.cost_engine.proofs.Walking.{start, joint-start}
-use Rattle.cost_memory.proofs.Remembering.{remembers-none, remembers-fresh}
+use Rattle.cost_notes.proofs.Remembering.{noted-none}
+use Rattle.cost_engine.proofs.Walking.{start, joint-start, joinable-plain, joint-cleared}
 use borrow.Author.Needs.{needs}
 use Rattle.cost_engine.proofs.join_costs.Statement.{statement}
 use Rattle.cost_engine.proofs.join_costs.Tie as tie
 
-slice-aggregate-branch-result : tie.Need-slice-aggregate-branch-result
-slice-aggregate-branch-result c = search needs
+clear-requires : tie.Need-clear-requires
+clear-requires c κs = search needs
 
 branch-result-requires : tie.Need-branch-result-requires
-branch-result-requires c κs = (start _ _ _ _ _ _ ((c .before .before .before .before .before) .pre) _ int-zero, remembers-fresh 6144)
+branch-result-requires c κs = let a = (c .before .before .before .before .before .before .before .before) in
+    (start _ _ _ _ _ _ (joinable-plain _ _ _ _ (a .pre)) _ int-zero, noted-none _ _ (a .pre .rest) ((c .before .before .before .before .clear) .ensures))
+
+clear-far-requires : tie.Need-clear-far-requires
+clear-far-requires c κs = grown-roomy _ _ ((c .before .before .before .before .before .branch-result) .ensures .0 .grown .kept) ((c .before .before .before .before .before .before .before .before .before .before .before .before .before .before) .pre .rest .roomy)
 
 same-length : tie.Need-same-length
 same-length c = search needs
 
-returns : tie.Need-returns
-returns c = joint-start _ _ _ _ _ _ ((c .before .before .before .before .before .before .before .before .before) .pre) _ int-zero _ ((c .before .before .before .branch-result) .result) ((c .before .before .before .branch-result) .ensures .0)
-
-clear-requires : tie.Need-clear-requires
-clear-requires c κs = search needs
-
-branch-result-requires-2 : tie.Need-branch-result-requires-2
-branch-result-requires-2 c κs = (start _ _ _ _ _ _ ((c .before .before .before .before .before .before .before .before .before) .pre) _ int-zero, remembers-none _ ((c .before .before .before .before .clear) .ensures))
-
 same-length-2 : tie.Need-same-length-2
 same-length-2 c = search needs
 
-same-length-3 : tie.Need-same-length-3
-same-length-3 c = search needs
-
-returns-2 : tie.Need-returns-2
-returns-2 c = joint-start _ _ _ _ _ _ ((c .before .before .before .before .before .before .before .before .before .before .before .before .before .before) .pre) _ int-zero _ ((c .before .before .before .before .branch-result2) .result) ((c .before .before .before .before .branch-result2) .ensures .0)
+returns : tie.Need-returns
+returns c = let a = (c .before .before .before .before .before .before .before .before .before .before .before .before .before .before .before .before .before) in
+    let w = (c .before .before .before .before .before .before .before .before .branch-result) in
+    joint-cleared (a .args .t .now) _ _ (a .args .o) (branch (a .args .a .to) (a .args .a .adds)) (branch (a .args .b .to) (a .args .b .adds)) (w .result) (a .pre .rest) ((c .before .before .clear-far) .ensures)
+    (joint-start _ _ _ _ _ _ (joinable-plain (a .args .t .now) (a .args .o) _ _ (a .pre)) _ int-zero _ (w .result) (w .ensures .0))
 
 pub join-costs-spec : {M : Type 1} → statement M
 join-costs-spec =
     tie.close
     (tie.spec
-    slice-aggregate-branch-result
-    branch-result-requires
-    same-length
-    returns
     clear-requires
-    branch-result-requires-2
+    branch-result-requires
+    clear-far-requires
+    same-length
     same-length-2
-    same-length-3
-    returns-2)
+    returns)

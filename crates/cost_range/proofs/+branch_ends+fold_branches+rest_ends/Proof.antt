@@ -1,16 +1,19 @@
 -- `cost_range::rest_ends`, `fold_branches` and `branch_ends` meet their contracts: the remaining features fall; the values passed are folded, and the memory stays right. Assumes nothing.
-use Rattle.cost_range.proofs.Walking.{first-place, second-place, pair-step, pair-left, pair-from, pair-jump, ended, all-folded, one-lost, branches-at, reaches-jump, base-lost, rest-lost, low-lost, high-lost, both-stand, right-here}
+use Rattle.cost_range.proofs.Walking.{pair-left, pair-from, pair-jump, ended, all-folded, one-lost, reaches-jump, base-lost, rest-lost, low-lost, high-lost, both-stand, right-here}
+use Rattle.cost_notes.proofs.Remembering.{noted-hit}
+use Rattle.cost_range.proofs.Noting.{noted-more, features-over, first-over, second-over, step-over, branches-over}
 use Rattle.cost_range.proofs.Ending.{ends-are, ends-lost, folded-none, folded-more}
 use Rattle.cost_range.specs.declared.Ends.the-variants.{Are, Lost}
-use Rattle.cost_range.specs.Ends.{ofTargets, Folded, Remembers}
+use Rattle.cost_range.specs.Ends.{ofTargets, Folded, Noted}
 use Rattle.cost_nodes.proofs.Stepping.{good-small}
-use Rattle.cost_memory.proofs.Remembering.{hit, remembers-stored}
+use Rattle.cost_notes.proofs.Reading.{plain-head}
+use Rattle.notes.specs.Plain.{plain}
 use Rattle.words.specs.Words.{features, size, sizes}
 use lib.ListN.{length, drop}
 use native.Mathlib.Omega.{arith}
 use Prim.Native.Nat.{ℕ, _+_, _-_, _*_, _≤_, _<_}
 use mathlib.Core.Bool.{true, false}
-use mathlib.Core.Path.{_≡_, refl, _∙_}
+use mathlib.Core.Path.{_≡_, refl, sym, _∙_}
 use borrow.Author.Needs.{needs}
 use borrow.Fn.Kinds.{In}
 use borrow.Fn.PlainCycle.{Measures, is, falls, and}
@@ -23,10 +26,10 @@ use Rattle.cost_range.proofs.+branch_ends+fold_branches+rest_ends.Lts-f
 use Rattle.cost_range.proofs.rest_ends.Reads as rest-ends
 use Rattle.cost_range.proofs.rest_ends.Kinds as rest-ends-kinds
 use Rattle.cost_range.proofs.+branch_ends+fold_branches+rest_ends.Lts-rest_ends as rest-ends-lts
-use Rattle.cost_engine.proofs.lowest.Reads as lowest-reads
-use Rattle.cost_memory.proofs.recall.Reads as recall-reads
-use Rattle.cost_memory.proofs.remember.Reads as remember-reads
-use Rattle.cost_nodes.proofs.arm_at.Reads as arm-at-reads
+use Rattle.cost_notes.proofs.arm_in.Reads as arm-in-reads
+use Rattle.cost_notes.proofs.lowest.Reads as lowest-reads
+use Rattle.cost_notes.proofs.recall_in.Reads as recall-in-reads
+use Rattle.cost_notes.proofs.remember_in.Reads as remember-in-reads
 use Rattle.cost_range.proofs.furthest.Reads as furthest-reads
 use Rattle.cost_range.proofs.tied_word.Reads as tied-word-reads
 use Rattle.cost_words.proofs.sum_or_lost.Reads as sum-or-lost-reads
@@ -37,13 +40,13 @@ use Rattle.cost_range.proofs.+branch_ends+fold_branches+rest_ends.{stat
 use Rattle.cost_range.proofs.+branch_ends+fold_branches+rest_ends.Tie.{close}
 
 abbrev μ-branch-ends : Measures 2 branch-ends-kinds.ps ℕ
-μ-branch-ends κs a = 3 * (features (a .0 .now) - a .1 .1 .1 .0) + 1
+μ-branch-ends κs a = 3 * (features (plain (a .0 .now)) - a .1 .1 .1 .0) + 1
 
 abbrev μ-fold-branches : Measures 2 fold-branches-kinds.ps ℕ
-μ-fold-branches κs a = 3 * (features (a .0 .now) - a .1 .1 .1 .0) - 1
+μ-fold-branches κs a = 3 * (features (plain (a .0 .now)) - a .1 .1 .1 .0) - 1
 
 abbrev μ-rest-ends : Measures 2 rest-ends-kinds.ps ℕ
-μ-rest-ends κs a = 3 * (features (a .0 .now) - a .1 .1 .1 .0)
+μ-rest-ends κs a = 3 * (features (plain (a .0 .now)) - a .1 .1 .1 .0)
 
 abbrev branch-ends-at : ℕ → In 2 branch-ends-kinds.ps
 branch-ends-at t =
@@ -76,20 +79,20 @@ abbrev branch-ends-claims : ℕ → branch-ends-lts.Claims
 branch-ends-claims t = (tied-word-reads.Asked, tied-word-reads.Learnt, rest-ends-below t, rest-ends.Post, sum-or-lost-reads.Asked, sum-or-lost-reads.Learnt)
 
 abbrev fold-branches-claims : ℕ → fold-branches-lts.Claims
-fold-branches-claims t = (head-word-reads.Asked, head-word-reads.Learnt, wide-reads.Asked, wide-reads.Learnt, arm-at-reads.Asked, arm-at-reads.Learnt, branch-ends-below t, branch-ends.Post, furthest-reads.Asked, furthest-reads.Learnt)
+fold-branches-claims t = (head-word-reads.Asked, head-word-reads.Learnt, wide-reads.Asked, wide-reads.Learnt, arm-in-reads.Asked, arm-in-reads.Learnt, branch-ends-below t, branch-ends.Post, furthest-reads.Asked, furthest-reads.Learnt)
 
 abbrev rest-ends-claims : ℕ → rest-ends-lts.Claims
-rest-ends-claims t = (lowest-reads.Asked, lowest-reads.Learnt, narrow-reads.Asked, narrow-reads.Learnt, recall-reads.Asked, recall-reads.Learnt, fold-branches-below t, fold-branches.Post, remember-reads.Asked, remember-reads.Learnt)
+rest-ends-claims t = (lowest-reads.Asked, lowest-reads.Learnt, narrow-reads.Asked, narrow-reads.Learnt, recall-in-reads.Asked, recall-in-reads.Learnt, fold-branches-below t, fold-branches.Post, remember-in-reads.Asked, remember-in-reads.Learnt)
 
 branch-ends-tied-word-requires : (t : ℕ) → branch-ends-lts.Need-tied-word-requires (branch-ends-claims t) (branch-ends-at t) branch-ends.Post
 branch-ends-tied-word-requires t c κs = search needs
 
 branch-ends-returns : (t : ℕ) → branch-ends-lts.Need-returns (branch-ends-claims t) (branch-ends-at t) branch-ends.Post
 branch-ends-returns t c = let a = (c .before .before .before .before) in
-    (base-lost _ _ _ (a .args .a .adds) _ (a .args .b .adds) (a .pre .1 .0) (a .args .minus) ((c .before .tied-word) .result) ((c .if1) .taken) ((c .before .tied-word) .ensures), a .pre .1 .1)
+    (base-lost _ _ _ (a .args .a .adds) _ (a .args .b .adds) (a .pre .1 .0) (a .args .minus) ((c .before .tied-word) .result) ((c .if1) .taken) ((c .before .tied-word) .ensures), refl, a .pre .1 .1)
 
 branch-ends-rest-ends-requires : (t : ℕ) → branch-ends-lts.Need-rest-ends-requires (branch-ends-claims t) (branch-ends-at t) branch-ends.Post
-branch-ends-rest-ends-requires t c κs = let a = (c .before .before .before .before .before) in (omega arith, (a .pre .1 .0, a .pre .1 .1))
+branch-ends-rest-ends-requires t c κs = let a = (c .before .before .before .before .before .before) in (omega arith, (a .pre .1 .0, a .pre .1 .1))
 
 branch-ends-enum-known-l : (t : ℕ) → branch-ends-lts.Need-enum-known-l (branch-ends-claims t) (branch-ends-at t) branch-ends.Post
 branch-ends-enum-known-l t c = search needs
@@ -100,74 +103,87 @@ branch-ends-enum-told t c = search needs
 branch-ends-same-length : (t : ℕ) → branch-ends-lts.Need-same-length (branch-ends-claims t) (branch-ends-at t) branch-ends.Post
 branch-ends-same-length t c = search needs
 
+branch-ends-same-length-2 : (t : ℕ) → branch-ends-lts.Need-same-length-2 (branch-ends-claims t) (branch-ends-at t) branch-ends.Post
+branch-ends-same-length-2 t c = search needs
+
 branch-ends-returns-2 : (t : ℕ) → branch-ends-lts.Need-returns-2 (branch-ends-claims t) (branch-ends-at t) branch-ends.Post
-branch-ends-returns-2 t c = let a = (c .before .before .before .before .before .before .before .before .before .before) in
-    (rest-lost _ _ _ (a .args .a .adds) _ (a .args .b .adds) (a .pre .1 .0) (a .args .minus) (ends-lost ((c .before .before .before .before .rest-ends) .result) ((c .enum-told) .given .1) ((c .before .before .before .before .rest-ends) .ensures .0)), (c .before .before .before .before .rest-ends) .ensures .1)
+branch-ends-returns-2 t c = let a = (c .before .before .before .before .before .before .before .before .before .before .before .before .before) in let z = (c .before .before .before .before .before .before .rest-ends) in
+    (rest-lost _ _ _ (a .args .a .adds) _ (a .args .b .adds) (a .pre .1 .0) (a .args .minus) (ends-lost (z .result) ((c .enum-told) .given .1) (z .ensures .0)), z .ensures .1, z .ensures .2)
 
 branch-ends-sum-or-lost-requires : (t : ℕ) → branch-ends-lts.Need-sum-or-lost-requires (branch-ends-claims t) (branch-ends-at t) branch-ends.Post
 branch-ends-sum-or-lost-requires t c κs = search needs
 
-branch-ends-same-length-2 : (t : ℕ) → branch-ends-lts.Need-same-length-2 (branch-ends-claims t) (branch-ends-at t) branch-ends.Post
-branch-ends-same-length-2 t c = search needs
-
-branch-ends-returns-3 : (t : ℕ) → branch-ends-lts.Need-returns-3 (branch-ends-claims t) (branch-ends-at t) branch-ends.Post
-branch-ends-returns-3 t c = let a = (c .before .before .before .before .before .before .before .before .before .before .before .before .before) in
-    let q = ends-are ((c .before .before .before .before .before .before .before .rest-ends) .result) ((c .before .before .before .l) .given .1) ((c .before .before .before .before .before .before .before .rest-ends) .ensures .0) in
-    (low-lost _ _ _ (a .args .a .adds) _ (a .args .b .adds) (a .pre .1 .0) (a .args .minus) ((c .before .before .before .before .before .before .before .before .before .before .tied-word) .result) _ _ ((c .before .before .before .before .before .before .before .before .before .before .tied-word) .ensures) (omega (arith, (c .before .before .before .before .before .before .before .before .before .if1) .left)) q ((c .before .sum-or-lost) .result) ((c .if2) .taken) ((c .before .sum-or-lost) .ensures), (c .before .before .before .before .before .before .before .rest-ends) .ensures .1)
-
-branch-ends-sum-or-lost-requires-2 : (t : ℕ) → branch-ends-lts.Need-sum-or-lost-requires-2 (branch-ends-claims t) (branch-ends-at t) branch-ends.Post
-branch-ends-sum-or-lost-requires-2 t c κs = search needs
-
 branch-ends-same-length-3 : (t : ℕ) → branch-ends-lts.Need-same-length-3 (branch-ends-claims t) (branch-ends-at t) branch-ends.Post
 branch-ends-same-length-3 t c = search needs
-
-branch-ends-returns-4 : (t : ℕ) → branch-ends-lts.Need-returns-4 (branch-ends-claims t) (branch-ends-at t) branch-ends.Post
-branch-ends-returns-4 t c = let a = (c .before .before .before .before .before .before .before .before .before .before .before .before .before .before .before) in
-    let q = ends-are ((c .before .before .before .before .before .before .before .before .before .rest-ends) .result) ((c .before .before .before .before .before .l) .given .1) ((c .before .before .before .before .before .before .before .before .before .rest-ends) .ensures .0) in
-    (high-lost _ _ _ (a .args .a .adds) _ (a .args .b .adds) (a .pre .1 .0) (a .args .minus) ((c .before .before .before .before .before .before .before .before .before .before .before .before .tied-word) .result) _ _ ((c .before .before .before .before .before .before .before .before .before .before .before .before .tied-word) .ensures) (omega (arith, (c .before .before .before .before .before .before .before .before .before .before .before .if1) .left)) q ((c .before .sum-or-lost2) .result) ((c .if3) .taken) ((c .before .sum-or-lost2) .ensures), (c .before .before .before .before .before .before .before .before .before .rest-ends) .ensures .1)
 
 branch-ends-same-length-4 : (t : ℕ) → branch-ends-lts.Need-same-length-4 (branch-ends-claims t) (branch-ends-at t) branch-ends.Post
 branch-ends-same-length-4 t c = search needs
 
+branch-ends-returns-3 : (t : ℕ) → branch-ends-lts.Need-returns-3 (branch-ends-claims t) (branch-ends-at t) branch-ends.Post
+branch-ends-returns-3 t c = let a = (c .before .before .before .before .before .before .before .before .before .before .before .before .before .before .before .before) in let z = (c .before .before .before .before .before .before .before .before .before .rest-ends) in let w = (c .before .before .before .before .before .before .before .before .before .before .before .before .before .tied-word) in
+    let q = ends-are (z .result) ((c .before .before .before .l) .given .1) (z .ensures .0) in
+    (low-lost _ _ _ (a .args .a .adds) _ (a .args .b .adds) (a .pre .1 .0) (a .args .minus) (w .result) _ _ (w .ensures) (omega (arith, (c .before .before .before .before .before .before .before .before .before .before .before .before .if1) .left)) q ((c .before .sum-or-lost) .result) ((c .if2) .taken) ((c .before .sum-or-lost) .ensures), z .ensures .1, z .ensures .2)
+
+branch-ends-sum-or-lost-requires-2 : (t : ℕ) → branch-ends-lts.Need-sum-or-lost-requires-2 (branch-ends-claims t) (branch-ends-at t) branch-ends.Post
+branch-ends-sum-or-lost-requires-2 t c κs = search needs
+
+branch-ends-same-length-5 : (t : ℕ) → branch-ends-lts.Need-same-length-5 (branch-ends-claims t) (branch-ends-at t) branch-ends.Post
+branch-ends-same-length-5 t c = search needs
+
+branch-ends-same-length-6 : (t : ℕ) → branch-ends-lts.Need-same-length-6 (branch-ends-claims t) (branch-ends-at t) branch-ends.Post
+branch-ends-same-length-6 t c = search needs
+
+branch-ends-returns-4 : (t : ℕ) → branch-ends-lts.Need-returns-4 (branch-ends-claims t) (branch-ends-at t) branch-ends.Post
+branch-ends-returns-4 t c = let a = (c .before .before .before .before .before .before .before .before .before .before .before .before .before .before .before .before .before .before) in let z = (c .before .before .before .before .before .before .before .before .before .before .before .rest-ends) in let w = (c .before .before .before .before .before .before .before .before .before .before .before .before .before .before .before .tied-word) in
+    let q = ends-are (z .result) ((c .before .before .before .before .before .l) .given .1) (z .ensures .0) in
+    (high-lost _ _ _ (a .args .a .adds) _ (a .args .b .adds) (a .pre .1 .0) (a .args .minus) (w .result) _ _ (w .ensures) (omega (arith, (c .before .before .before .before .before .before .before .before .before .before .before .before .before .before .if1) .left)) q ((c .before .sum-or-lost2) .result) ((c .if3) .taken) ((c .before .sum-or-lost2) .ensures), z .ensures .1, z .ensures .2)
+
+branch-ends-same-length-7 : (t : ℕ) → branch-ends-lts.Need-same-length-7 (branch-ends-claims t) (branch-ends-at t) branch-ends.Post
+branch-ends-same-length-7 t c = search needs
+
+branch-ends-same-length-8 : (t : ℕ) → branch-ends-lts.Need-same-length-8 (branch-ends-claims t) (branch-ends-at t) branch-ends.Post
+branch-ends-same-length-8 t c = search needs
+
 branch-ends-returns-5 : (t : ℕ) → branch-ends-lts.Need-returns-5 (branch-ends-claims t) (branch-ends-at t) branch-ends.Post
-branch-ends-returns-5 t c = let a = (c .before .before .before .before .before .before .before .before .before .before .before .before .before .before .before) in
-    let q = ends-are ((c .before .before .before .before .before .before .before .before .before .rest-ends) .result) ((c .before .before .before .before .before .l) .given .1) ((c .before .before .before .before .before .before .before .before .before .rest-ends) .ensures .0) in (
-      both-stand _ _ _ (a .args .a .adds) _ (a .args .b .adds) (a .pre .1 .0) (a .args .minus) ((c .before .before .before .before .before .before .before .before .before .before .before .before .tied-word) .result) _ _ ((c .before .before .before .before .before .before .before .before .before .before .before .before .tied-word) .ensures) (omega (arith, (c .before .before .before .before .before .before .before .before .before .before .before .if1) .left)) q ((c .before .before .before .sum-or-lost) .result) ((c .before .sum-or-lost2) .result)
+branch-ends-returns-5 t c = let a = (c .before .before .before .before .before .before .before .before .before .before .before .before .before .before .before .before .before .before) in let z = (c .before .before .before .before .before .before .before .before .before .before .before .rest-ends) in let w = (c .before .before .before .before .before .before .before .before .before .before .before .before .before .before .before .tied-word) in
+    let q = ends-are (z .result) ((c .before .before .before .before .before .l) .given .1) (z .ensures .0) in (
+      both-stand _ _ _ (a .args .a .adds) _ (a .args .b .adds) (a .pre .1 .0) (a .args .minus) (w .result) _ _ (w .ensures) (omega (arith, (c .before .before .before .before .before .before .before .before .before .before .before .before .before .before .if1) .left)) q ((c .before .before .before .sum-or-lost) .result) ((c .before .sum-or-lost2) .result)
           (omega (arith, (c .before .before .if2) .left)) (omega (arith, (c .if3) .left)) ((c .before .before .before .sum-or-lost) .ensures) ((c .before .sum-or-lost2) .ensures),
-      (c .before .before .before .before .before .before .before .before .before .rest-ends) .ensures .1,
+      z .ensures .1,
+      z .ensures .2,
     )
 
 abbrev fold-branches-Inv-loop : fold-branches-lts.InvT-loop
-fold-branches-Inv-loop t s₀ minus k x y m low₀ high₀ v₀ s low high v = (m ≡ size t k) × (v ≤ m) × Folded false (drop (k + 1) (sizes t)) (ofTargets minus t k x y) v low × Folded true (drop (k + 1) (sizes t)) (ofTargets minus t k x y) v high × Remembers minus t s × (length s ≡ length s₀)
+fold-branches-Inv-loop t₀ s₀ minus k x y m low₀ high₀ v₀ t s low high v = (m ≡ size (plain t₀) k) × (v ≤ m) × Folded false (drop (k + 1) (sizes (plain t₀))) (ofTargets minus (plain t₀) k x y) v low × Folded true (drop (k + 1) (sizes (plain t₀))) (ofTargets minus (plain t₀) k x y) v high × (plain t ≡ plain t₀) × Noted minus t s × (length t ≡ length t₀) × (length s ≡ length s₀)
 
 abbrev fold-branches-μ-loop : fold-branches-lts.MeasureT-loop
-fold-branches-μ-loop t s₀ minus k x y m low₀ high₀ v₀ s low high v = m - v
+fold-branches-μ-loop t₀ s₀ minus k x y m low₀ high₀ v₀ t s low high v = m - v
 
 fold-branches-add-head-word : (t : ℕ) → fold-branches-lts.Need-add-head-word (fold-branches-claims t) (fold-branches-at t) fold-branches.Post fold-branches-Inv-loop fold-branches-μ-loop
 fold-branches-add-head-word t c = search needs
 
 fold-branches-head-word-requires : (t : ℕ) → fold-branches-lts.Need-head-word-requires (fold-branches-claims t) (fold-branches-at t) fold-branches.Post fold-branches-Inv-loop fold-branches-μ-loop
-fold-branches-head-word-requires t c κs = search needs
+fold-branches-head-word-requires t c κs = let a = (c .before .before .before) in omega (arith, a .pre .1 .1 .room .room, a .pre .1 .2, a .pre .1 .0 .holds .laid .laid .few)
 
 fold-branches-wide-requires : (t : ℕ) → fold-branches-lts.Need-wide-requires (fold-branches-claims t) (fold-branches-at t) fold-branches.Post fold-branches-Inv-loop fold-branches-μ-loop
 fold-branches-wide-requires t c κs = search needs
 
 fold-branches-loop-holds : (t : ℕ) → fold-branches-lts.Need-loop-holds (fold-branches-claims t) (fold-branches-at t) fold-branches.Post fold-branches-Inv-loop fold-branches-μ-loop
-fold-branches-loop-holds t c = let a = (c .before .before .before .before) in
-    (((c .wide) .ensures .0) ∙ ((c .before .head-word) .ensures), omega arith, folded-none _ _ _ _, folded-none _ _ _ _, a .pre .1 .1, refl)
+fold-branches-loop-holds t c = let a = (c .before .before .before .before .before) in
+    ((c .wide) .ensures .0 ∙ (c .before .head-word) .ensures ∙ sym (plain-head _ _ (omega (arith, a .pre .1 .2, a .pre .1 .0 .holds .laid .laid .few))), omega arith, folded-none _ _ _ _, folded-none _ _ _ _, refl, a .pre .1 .1, refl, refl)
 
-fold-branches-arm-at-requires : (t : ℕ) → fold-branches-lts.Need-arm-at-requires (fold-branches-claims t) (fold-branches-at t) fold-branches.Post fold-branches-Inv-loop fold-branches-μ-loop
-fold-branches-arm-at-requires t c κs = let a = (c .before .before .before .before .before .before) in (first-place _ _ _ _ (a .pre .1 .0), a .pre .1 .2, omega (arith, (c .before .loop) .inv .0, (c .loop-test)))
+fold-branches-arm-in-requires : (t : ℕ) → fold-branches-lts.Need-arm-in-requires (fold-branches-claims t) (fold-branches-at t) fold-branches.Post fold-branches-Inv-loop fold-branches-μ-loop
+fold-branches-arm-in-requires t c κs = let a = (c .before .before .before .before .before .before .before .before) in let l = (c .before .before .loop) in first-over (l .inv .4) _ _ _ (a .pre .1 .0) (a .pre .1 .2) (l .v) (omega (arith, l .inv .0, (c .before .loop-test)))
 
-fold-branches-arm-at-requires-2 : (t : ℕ) → fold-branches-lts.Need-arm-at-requires-2 (fold-branches-claims t) (fold-branches-at t) fold-branches.Post fold-branches-Inv-loop fold-branches-μ-loop
-fold-branches-arm-at-requires-2 t c κs = let a = (c .before .before .before .before .before .before .before) in (second-place _ _ _ _ (a .pre .1 .0), a .pre .1 .2, omega (arith, (c .before .before .loop) .inv .0, (c .before .loop-test)))
+fold-branches-arm-in-requires-2 : (t : ℕ) → fold-branches-lts.Need-arm-in-requires-2 (fold-branches-claims t) (fold-branches-at t) fold-branches.Post fold-branches-Inv-loop fold-branches-μ-loop
+fold-branches-arm-in-requires-2 t c κs = let a = (c .before .before .before .before .before .before .before .before .before .before) in let l = (c .before .before .before .before .loop) in second-over (l .inv .4) _ _ _ (a .pre .1 .0) (a .pre .1 .2) (l .v) (omega (arith, l .inv .0, (c .before .before .before .loop-test)))
 
 fold-branches-add-branch-ends : (t : ℕ) → fold-branches-lts.Need-add-branch-ends (fold-branches-claims t) (fold-branches-at t) fold-branches.Post fold-branches-Inv-loop fold-branches-μ-loop
 fold-branches-add-branch-ends t c = search needs
 
 fold-branches-branch-ends-requires : (t : ℕ) → fold-branches-lts.Need-branch-ends-requires (fold-branches-claims t) (fold-branches-at t) fold-branches.Post fold-branches-Inv-loop fold-branches-μ-loop
-fold-branches-branch-ends-requires t c κs = let a = (c .before .before .before .before .before .before .before .before .before) in
-    (omega (arith, a .pre .1 .2), (pair-step _ _ _ _ (a .pre .1 .0) ((c .before .before .before .before .loop) .v) _ _ _ _ (a .pre .1 .2) ((c .before .before .arm-at) .ensures) ((c .before .arm-at2) .ensures), (c .before .before .before .before .loop) .inv .4))
+fold-branches-branch-ends-requires t c κs = let a = (c .before .before .before .before .before .before .before .before .before .before .before .before .before) in let l = (c .before .before .before .before .before .before .before .loop) in
+    (omega (arith, a .pre .1 .2, features-over (l .inv .4)), (step-over (l .inv .4) _ _ _ (a .pre .1 .0) (a .pre .1 .2) (l .v) _ _ _ _ ((c .before .before .before .before .arm-in) .ensures) ((c .before .before .arm-in2) .ensures), l .inv .5))
 
 fold-branches-enum-known-l : (t : ℕ) → fold-branches-lts.Need-enum-known-l (fold-branches-claims t) (fold-branches-at t) fold-branches.Post fold-branches-Inv-loop fold-branches-μ-loop
 fold-branches-enum-known-l t c = search needs
@@ -178,11 +194,15 @@ fold-branches-enum-told t c = search needs
 fold-branches-same-length : (t : ℕ) → fold-branches-lts.Need-same-length (fold-branches-claims t) (fold-branches-at t) fold-branches.Post fold-branches-Inv-loop fold-branches-μ-loop
 fold-branches-same-length t c = search needs
 
+fold-branches-same-length-2 : (t : ℕ) → fold-branches-lts.Need-same-length-2 (fold-branches-claims t) (fold-branches-at t) fold-branches.Post fold-branches-Inv-loop fold-branches-μ-loop
+fold-branches-same-length-2 t c = search needs
+
 fold-branches-returns : (t : ℕ) → fold-branches-lts.Need-returns (fold-branches-claims t) (fold-branches-at t) fold-branches.Post fold-branches-Inv-loop fold-branches-μ-loop
-fold-branches-returns t c = let a = (c .before .before .before .before .before .before .before .before .before .before .before .before .before .before) in
-    let q = ends-lost ((c .before .before .before .before .branch-ends) .result) ((c .enum-told) .given .1) ((c .before .before .before .before .branch-ends) .ensures .0) in (
-      one-lost _ _ _ _ (a .pre .1 .0) (a .args .minus) (a .pre .1 .2) ((c .before .before .before .before .before .before .before .before .before .loop) .v) (omega (arith, (c .before .before .before .before .before .before .before .before .before .loop) .inv .0, (c .before .before .before .before .before .before .before .before .loop-test))) (branches-at _ _ _ _ (a .pre .1 .0) (a .args .minus) ((c .before .before .before .before .before .before .before .before .before .loop) .v) _ _ _ _ ((c .before .before .before .before .before .before .before .arm-at) .ensures) ((c .before .before .before .before .before .before .arm-at2) .ensures) Lost q),
-      (c .before .before .before .before .branch-ends) .ensures .1,
+fold-branches-returns t c = let a = (c .before .before .before .before .before .before .before .before .before .before .before .before .before .before .before .before .before .before .before .before) in let l = (c .before .before .before .before .before .before .before .before .before .before .before .before .before .before .loop) in let z = (c .before .before .before .before .before .before .branch-ends) in
+    let q = ends-lost (z .result) ((c .enum-told) .given .1) (z .ensures .0) in (
+      one-lost _ _ _ _ (a .pre .1 .0) (a .args .minus) (a .pre .1 .2) (l .v) (omega (arith, l .inv .0, (c .before .before .before .before .before .before .before .before .before .before .before .before .before .loop-test))) (branches-over (l .inv .4) _ _ _ (a .pre .1 .0) (a .pre .1 .2) (l .v) _ _ _ _ ((c .before .before .before .before .before .before .before .before .before .before .before .arm-in) .ensures) ((c .before .before .before .before .before .before .before .before .before .arm-in2) .ensures) (a .args .minus) Lost q),
+      z .ensures .1 ∙ l .inv .4,
+      z .ensures .2,
     )
 
 fold-branches-furthest-requires : (t : ℕ) → fold-branches-lts.Need-furthest-requires (fold-branches-claims t) (fold-branches-at t) fold-branches.Post fold-branches-Inv-loop fold-branches-μ-loop
@@ -198,24 +218,27 @@ fold-branches-loop-less : (t : ℕ) → fold-branches-lts.Need-loop-less (fold-b
 fold-branches-loop-less t c = search needs
 
 fold-branches-loop-again : (t : ℕ) → fold-branches-lts.Need-loop-again (fold-branches-claims t) (fold-branches-at t) fold-branches.Post fold-branches-Inv-loop fold-branches-μ-loop
-fold-branches-loop-again t c = let a = (c .before .before .before .before .before .before .before .before .before .before .before .before .before .before .before .before .before) in
-    let l = (c .before .before .before .before .before .before .before .before .before .before .before .before .loop) in
-    let q = branches-at _ _ _ _ (a .pre .1 .0) (a .args .minus) (l .v) _ _ _ _ ((c .before .before .before .before .before .before .before .before .before .before .arm-at) .ensures) ((c .before .before .before .before .before .before .before .before .before .arm-at2) .ensures) (Are _ _) (ends-are ((c .before .before .before .before .before .before .before .branch-ends) .result) ((c .before .before .before .l) .given .1) ((c .before .before .before .before .before .before .before .branch-ends) .ensures .0)) in (
+fold-branches-loop-again t c = let a = (c .before .before .before .before .before .before .before .before .before .before .before .before .before .before .before .before .before .before .before .before .before .before .before) in let l = (c .before .before .before .before .before .before .before .before .before .before .before .before .before .before .before .before .before .loop) in let z = (c .before .before .before .before .before .before .before .before .before .branch-ends) in
+    let q = branches-over (l .inv .4) _ _ _ (a .pre .1 .0) (a .pre .1 .2) (l .v) _ _ _ _ ((c .before .before .before .before .before .before .before .before .before .before .before .before .before .before .arm-in) .ensures) ((c .before .before .before .before .before .before .before .before .before .before .before .before .arm-in2) .ensures) (a .args .minus) (Are _ _) (ends-are (z .result) ((c .before .before .before .l) .given .1) (z .ensures .0)) in (
       l .inv .0,
-      omega (arith, (c .before .before .before .before .before .before .before .before .before .before .before .loop-test)),
+      omega (arith, (c .before .before .before .before .before .before .before .before .before .before .before .before .before .before .before .before .loop-test)),
       folded-more false _ _ (l .v) (l .low) _ ((c .before .furthest) .result) (l .inv .2) (q .lowest) ((c .before .furthest) .ensures),
       folded-more true _ _ (l .v) (l .high) _ ((c .furthest2) .result) (l .inv .3) (q .highest) ((c .furthest2) .ensures),
-      (c .before .before .before .before .before .before .before .branch-ends) .ensures .1,
+      z .ensures .1 ∙ l .inv .4,
+      z .ensures .2,
+      search needs,
       search needs,
     )
 
-fold-branches-same-length-2 : (t : ℕ) → fold-branches-lts.Need-same-length-2 (fold-branches-claims t) (fold-branches-at t) fold-branches.Post fold-branches-Inv-loop fold-branches-μ-loop
-fold-branches-same-length-2 t c = search needs
+fold-branches-same-length-3 : (t : ℕ) → fold-branches-lts.Need-same-length-3 (fold-branches-claims t) (fold-branches-at t) fold-branches.Post fold-branches-Inv-loop fold-branches-μ-loop
+fold-branches-same-length-3 t c = search needs
+
+fold-branches-same-length-4 : (t : ℕ) → fold-branches-lts.Need-same-length-4 (fold-branches-claims t) (fold-branches-at t) fold-branches.Post fold-branches-Inv-loop fold-branches-μ-loop
+fold-branches-same-length-4 t c = search needs
 
 fold-branches-returns-2 : (t : ℕ) → fold-branches-lts.Need-returns-2 (fold-branches-claims t) (fold-branches-at t) fold-branches.Post fold-branches-Inv-loop fold-branches-μ-loop
-fold-branches-returns-2 t c = let a = (c .before .before .before .before .before .before) in
-    let l = (c .before .loop) in
-    (all-folded _ _ _ _ (a .pre .1 .0) (a .args .minus) (a .pre .1 .2) (l .v) (l .low) (l .high) (omega (arith, l .inv .0, l .inv .1, (c .loop-test))) (l .inv .2) (l .inv .3), l .inv .4)
+fold-branches-returns-2 t c = let a = (c .before .before .before .before .before .before .before) in let l = (c .before .loop) in
+    (all-folded _ _ _ _ (a .pre .1 .0) (a .args .minus) (a .pre .1 .2) (l .v) (l .low) (l .high) (omega (arith, l .inv .0, l .inv .1, (c .loop-test))) (l .inv .2) (l .inv .3), l .inv .4, l .inv .5)
 
 rest-ends-add-if1 : (t : ℕ) → rest-ends-lts.Need-add-if1 (rest-ends-claims t) (rest-ends-at t) rest-ends.Post
 rest-ends-add-if1 t c = let a = (c .before .before) in
@@ -223,23 +246,23 @@ rest-ends-add-if1 t c = let a = (c .before .before) in
     omega (arith, good-small _ _ _ (a .pre .1 .0 .first), good-small _ _ _ (a .pre .1 .0 .second), d .within, d .most)
 
 rest-ends-returns : (t : ℕ) → rest-ends-lts.Need-returns (rest-ends-claims t) (rest-ends-at t) rest-ends.Post
-rest-ends-returns t c = let a = (c .before .before .before) in (ended _ _ _ _ (a .pre .1 .0) (a .args .minus) ((c .if1) .taken), a .pre .1 .1)
+rest-ends-returns t c = let a = (c .before .before .before) in (ended _ _ _ _ (a .pre .1 .0) (a .args .minus) ((c .if1) .taken), refl, a .pre .1 .1)
 
 rest-ends-lowest-requires : (t : ℕ) → rest-ends-lts.Need-lowest-requires (rest-ends-claims t) (rest-ends-at t) rest-ends.Post
-rest-ends-lowest-requires t c κs = let a = (c .before .before .before) in (a .pre .1 .0 .holds .laid .laid, good-small _ _ _ (a .pre .1 .0 .first), good-small _ _ _ (a .pre .1 .0 .second))
+rest-ends-lowest-requires t c κs = let a = (c .before .before .before .before) in (a .pre .1 .0 .holds .laid .laid, good-small _ _ _ (a .pre .1 .0 .first), good-small _ _ _ (a .pre .1 .0 .second))
 
 rest-ends-add-narrow : (t : ℕ) → rest-ends-lts.Need-add-narrow (rest-ends-claims t) (rest-ends-at t) rest-ends.Post
-rest-ends-add-narrow t c = let a = (c .before .before .before .before) in
-    let hj = pair-left _ _ _ _ (a .pre .1 .0) ((c .lowest) .result) ((c .lowest) .ensures .0) ((c .lowest) .ensures .1) ((c .before .if1) .left) in
+rest-ends-add-narrow t c = let a = (c .before .before .before .before .before) in let m = (c .lowest) in
+    let hj = pair-left _ _ _ _ (a .pre .1 .0) (m .result) (m .ensures .0) (m .ensures .1) ((c .before .before .if1) .left) in
     omega (arith, a .pre .1 .0 .holds .laid .laid .few)
 
 rest-ends-narrow-requires : (t : ℕ) → rest-ends-lts.Need-narrow-requires (rest-ends-claims t) (rest-ends-at t) rest-ends.Post
-rest-ends-narrow-requires t c κs = let a = (c .before .before .before .before) in
-    let hj = pair-left _ _ _ _ (a .pre .1 .0) ((c .lowest) .result) ((c .lowest) .ensures .0) ((c .lowest) .ensures .1) ((c .before .if1) .left) in
+rest-ends-narrow-requires t c κs = let a = (c .before .before .before .before .before) in let m = (c .lowest) in
+    let hj = pair-left _ _ _ _ (a .pre .1 .0) (m .result) (m .ensures .0) (m .ensures .1) ((c .before .before .if1) .left) in
     omega (arith, a .pre .1 .0 .holds .laid .laid .few)
 
-rest-ends-recall-requires : (t : ℕ) → rest-ends-lts.Need-recall-requires (rest-ends-claims t) (rest-ends-at t) rest-ends.Post
-rest-ends-recall-requires t c κs = search needs
+rest-ends-recall-in-requires : (t : ℕ) → rest-ends-lts.Need-recall-in-requires (rest-ends-claims t) (rest-ends-at t) rest-ends.Post
+rest-ends-recall-in-requires t c κs = (c .before .before .before .before .before .before .before .before) .pre .1 .1 .room
 
 rest-ends-enum-known-memo : (t : ℕ) → rest-ends-lts.Need-enum-known-memo (rest-ends-claims t) (rest-ends-at t) rest-ends.Post
 rest-ends-enum-known-memo t c = search needs
@@ -247,25 +270,28 @@ rest-ends-enum-known-memo t c = search needs
 rest-ends-same-length : (t : ℕ) → rest-ends-lts.Need-same-length (rest-ends-claims t) (rest-ends-at t) rest-ends.Post
 rest-ends-same-length t c = search needs
 
+rest-ends-same-length-2 : (t : ℕ) → rest-ends-lts.Need-same-length-2 (rest-ends-claims t) (rest-ends-at t) rest-ends.Post
+rest-ends-same-length-2 t c = search needs
+
 rest-ends-returns-2 : (t : ℕ) → rest-ends-lts.Need-returns-2 (rest-ends-claims t) (rest-ends-at t) rest-ends.Post
-rest-ends-returns-2 t c = let a = (c .before .before .before .before .before .before .before .before .before .before) in
+rest-ends-returns-2 t c = let a = (c .before .before .before .before .before .before .before .before .before .before .before .before) in let m = (c .before .before .before .before .before .before .before .lowest) in
     let p = a .pre .1 .0 in
-    let j = (c .before .before .before .before .before .before .lowest) .result in
-    let hj = pair-left _ _ _ _ p j ((c .before .before .before .before .before .before .lowest) .ensures .0) ((c .before .before .before .before .before .before .lowest) .ensures .1) ((c .before .before .before .before .before .before .before .if1) .left) in
-    let kj = pair-from _ _ _ _ p j ((c .before .before .before .before .before .before .lowest) .ensures .0) ((c .before .before .before .before .before .before .lowest) .ensures .1) ((c .before .before .before .before .before .before .lowest) .ensures .2) in
-    let h = hit (a .args .s .now) ((c .before .before .before .before .before .narrow) .result) (a .args .x) (a .args .y) 0 _ _ _ (a .pre .1 .1) ((c .before .before .before .recall) .ensures) ((c .before .memo) .given .1) (omega (arith, (c .before .before .before .before .before .narrow) .ensures)) in
-    (reaches-jump _ _ _ _ p (a .args .minus) j ((c .before .before .before .before .before .before .lowest) .ensures .0) ((c .before .before .before .before .before .before .lowest) .ensures .1) kj hj (Are _ _) (h .at j ((c .before .before .before .before .before .narrow) .ensures)), a .pre .1 .1)
+    let j = m .result in
+    let hj = pair-left _ _ _ _ p j (m .ensures .0) (m .ensures .1) ((c .before .before .before .before .before .before .before .before .before .if1) .left) in
+    let kj = pair-from _ _ _ _ p j (m .ensures .0) (m .ensures .1) (m .ensures .2) in
+    let h = noted-hit (a .args .t .now) (a .args .s .now) ((c .before .before .before .before .before .before .narrow) .result) (a .args .x) (a .args .y) 0 _ _ _ (a .pre .1 .1) ((c .before .before .before .recall-in) .ensures) ((c .before .memo) .given .1) (omega (arith, (c .before .before .before .before .before .before .narrow) .ensures)) in
+    (reaches-jump _ _ _ _ p (a .args .minus) j (m .ensures .0) (m .ensures .1) kj hj (Are _ _) (h .at j ((c .before .before .before .before .before .before .narrow) .ensures)), refl, a .pre .1 .1)
 
 rest-ends-enum-told : (t : ℕ) → rest-ends-lts.Need-enum-told (rest-ends-claims t) (rest-ends-at t) rest-ends.Post
 rest-ends-enum-told t c = search needs
 
 rest-ends-fold-branches-requires : (t : ℕ) → rest-ends-lts.Need-fold-branches-requires (rest-ends-claims t) (rest-ends-at t) rest-ends.Post
-rest-ends-fold-branches-requires t c κs = let a = (c .before .before .before .before .before .before .before .before .before .before) in
+rest-ends-fold-branches-requires t c κs = let a = (c .before .before .before .before .before .before .before .before .before .before .before .before .before) in let m = (c .before .before .before .before .before .before .before .before .lowest) in
     let p = a .pre .1 .0 in
-    let j = (c .before .before .before .before .before .before .lowest) .result in
-    let hj = pair-left _ _ _ _ p j ((c .before .before .before .before .before .before .lowest) .ensures .0) ((c .before .before .before .before .before .before .lowest) .ensures .1) ((c .before .before .before .before .before .before .before .if1) .left) in
-    let kj = pair-from _ _ _ _ p j ((c .before .before .before .before .before .before .lowest) .ensures .0) ((c .before .before .before .before .before .before .lowest) .ensures .1) ((c .before .before .before .before .before .before .lowest) .ensures .2) in
-    (omega arith, (pair-jump _ _ _ _ p j ((c .before .before .before .before .before .before .lowest) .ensures .0) ((c .before .before .before .before .before .before .lowest) .ensures .1) hj, a .pre .1 .1, hj))
+    let j = m .result in
+    let hj = pair-left _ _ _ _ p j (m .ensures .0) (m .ensures .1) ((c .before .before .before .before .before .before .before .before .before .before .if1) .left) in
+    let kj = pair-from _ _ _ _ p j (m .ensures .0) (m .ensures .1) (m .ensures .2) in
+    (omega arith, (pair-jump _ _ _ _ p j (m .ensures .0) (m .ensures .1) hj, a .pre .1 .1, hj))
 
 rest-ends-enum-known-l : (t : ℕ) → rest-ends-lts.Need-enum-known-l (rest-ends-claims t) (rest-ends-at t) rest-ends.Post
 rest-ends-enum-known-l t c = search needs
@@ -273,32 +299,39 @@ rest-ends-enum-known-l t c = search needs
 rest-ends-enum-told-2 : (t : ℕ) → rest-ends-lts.Need-enum-told-2 (rest-ends-claims t) (rest-ends-at t) rest-ends.Post
 rest-ends-enum-told-2 t c = search needs
 
-rest-ends-same-length-2 : (t : ℕ) → rest-ends-lts.Need-same-length-2 (rest-ends-claims t) (rest-ends-at t) rest-ends.Post
-rest-ends-same-length-2 t c = search needs
-
-rest-ends-returns-3 : (t : ℕ) → rest-ends-lts.Need-returns-3 (rest-ends-claims t) (rest-ends-at t) rest-ends.Post
-rest-ends-returns-3 t c = let a = (c .before .before .before .before .before .before .before .before .before .before .before .before .before .before .before) in
-    let p = a .pre .1 .0 in
-    let j = (c .before .before .before .before .before .before .before .before .before .before .before .lowest) .result in
-    let hj = pair-left _ _ _ _ p j ((c .before .before .before .before .before .before .before .before .before .before .before .lowest) .ensures .0) ((c .before .before .before .before .before .before .before .before .before .before .before .lowest) .ensures .1) ((c .before .before .before .before .before .before .before .before .before .before .before .before .if1) .left) in
-    let kj = pair-from _ _ _ _ p j ((c .before .before .before .before .before .before .before .before .before .before .before .lowest) .ensures .0) ((c .before .before .before .before .before .before .before .before .before .before .before .lowest) .ensures .1) ((c .before .before .before .before .before .before .before .before .before .before .before .lowest) .ensures .2) in
-    (reaches-jump _ _ _ _ p (a .args .minus) j ((c .before .before .before .before .before .before .before .before .before .before .before .lowest) .ensures .0) ((c .before .before .before .before .before .before .before .before .before .before .before .lowest) .ensures .1) kj hj Lost (ends-lost ((c .before .before .before .before .fold-branches) .result) ((c .enum-told2) .given .1) ((c .before .before .before .before .fold-branches) .ensures .0)), (c .before .before .before .before .fold-branches) .ensures .1)
-
-rest-ends-remember-requires : (t : ℕ) → rest-ends-lts.Need-remember-requires (rest-ends-claims t) (rest-ends-at t) rest-ends.Post
-rest-ends-remember-requires t c κs = omega (arith, (c .before .before .before .before .before .before .before .before .before .before .before .before .narrow) .ensures)
-
 rest-ends-same-length-3 : (t : ℕ) → rest-ends-lts.Need-same-length-3 (rest-ends-claims t) (rest-ends-at t) rest-ends.Post
 rest-ends-same-length-3 t c = search needs
 
-rest-ends-returns-4 : (t : ℕ) → rest-ends-lts.Need-returns-4 (rest-ends-claims t) (rest-ends-at t) rest-ends.Post
-rest-ends-returns-4 t c = let a = (c .before .before .before .before .before .before .before .before .before .before .before .before .before .before .before .before .before .before .before .before) in
+rest-ends-same-length-4 : (t : ℕ) → rest-ends-lts.Need-same-length-4 (rest-ends-claims t) (rest-ends-at t) rest-ends.Post
+rest-ends-same-length-4 t c = search needs
+
+rest-ends-returns-3 : (t : ℕ) → rest-ends-lts.Need-returns-3 (rest-ends-claims t) (rest-ends-at t) rest-ends.Post
+rest-ends-returns-3 t c = let a = (c .before .before .before .before .before .before .before .before .before .before .before .before .before .before .before .before .before .before .before .before) in let m = (c .before .before .before .before .before .before .before .before .before .before .before .before .before .before .before .lowest) in let z = (c .before .before .before .before .before .before .fold-branches) in
     let p = a .pre .1 .0 in
-    let j = (c .before .before .before .before .before .before .before .before .before .before .before .before .before .before .before .before .lowest) .result in
-    let hj = pair-left _ _ _ _ p j ((c .before .before .before .before .before .before .before .before .before .before .before .before .before .before .before .before .lowest) .ensures .0) ((c .before .before .before .before .before .before .before .before .before .before .before .before .before .before .before .before .lowest) .ensures .1) ((c .before .before .before .before .before .before .before .before .before .before .before .before .before .before .before .before .before .if1) .left) in
-    let kj = pair-from _ _ _ _ p j ((c .before .before .before .before .before .before .before .before .before .before .before .before .before .before .before .before .lowest) .ensures .0) ((c .before .before .before .before .before .before .before .before .before .before .before .before .before .before .before .before .lowest) .ensures .1) ((c .before .before .before .before .before .before .before .before .before .before .before .before .before .before .before .before .lowest) .ensures .2) in
-    let q = ends-are ((c .before .before .before .before .before .before .before .before .before .fold-branches) .result) ((c .before .before .before .before .before .l) .given .1) ((c .before .before .before .before .before .before .before .before .before .fold-branches) .ensures .0) in (
-      reaches-jump _ _ _ _ p (a .args .minus) j ((c .before .before .before .before .before .before .before .before .before .before .before .before .before .before .before .before .lowest) .ensures .0) ((c .before .before .before .before .before .before .before .before .before .before .before .before .before .before .before .before .lowest) .ensures .1) kj hj (Are _ _) q,
-      remembers-stored ((c .before .before .before .before .before .before .before .before .before .before .before .before .before .before .before .narrow) .result) (a .args .x) (a .args .y) 0 _ _ _ _ ((c .before .before .before .before .before .before .before .before .before .fold-branches) .ensures .1) ((c .before .before .remember) .ensures) (right-here (a .args .minus) _ ((c .before .before .before .before .before .before .before .before .before .before .before .before .before .before .before .narrow) .result) j _ _ 0 _ _ ((c .before .before .before .before .before .before .before .before .before .before .before .before .before .before .before .narrow) .ensures) q),
+    let j = m .result in
+    let hj = pair-left _ _ _ _ p j (m .ensures .0) (m .ensures .1) ((c .before .before .before .before .before .before .before .before .before .before .before .before .before .before .before .before .before .if1) .left) in
+    let kj = pair-from _ _ _ _ p j (m .ensures .0) (m .ensures .1) (m .ensures .2) in
+    (reaches-jump _ _ _ _ p (a .args .minus) j (m .ensures .0) (m .ensures .1) kj hj Lost (ends-lost (z .result) ((c .enum-told2) .given .1) (z .ensures .0)), z .ensures .1, z .ensures .2)
+
+rest-ends-remember-in-requires : (t : ℕ) → rest-ends-lts.Need-remember-in-requires (rest-ends-claims t) (rest-ends-at t) rest-ends.Post
+rest-ends-remember-in-requires t c κs = ((c .before .before .before .before .before .before .before .before .before .fold-branches) .ensures .2 .room, omega (arith, (c .before .before .before .before .before .before .before .before .before .before .before .before .before .before .before .before .before .narrow) .ensures))
+
+rest-ends-same-length-5 : (t : ℕ) → rest-ends-lts.Need-same-length-5 (rest-ends-claims t) (rest-ends-at t) rest-ends.Post
+rest-ends-same-length-5 t c = search needs
+
+rest-ends-same-length-6 : (t : ℕ) → rest-ends-lts.Need-same-length-6 (rest-ends-claims t) (rest-ends-at t) rest-ends.Post
+rest-ends-same-length-6 t c = search needs
+
+rest-ends-returns-4 : (t : ℕ) → rest-ends-lts.Need-returns-4 (rest-ends-claims t) (rest-ends-at t) rest-ends.Post
+rest-ends-returns-4 t c = let a = (c .before .before .before .before .before .before .before .before .before .before .before .before .before .before .before .before .before .before .before .before .before .before .before .before .before .before .before .before) in let m = (c .before .before .before .before .before .before .before .before .before .before .before .before .before .before .before .before .before .before .before .before .before .before .before .lowest) in let z = (c .before .before .before .before .before .before .before .before .before .before .before .before .before .before .fold-branches) in let u = (c .before .before .before .before .remember-in) in
+    let p = a .pre .1 .0 in
+    let j = m .result in
+    let hj = pair-left _ _ _ _ p j (m .ensures .0) (m .ensures .1) ((c .before .before .before .before .before .before .before .before .before .before .before .before .before .before .before .before .before .before .before .before .before .before .before .before .before .if1) .left) in
+    let kj = pair-from _ _ _ _ p j (m .ensures .0) (m .ensures .1) (m .ensures .2) in
+    let q = ends-are (z .result) ((c .before .before .before .before .before .before .before .before .l) .given .1) (z .ensures .0) in (
+      reaches-jump _ _ _ _ p (a .args .minus) j (m .ensures .0) (m .ensures .1) kj hj (Are _ _) q,
+      u .ensures .0 ∙ z .ensures .1,
+      noted-more (a .args .minus) _ _ _ _ _ ((c .before .before .before .before .before .before .before .before .before .before .before .before .before .before .before .before .before .before .before .before .before .before .narrow) .result) (a .args .x) (a .args .y) 0 _ _ (z .ensures .1) (u .ensures .0) (z .ensures .2) (u .ensures .1) (right-here (a .args .minus) _ ((c .before .before .before .before .before .before .before .before .before .before .before .before .before .before .before .before .before .before .before .before .before .before .narrow) .result) j _ _ 0 _ _ ((c .before .before .before .before .before .before .before .before .before .before .before .before .before .before .before .before .before .before .before .before .before .before .narrow) .ensures) q),
     )
 
 pub +branch-ends+fold-branches+rest-ends-spec : {M : Type 1} → statement M
@@ -312,14 +345,18 @@ pub +branch-ends+fold-branches+rest-ends-spec : {M : Type 1} → statement M
     (branch-ends-enum-known-l t)
     (branch-ends-enum-told t)
     (branch-ends-same-length t)
+    (branch-ends-same-length-2 t)
     (branch-ends-returns-2 t)
     (branch-ends-sum-or-lost-requires t)
-    (branch-ends-same-length-2 t)
+    (branch-ends-same-length-3 t)
+    (branch-ends-same-length-4 t)
     (branch-ends-returns-3 t)
     (branch-ends-sum-or-lost-requires-2 t)
-    (branch-ends-same-length-3 t)
+    (branch-ends-same-length-5 t)
+    (branch-ends-same-length-6 t)
     (branch-ends-returns-4 t)
-    (branch-ends-same-length-4 t)
+    (branch-ends-same-length-7 t)
+    (branch-ends-same-length-8 t)
     (branch-ends-returns-5 t))
     (λ t. fold-branches-lts.spec (fold-branches-claims t)
     (fold-branches-at t)
@@ -330,20 +367,22 @@ pub +branch-ends+fold-branches+rest-ends-spec : {M : Type 1} → statement M
     (fold-branches-head-word-requires t)
     (fold-branches-wide-requires t)
     (fold-branches-loop-holds t)
-    (fold-branches-arm-at-requires t)
-    (fold-branches-arm-at-requires-2 t)
+    (fold-branches-arm-in-requires t)
+    (fold-branches-arm-in-requires-2 t)
     (fold-branches-add-branch-ends t)
     (fold-branches-branch-ends-requires t)
     (fold-branches-enum-known-l t)
     (fold-branches-enum-told t)
     (fold-branches-same-length t)
+    (fold-branches-same-length-2 t)
     (fold-branches-returns t)
     (fold-branches-furthest-requires t)
     (fold-branches-furthest-requires-2 t)
     (fold-branches-add-v t)
     (fold-branches-loop-less t)
     (fold-branches-loop-again t)
-    (fold-branches-same-length-2 t)
+    (fold-branches-same-length-3 t)
+    (fold-branches-same-length-4 t)
     (fold-branches-returns-2 t))
     λ t. rest-ends-lts.spec (rest-ends-claims t)
     (rest-ends-at t)
@@ -353,16 +392,19 @@ pub +branch-ends+fold-branches+rest-ends-spec : {M : Type 1} → statement M
     (rest-ends-lowest-requires t)
     (rest-ends-add-narrow t)
     (rest-ends-narrow-requires t)
-    (rest-ends-recall-requires t)
+    (rest-ends-recall-in-requires t)
     (rest-ends-enum-known-memo t)
     (rest-ends-same-length t)
+    (rest-ends-same-length-2 t)
     (rest-ends-returns-2 t)
     (rest-ends-enum-told t)
     (rest-ends-fold-branches-requires t)
     (rest-ends-enum-known-l t)
     (rest-ends-enum-told-2 t)
-    (rest-ends-same-length-2 t)
-    (rest-ends-returns-3 t)
-    (rest-ends-remember-requires t)
     (rest-ends-same-length-3 t)
+    (rest-ends-same-length-4 t)
+    (rest-ends-returns-3 t)
+    (rest-ends-remember-in-requires t)
+    (rest-ends-same-length-5 t)
+    (rest-ends-same-length-6 t)
     (rest-ends-returns-4 t)

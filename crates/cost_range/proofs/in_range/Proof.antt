@@ -4,6 +4,7 @@ use Rattle.cost_laws.proofs.Range.{smaller-within, larger-within}
 use Rattle.cost_words.specs.Words.{branch, nodes}
 use Rattle.theory.specs.Diagrams.{meaning}
 use mathlib.Core.Bool.{true}
+use mathlib.Core.Path.{refl}
 use borrow.Author.Needs.{needs}
 use Rattle.cost_range.proofs.in_range.Statement.{statement}
 use Rattle.cost_range.proofs.in_range.Tie as tie
@@ -12,13 +13,13 @@ enum-told : tie.Need-enum-told
 enum-told c = search needs
 
 tied-ok-requires : tie.Need-tied-ok-requires
-tied-ok-requires c κs = let a = (c .before .before .before .before .before) in operable-pair _ (a .args .o) _ (a .args .a .adds) _ (a .args .b .adds) (a .pre)
+tied-ok-requires c κs = let a = (c .before .before .before .before .before .before) in (operable-pair _ (a .args .o) _ (a .args .a .adds) _ (a .args .b .adds) (a .pre), a .pre .rest)
 
 enum-told-2 : tie.Need-enum-told-2
 enum-told-2 c = search needs
 
 tied-ok-requires-2 : tie.Need-tied-ok-requires-2
-tied-ok-requires-2 c κs = let a = (c .before .before .before .before .before) in operable-pair _ (a .args .o) _ (a .args .a .adds) _ (a .args .b .adds) (a .pre)
+tied-ok-requires-2 c κs = let a = (c .before .before .before .before .before .before) in (operable-pair _ (a .args .o) _ (a .args .a .adds) _ (a .args .b .adds) (a .pre), a .pre .rest)
 
 enum-told-3 : tie.Need-enum-told-3
 enum-told-3 c = search needs
@@ -30,31 +31,40 @@ enum-known-o : tie.Need-enum-known-o
 enum-known-o c = search needs
 
 scaled-ok-requires : tie.Need-scaled-ok-requires
-scaled-ok-requires c κs = let a = (c .before .before .before .before .before .before) in operable-scale _ (a .args .o) _ (branch (a .args .b .to) (a .args .b .adds)) _ ((c .before .before .o) .given .1) (a .pre)
+scaled-ok-requires c κs = let a = (c .before .before .before .before .before .before .before) in operable-scale _ (a .args .o) _ (branch (a .args .b .to) (a .args .b .adds)) _ ((c .before .before .before .o) .given .1) (a .pre)
 
 same-length : tie.Need-same-length
 same-length c = search needs
 
-returns : tie.Need-returns
-returns c = let a = (c .before .before .before .before .before .before .before .before) in told _ _ (meaning (nodes (a .args .t .now)) (branch (a .args .b .to) (a .args .b .adds))) (a .args .o) _ ((c .before .before .before .before .enum-told) .given .1) ((c .before .before .tied-ok) .result) ((c .before .before .tied-ok) .ensures)
-
 same-length-2 : tie.Need-same-length-2
 same-length-2 c = search needs
 
-returns-2 : tie.Need-returns-2
-returns-2 c = let a = (c .before .before .before .before .before .before .before .before) in told _ _ (meaning (nodes (a .args .t .now)) (branch (a .args .b .to) (a .args .b .adds))) (a .args .o) _ ((c .before .before .before .before .enum-told2) .given .1) ((c .before .before .tied-ok2) .result) ((c .before .before .tied-ok2) .ensures)
-
-returns-3 : tie.Need-returns-3
-returns-3 c = let a = (c .before .before .before .before) in told _ _ (meaning (nodes (a .args .t .now)) (branch (a .args .b .to) (a .args .b .adds))) (a .args .o) _ ((c .enum-told3) .given .1) true (smaller-within (a .pre .firstIn) (a .pre .secondIn))
-
-returns-4 : tie.Need-returns-4
-returns-4 c = let a = (c .before .before .before .before) in told _ _ (meaning (nodes (a .args .t .now)) (branch (a .args .b .to) (a .args .b .adds))) (a .args .o) _ ((c .enum-told4) .given .1) true (larger-within (a .pre .firstIn) (a .pre .secondIn))
+returns : tie.Need-returns
+returns c = let a = (c .before .before .before .before .before .before .before .before .before .before .before) in let z = (c .before .before .before .before .tied-ok) in (z .ensures .0, told _ _ (meaning (nodes (a .args .t .now)) (branch (a .args .b .to) (a .args .b .adds))) (a .args .o) _ ((c .before .before .before .before .before .before .before .enum-told) .given .1) (z .result) (z .ensures .1))
 
 same-length-3 : tie.Need-same-length-3
 same-length-3 c = search needs
 
+same-length-4 : tie.Need-same-length-4
+same-length-4 c = search needs
+
+returns-2 : tie.Need-returns-2
+returns-2 c = let a = (c .before .before .before .before .before .before .before .before .before .before .before) in let z = (c .before .before .before .before .tied-ok2) in (z .ensures .0, told _ _ (meaning (nodes (a .args .t .now)) (branch (a .args .b .to) (a .args .b .adds))) (a .args .o) _ ((c .before .before .before .before .before .before .before .enum-told2) .given .1) (z .result) (z .ensures .1))
+
+returns-3 : tie.Need-returns-3
+returns-3 c = let a = (c .before .before .before .before) in (refl, told _ _ (meaning (nodes (a .args .t .now)) (branch (a .args .b .to) (a .args .b .adds))) (a .args .o) _ ((c .enum-told3) .given .1) true (smaller-within (a .pre .firstIn) (a .pre .secondIn)))
+
+returns-4 : tie.Need-returns-4
+returns-4 c = let a = (c .before .before .before .before) in (refl, told _ _ (meaning (nodes (a .args .t .now)) (branch (a .args .b .to) (a .args .b .adds))) (a .args .o) _ ((c .enum-told4) .given .1) true (larger-within (a .pre .firstIn) (a .pre .secondIn)))
+
+same-length-5 : tie.Need-same-length-5
+same-length-5 c = search needs
+
+same-length-6 : tie.Need-same-length-6
+same-length-6 c = search needs
+
 returns-5 : tie.Need-returns-5
-returns-5 c = let a = (c .before .before .before .before .before .before .before .before .before) in told _ _ (meaning (nodes (a .args .t .now)) (branch (a .args .b .to) (a .args .b .adds))) (a .args .o) _ ((c .before .before .before .before .before .o) .given .1) ((c .before .before .scaled-ok) .result) ((c .before .before .scaled-ok) .ensures)
+returns-5 c = let a = (c .before .before .before .before .before .before .before .before .before .before .before .before) in let z = (c .before .before .before .before .scaled-ok) in (z .ensures .0, told _ _ (meaning (nodes (a .args .t .now)) (branch (a .args .b .to) (a .args .b .adds))) (a .args .o) _ ((c .before .before .before .before .before .before .before .before .o) .given .1) (z .result) (z .ensures .1))
 
 pub in-range-spec : {M : Type 1} → statement M
 in-range-spec =
@@ -69,10 +79,13 @@ in-range-spec =
     enum-known-o
     scaled-ok-requires
     same-length
-    returns
     same-length-2
+    returns
+    same-length-3
+    same-length-4
     returns-2
     returns-3
     returns-4
-    same-length-3
+    same-length-5
+    same-length-6
     returns-5)

@@ -10,7 +10,7 @@ use Rattle.cost_range.proofs.scaled_ok.Statement.{statement}
 use Rattle.cost_range.proofs.scaled_ok.Tie as tie
 
 whole-ends-requires : tie.Need-whole-ends-requires
-whole-ends-requires c κs = let a = (c .before .before .before) in scale-pair _ _ (a .args .a .adds) _ (a .pre)
+whole-ends-requires c κs = let a = (c .before .before .before .before) in (scale-pair _ _ (a .args .a .adds) _ (a .pre), a .pre .rest)
 
 enum-known-l : tie.Need-enum-known-l
 enum-known-l c = search needs
@@ -21,39 +21,50 @@ enum-told c = search needs
 same-length : tie.Need-same-length
 same-length c = search needs
 
-returns : tie.Need-returns
-returns c = let a = (c .before .before .before .before .before .before .before .before) in
-    let q = scale-reaches _ _ (a .args .a .adds) _ (a .pre) Lost (ends-lost ((c .before .before .before .before .whole-ends) .result) ((c .enum-told) .given .1) ((c .before .before .before .before .whole-ends) .ensures)) in
-    λ h. lost-leaves _ (pos-from _ 0 (a .pre .holds)) _ q (a .pre .firstIn)
-
-product-ok-requires : tie.Need-product-ok-requires
-product-ok-requires c κs = let a = (c .before .before .before .before .before .before .before .before .before) in
-    let q = scale-reaches _ _ (a .args .a .adds) _ (a .pre) (Are _ _) (ends-are ((c .before .before .before .before .before .whole-ends) .result) ((c .before .l) .given .1) ((c .before .before .before .before .before .whole-ends) .ensures)) in
-    (low-fits _ (pos-from _ 0 (a .pre .holds)) _ _ _ q (a .pre .firstIn), a .pre .factorIn)
-
 same-length-2 : tie.Need-same-length-2
 same-length-2 c = search needs
 
-returns-2 : tie.Need-returns-2
-returns-2 c = let a = (c .before .before .before .before .before .before .before .before .before .before .before) in
-    let q = scale-reaches _ _ (a .args .a .adds) _ (a .pre) (Are _ _) (ends-are ((c .before .before .before .before .before .before .before .whole-ends) .result) ((c .before .before .before .l) .given .1) ((c .before .before .before .before .before .before .before .whole-ends) .ensures)) in
-    λ h. denied ((c .before .product-ok) .result) ((c .if1) .taken) ((c .before .product-ok) .ensures) (scaled-low _ (pos-from _ 0 (a .pre .holds)) _ _ _ q (int (a .args .c)) h)
+returns : tie.Need-returns
+returns c = let a = (c .before .before .before .before .before .before .before .before .before .before .before) in let z = (c .before .before .before .before .before .before .whole-ends) in
+    let q = scale-reaches _ _ (a .args .a .adds) _ (a .pre) Lost (ends-lost (z .result) ((c .enum-told) .given .1) (z .ensures .1)) in
+    (z .ensures .0, λ h. lost-leaves _ (pos-from _ 0 (a .pre .holds)) _ q (a .pre .firstIn))
 
-product-ok-requires-2 : tie.Need-product-ok-requires-2
-product-ok-requires-2 c κs = let a = (c .before .before .before .before .before .before .before .before .before .before .before) in
-    let q = scale-reaches _ _ (a .args .a .adds) _ (a .pre) (Are _ _) (ends-are ((c .before .before .before .before .before .before .before .whole-ends) .result) ((c .before .before .before .l) .given .1) ((c .before .before .before .before .before .before .before .whole-ends) .ensures)) in
-    (high-fits _ (pos-from _ 0 (a .pre .holds)) _ _ _ q (a .pre .firstIn), a .pre .factorIn)
+product-ok-requires : tie.Need-product-ok-requires
+product-ok-requires c κs = let a = (c .before .before .before .before .before .before .before .before .before .before .before .before) in let z = (c .before .before .before .before .before .before .before .whole-ends) in
+    let q = scale-reaches _ _ (a .args .a .adds) _ (a .pre) (Are _ _) (ends-are (z .result) ((c .before .l) .given .1) (z .ensures .1)) in
+    (low-fits _ (pos-from _ 0 (a .pre .holds)) _ _ _ q (a .pre .firstIn), a .pre .factorIn)
 
 same-length-3 : tie.Need-same-length-3
 same-length-3 c = search needs
 
+same-length-4 : tie.Need-same-length-4
+same-length-4 c = search needs
+
+returns-2 : tie.Need-returns-2
+returns-2 c = let a = (c .before .before .before .before .before .before .before .before .before .before .before .before .before .before) in let z = (c .before .before .before .before .before .before .before .before .before .whole-ends) in
+    let q = scale-reaches _ _ (a .args .a .adds) _ (a .pre) (Are _ _) (ends-are (z .result) ((c .before .before .before .l) .given .1) (z .ensures .1)) in
+    (z .ensures .0, λ h. denied ((c .before .product-ok) .result) ((c .if1) .taken) ((c .before .product-ok) .ensures) (scaled-low _ (pos-from _ 0 (a .pre .holds)) _ _ _ q (int (a .args .c)) h))
+
+product-ok-requires-2 : tie.Need-product-ok-requires-2
+product-ok-requires-2 c κs = let a = (c .before .before .before .before .before .before .before .before .before .before .before .before .before .before) in let z = (c .before .before .before .before .before .before .before .before .before .whole-ends) in
+    let q = scale-reaches _ _ (a .args .a .adds) _ (a .pre) (Are _ _) (ends-are (z .result) ((c .before .before .before .l) .given .1) (z .ensures .1)) in
+    (high-fits _ (pos-from _ 0 (a .pre .holds)) _ _ _ q (a .pre .firstIn), a .pre .factorIn)
+
+same-length-5 : tie.Need-same-length-5
+same-length-5 c = search needs
+
+same-length-6 : tie.Need-same-length-6
+same-length-6 c = search needs
+
 returns-3 : tie.Need-returns-3
-returns-3 c = let a = (c .before .before .before .before .before .before .before .before .before .before .before .before) in
-    let q = scale-reaches _ _ (a .args .a .adds) _ (a .pre) (Are _ _) (ends-are ((c .before .before .before .before .before .before .before .before .whole-ends) .result) ((c .before .before .before .before .l) .given .1) ((c .before .before .before .before .before .before .before .before .whole-ends) .ensures)) in
-    retell ((c .product-ok2) .result)
-    (λ h. scaled-ends _ (pos-from _ 0 (a .pre .holds)) _ _ _ q (int (a .args .c)) (granted ((c .before .before .product-ok) .result) ((c .before .if1) .left) ((c .before .before .product-ok) .ensures)) h)
-    (λ h. scaled-high _ (pos-from _ 0 (a .pre .holds)) _ _ _ q (int (a .args .c)) h)
-    ((c .product-ok2) .ensures)
+returns-3 c = let a = (c .before .before .before .before .before .before .before .before .before .before .before .before .before .before .before) in let z = (c .before .before .before .before .before .before .before .before .before .before .whole-ends) in
+    let q = scale-reaches _ _ (a .args .a .adds) _ (a .pre) (Are _ _) (ends-are (z .result) ((c .before .before .before .before .l) .given .1) (z .ensures .1)) in (
+      z .ensures .0,
+      retell ((c .product-ok2) .result)
+          (λ h. scaled-ends _ (pos-from _ 0 (a .pre .holds)) _ _ _ q (int (a .args .c)) (granted ((c .before .before .product-ok) .result) ((c .before .if1) .left) ((c .before .before .product-ok) .ensures)) h)
+          (λ h. scaled-high _ (pos-from _ 0 (a .pre .holds)) _ _ _ q (int (a .args .c)) h)
+          ((c .product-ok2) .ensures),
+    )
 
 pub scaled-ok-spec : {M : Type 1} → statement M
 scaled-ok-spec =
@@ -63,10 +74,13 @@ scaled-ok-spec =
     enum-known-l
     enum-told
     same-length
+    same-length-2
     returns
     product-ok-requires
-    same-length-2
+    same-length-3
+    same-length-4
     returns-2
     product-ok-requires-2
-    same-length-3
+    same-length-5
+    same-length-6
     returns-3)

@@ -19,20 +19,32 @@ enum-told c = search needs
 same-length : tie.Need-same-length
 same-length c = search needs
 
-returns : tie.Need-returns
-returns c = let a = (c .before .before .before .before .before .before .before .before) in λ h. lost-leaves _ (pos-from _ 0 (a .pre .holds)) _ (ends-lost ((c .before .before .before .before .whole-ends) .result) ((c .enum-told) .given .1) ((c .before .before .before .before .whole-ends) .ensures)) h
-
 same-length-2 : tie.Need-same-length-2
 same-length-2 c = search needs
 
-returns-2 : tie.Need-returns-2
-returns-2 c = let a = (c .before .before .before .before .before .before .before .before .before .before) in λ h. low-leaves _ (pos-from _ 0 (a .pre .holds)) _ _ _ (ends-are ((c .before .before .before .before .before .before .whole-ends) .result) ((c .before .before .l) .given .1) ((c .before .before .before .before .before .before .whole-ends) .ensures)) ((c .if1) .taken) h
+returns : tie.Need-returns
+returns c = let a = (c .before .before .before .before .before .before .before .before .before .before .before) in let z = (c .before .before .before .before .before .before .whole-ends) in
+    (z .ensures .0, λ h. lost-leaves _ (pos-from _ 0 (a .pre .0 .holds)) _ (ends-lost (z .result) ((c .enum-told) .given .1) (z .ensures .1)) h)
 
 same-length-3 : tie.Need-same-length-3
 same-length-3 c = search needs
 
+same-length-4 : tie.Need-same-length-4
+same-length-4 c = search needs
+
+returns-2 : tie.Need-returns-2
+returns-2 c = let a = (c .before .before .before .before .before .before .before .before .before .before .before .before .before) in let z = (c .before .before .before .before .before .before .before .before .whole-ends) in
+    (z .ensures .0, λ h. low-leaves _ (pos-from _ 0 (a .pre .0 .holds)) _ _ _ (ends-are (z .result) ((c .before .before .l) .given .1) (z .ensures .1)) ((c .if1) .taken) h)
+
+same-length-5 : tie.Need-same-length-5
+same-length-5 c = search needs
+
+same-length-6 : tie.Need-same-length-6
+same-length-6 c = search needs
+
 returns-3 : tie.Need-returns-3
-returns-3 c = let a = (c .before .before .before .before .before .before .before .before .before .before) in ends-tell _ (pos-from _ 0 (a .pre .holds)) _ _ _ (ends-are ((c .before .before .before .before .before .before .whole-ends) .result) ((c .before .before .l) .given .1) ((c .before .before .before .before .before .before .whole-ends) .ensures)) (omega (arith, (c .if1) .left))
+returns-3 c = let a = (c .before .before .before .before .before .before .before .before .before .before .before .before .before) in let z = (c .before .before .before .before .before .before .before .before .whole-ends) in
+    (z .ensures .0, ends-tell _ (pos-from _ 0 (a .pre .0 .holds)) _ _ _ (ends-are (z .result) ((c .before .before .l) .given .1) (z .ensures .1)) (omega (arith, (c .if1) .left)))
 
 pub tied-ok-spec : {M : Type 1} → statement M
 tied-ok-spec =
@@ -42,8 +54,11 @@ tied-ok-spec =
     enum-known-l
     enum-told
     same-length
-    returns
     same-length-2
-    returns-2
+    returns
     same-length-3
+    same-length-4
+    returns-2
+    same-length-5
+    same-length-6
     returns-3)

@@ -1,38 +1,37 @@
--- `cost_range::whole_ends` meets its contract: own words and an emptied memory are right. Assumes nothing.
-use Rattle.cost_memory.proofs.Remembering.{remembers-none, remembers-fresh}
+-- `cost_range::whole_ends` meets its contract: at rest, with an emptied scratch, nothing is remembered, and the notes are taken away. Assumes nothing.
+use Rattle.cost_notes.proofs.Remembering.{noted-none}
+use Rattle.cost_range.proofs.Noting.{rest-pair, rest-again, rest-reaches}
 use borrow.Author.Needs.{needs}
 use Rattle.cost_range.proofs.whole_ends.Statement.{statement}
 use Rattle.cost_range.proofs.whole_ends.Tie as tie
 
-slice-aggregate-branch-ends : tie.Need-slice-aggregate-branch-ends
-slice-aggregate-branch-ends c = search needs
-
-branch-ends-requires : tie.Need-branch-ends-requires
-branch-ends-requires c κs = ((c .before .before .before .before) .pre, remembers-fresh 6144)
-
-returns : tie.Need-returns
-returns c = (c .before .branch-ends) .ensures .0
-
 clear-requires : tie.Need-clear-requires
 clear-requires c κs = search needs
 
-branch-ends-requires-2 : tie.Need-branch-ends-requires-2
-branch-ends-requires-2 c κs = ((c .before .before .before .before .before .before .before .before) .pre, remembers-none _ ((c .before .before .before .clear) .ensures))
+branch-ends-requires : tie.Need-branch-ends-requires
+branch-ends-requires c κs = let a = (c .before .before .before .before .before .before .before .before) in (rest-pair _ (a .pre .1) _ _ (a .pre .0), noted-none _ _ (a .pre .1) ((c .before .before .before .before .clear) .ensures))
+
+clear-far-requires : tie.Need-clear-far-requires
+clear-far-requires c κs = (c .before .before .before .before .before .branch-ends) .ensures .2 .room
 
 same-length : tie.Need-same-length
 same-length c = search needs
 
-returns-2 : tie.Need-returns-2
-returns-2 c = (c .before .before .branch-ends2) .ensures .0
+same-length-2 : tie.Need-same-length-2
+same-length-2 c = search needs
+
+returns : tie.Need-returns
+returns c = let a = (c .before .before .before .before .before .before .before .before .before .before .before .before .before .before .before .before .before) in
+    let z = (c .before .before .before .before .before .before .before .before .branch-ends) in
+    (rest-again _ (a .pre .1) _ _ (z .ensures .1) ((c .before .before .clear-far) .ensures), rest-reaches _ (a .pre .1) (a .args .minus) _ (a .args .a .adds) _ (a .args .b .adds) (z .result) (z .ensures .0))
 
 pub whole-ends-spec : {M : Type 1} → statement M
 whole-ends-spec =
     tie.close
     (tie.spec
-    slice-aggregate-branch-ends
-    branch-ends-requires
-    returns
     clear-requires
-    branch-ends-requires-2
+    branch-ends-requires
+    clear-far-requires
     same-length
-    returns-2)
+    same-length-2
+    returns)

@@ -1,20 +1,25 @@
 -- `engine::rest_result` and `fill_branches` meet their contracts: the remaining features fall; the first v branches are filled, and the memory is right for the table so far. Assumes nothing.
-use Rattle.engine.proofs.Recalling.{hit, result-recalled, remembers-stored, remembers-made, still, still-if}
+use Rattle.engine.proofs.Recalling.{hit, result-recalled, still, still-if}
+use Rattle.engine.proofs.Noting.{plain-features, noted-made, noted-stored}
 use Rattle.engine.proofs.Joining.{joint-held, operands-next, operands-skip, operands-ext, joint-skip, joint-forget, joint-phrases, joint-short, still-left}
-use Rattle.engine.specs.Memory.{Remembers}
+use Rattle.engine.specs.Memory.{Noted}
 use Rattle.engine.specs.Joint.{joint}
+use Rattle.notes.specs.Plain.{plain}
+use Rattle.notes.specs.Far.{memory}
+use Rattle.notes.proofs.Plain.{length-plain}
+use Rattle.rule_notes.proofs.Reading.{plain-head}
 use Rattle.rule_nodes.proofs.Filling.{gives-is, gives-none, fill-start, fill-more, fill-stop, stop-result, fill-listed, fill-make, filled, not-filled, filling-ext}
 use Rattle.rule_nodes.proofs.Reading.{good-small}
-use Rattle.rule_nodes.specs.Nodes.{Filling}
+use Rattle.rule_nodes.specs.Nodes.{Filling, Result}
+use Rattle.rule_nodes.specs.declared.Answer.the-variants.{Is}
 use Rattle.words.proofs.Words.{kept-features, kept-size}
 use Rattle.words.specs.Words.{features, size}
-use lib.ListN.{getD-replicate}
-use lib.ListN.{length}
+use lib.ListN.{length, getD-replicate}
 use native.Mathlib.Omega.{arith}
-use Prim.Native.Nat.{ℕ, _-_, _*_, _≤_, _<_}
-use mathlib.Core.Path.{_≡_, refl, _∙_}
+use Prim.Native.Nat.{ℕ, _+_, _-_, _*_, _≤_, _<_}
+use mathlib.Core.List.{List}
+use mathlib.Core.Path.{_≡_, refl, sym, subst, _∙_}
 use borrow.Author.Needs.{needs}
-use Prim.Native.Nat.{ℕ, _<_}
 use borrow.Fn.Kinds.{In}
 use borrow.Fn.PlainCycle.{Measures, is, falls, and}
 use Rattle.engine.proofs.fill_branches.Reads as fill-branches
@@ -23,23 +28,23 @@ use Rattle.engine.proofs.+fill_branches+rest_result.Lts-fill_branches a
 use Rattle.engine.proofs.rest_result.Reads as rest-result
 use Rattle.engine.proofs.rest_result.Kinds as rest-result-kinds
 use Rattle.engine.proofs.+fill_branches+rest_result.Lts-rest_result as rest-result-lts
-use Rattle.engine.proofs.memory.recall.Reads as recall-reads
-use Rattle.engine.proofs.memory.remember.Reads as remember-reads
+use Rattle.engine.proofs.memory.recall_in.Reads as recall-in-reads
+use Rattle.engine.proofs.memory.remember_in.Reads as remember-in-reads
 use Rattle.engine.proofs.operands.lowest.Reads as lowest-reads
 use Rattle.engine.proofs.operands.operands_at.Reads as operands-at-reads
 use Rattle.engine.proofs.operators.combine.Reads as combine-reads
 use Rattle.engine.proofs.shortcuts.shortcut.Reads as shortcut-reads
-use Rattle.rule_nodes.proofs.make.Reads as make-reads
+use Rattle.rule_notes.proofs.make_in.Reads as make-in-reads
 use Rattle.words.proofs.head_word.Reads as head-word-reads
 use Rattle.words.proofs.wide.Reads as wide-reads
 use Rattle.engine.proofs.+fill_branches+rest_result.{statement}
 use Rattle.engine.proofs.+fill_branches+rest_result.Tie.{close}
 
 abbrev μ-fill-branches : Measures 2 fill-branches-kinds.ps ℕ
-μ-fill-branches κs a = 2 * (features (a .0 .now) - a .1 .1 .1 .1 .1 .0) - 1
+μ-fill-branches κs a = 2 * (features (plain (a .0 .now)) - a .1 .1 .1 .1 .1 .0) - 1
 
 abbrev μ-rest-result : Measures 2 rest-result-kinds.ps ℕ
-μ-rest-result κs a = 2 * (features (a .0 .now) - a .1 .1 .1 .1 .1 .0)
+μ-rest-result κs a = 2 * (features (plain (a .0 .now)) - a .1 .1 .1 .1 .1 .0)
 
 abbrev fill-branches-at : ℕ → In 2 fill-branches-kinds.ps
 fill-branches-at t =
@@ -62,7 +67,7 @@ rest-result-below t =
     and 2 rest-result-kinds.ps (falls 2 rest-result-kinds.ps _<_ μ-rest-result t) rest-result.Pre
 
 abbrev fill-branches-Inv-loop : fill-branches-lts.InvT-loop
-fill-branches-Inv-loop t₀ s₀ o f n k ops m list₀ v₀ t s list v = (m ≡ size t₀ k) × (v ≤ m) × Filling t₀ t k (joint t₀ o f n k ops) v list × Remembers t o f n s × (length s ≡ length s₀)
+fill-branches-Inv-loop t₀ s₀ o f n k ops m list₀ v₀ t s list v = (m ≡ size (plain t₀) k) × (v ≤ m) × Filling (plain t₀) (plain t) k (joint (plain t₀) o f n k ops) v list × Noted t o f n s × (length t ≡ length t₀) × (length s ≡ length s₀)
 
 abbrev fill-branches-μ-loop : fill-branches-lts.MeasureT-loop
 fill-branches-μ-loop t₀ s₀ o f n k ops m list₀ v₀ t s list v = m - v
@@ -71,28 +76,28 @@ abbrev fill-branches-claims : ℕ → fill-branches-lts.Claims
 fill-branches-claims t = (head-word-reads.Asked, head-word-reads.Learnt, wide-reads.Asked, wide-reads.Learnt, operands-at-reads.Asked, operands-at-reads.Learnt, rest-result-below t, rest-result.Post)
 
 abbrev rest-result-claims : ℕ → rest-result-lts.Claims
-rest-result-claims t = (shortcut-reads.Asked, shortcut-reads.Learnt, combine-reads.Asked, combine-reads.Learnt, lowest-reads.Asked, lowest-reads.Learnt, head-word-reads.Asked, head-word-reads.Learnt, wide-reads.Asked, wide-reads.Learnt, rest-result-below t, rest-result.Post, operands-at-reads.Asked, operands-at-reads.Learnt, recall-reads.Asked, recall-reads.Learnt, fill-branches-below t, fill-branches.Post, make-reads.Asked, make-reads.Learnt, remember-reads.Asked, remember-reads.Learnt)
+rest-result-claims t = (shortcut-reads.Asked, shortcut-reads.Learnt, combine-reads.Asked, combine-reads.Learnt, lowest-reads.Asked, lowest-reads.Learnt, head-word-reads.Asked, head-word-reads.Learnt, wide-reads.Asked, wide-reads.Learnt, rest-result-below t, rest-result.Post, operands-at-reads.Asked, operands-at-reads.Learnt, recall-in-reads.Asked, recall-in-reads.Learnt, fill-branches-below t, fill-branches.Post, make-in-reads.Asked, make-in-reads.Learnt, remember-in-reads.Asked, remember-in-reads.Learnt)
 
 fill-branches-add-head-word : (t : ℕ) → fill-branches-lts.Need-add-head-word (fill-branches-claims t) (fill-branches-at t) fill-branches.Post fill-branches-Inv-loop fill-branches-μ-loop
-fill-branches-add-head-word t c = search needs
+fill-branches-add-head-word t c = let a = (c .before .before .before) in omega (arith, a .pre .1 .0 .holds .laid .laid .few, a .pre .1 .2)
 
 fill-branches-head-word-requires : (t : ℕ) → fill-branches-lts.Need-head-word-requires (fill-branches-claims t) (fill-branches-at t) fill-branches.Post fill-branches-Inv-loop fill-branches-μ-loop
-fill-branches-head-word-requires t c κs = search needs
+fill-branches-head-word-requires t c κs = let a = (c .before .before .before) in omega (arith, a .pre .1 .0 .holds .laid .laid .few, a .pre .1 .2, a .pre .1 .0 .holds .laid .laid .room, length-plain (a .args .t .now))
 
 fill-branches-wide-requires : (t : ℕ) → fill-branches-lts.Need-wide-requires (fill-branches-claims t) (fill-branches-at t) fill-branches.Post fill-branches-Inv-loop fill-branches-μ-loop
 fill-branches-wide-requires t c κs = search needs
 
 fill-branches-loop-holds : (t : ℕ) → fill-branches-lts.Need-loop-holds (fill-branches-claims t) (fill-branches-at t) fill-branches.Post fill-branches-Inv-loop fill-branches-μ-loop
 fill-branches-loop-holds t c = let a = (c .before .before .before .before .before) in
-    let e : (c .wide) .result ≡ size (a .args .t .now) (a .args .k) = (c .wide) .ensures .0 ∙ (c .before .head-word) .ensures in
-    (e, omega arith, fill-start _ (a .args .k) _ (a .pre .1 .0 .holds) (a .pre .1 .2) _ refl (λ u h. getD-replicate 12 u 0 0 h), a .pre .1 .1, refl)
+    let e : (c .wide) .result ≡ size (plain (a .args .t .now)) (a .args .k) = (c .wide) .ensures .0 ∙ (c .before .head-word) .ensures ∙ sym (plain-head (a .args .t .now) (3 + a .args .k) (omega (arith, a .pre .1 .0 .holds .laid .laid .few, a .pre .1 .2))) in
+    (e, omega arith, fill-start _ (a .args .k) _ (a .pre .1 .0 .holds) (a .pre .1 .2) _ refl (λ u h. getD-replicate 12 u 0 0 h), a .pre .1 .1, refl, refl)
 
 fill-branches-operands-at-requires : (t : ℕ) → fill-branches-lts.Need-operands-at-requires (fill-branches-claims t) (fill-branches-at t) fill-branches.Post fill-branches-Inv-loop fill-branches-μ-loop
 fill-branches-operands-at-requires t c κs = let a = (c .before .before .before .before .before .before .before .before) in
     let l = (c .before .before .loop) in
     let fl = l .inv .2 in
     let kp = fl .filled .grown .kept in (
-      operands-ext (a .args .t .now) _ (a .args .k) _ (l .v) (l .list) _ _ (a .args .ops) fl (a .pre .1 .2) (a .pre .1 .0),
+      operands-ext (plain (a .args .t .now)) _ (a .args .k) _ (l .v) (l .list) _ _ (a .args .ops) fl (a .pre .1 .2) (a .pre .1 .0),
       omega (arith, kept-features _ _ kp, a .pre .1 .2),
       omega (arith, kept-size _ _ kp (a .pre .1 .0 .holds .laid .laid .few) (a .args .k) (a .pre .1 .2), l .inv .0, (c .before .loop-test)),
     )
@@ -106,7 +111,7 @@ fill-branches-rest-result-requires t c κs = let a = (c .before .before .before 
     let fl = l .inv .2 in
     let n = kept-features _ _ (fl .filled .grown .kept) in
     let hk = a .pre .1 .2 in
-    (omega arith, (operands-next _ _ _ (a .args .k) (l .v) (a .args .ops) _ (operands-ext (a .args .t .now) _ (a .args .k) _ (l .v) (l .list) _ _ (a .args .ops) fl (a .pre .1 .2) (a .pre .1 .0)) (omega arith) ((c .before .before .operands-at) .ensures), l .inv .3))
+    (omega arith, (operands-next _ _ _ (a .args .k) (l .v) (a .args .ops) _ (operands-ext (plain (a .args .t .now)) _ (a .args .k) _ (l .v) (l .list) _ _ (a .args .ops) fl (a .pre .1 .2) (a .pre .1 .0)) (omega arith) ((c .before .before .operands-at) .ensures), l .inv .3))
 
 fill-branches-enum-known-r : (t : ℕ) → fill-branches-lts.Need-enum-known-r (fill-branches-claims t) (fill-branches-at t) fill-branches.Post fill-branches-Inv-loop fill-branches-μ-loop
 fill-branches-enum-known-r t c = search needs
@@ -124,8 +129,8 @@ fill-branches-returns : (t : ℕ) → fill-branches-lts.Need-returns (fill-branc
 fill-branches-returns t c = let a = (c .before .before .before .before .before .before .before .before .before .before .before .before .before .before .before .before .before .before) in
     let l = (c .before .before .before .before .before .before .before .before .before .before .before .before .loop) in
     let fl = l .inv .2 in (
-      fill-stop (a .args .t .now) (a .args .k) _ (a .pre .1 .0 .holds) (a .pre .1 .2) (l .t) _ (l .v) (l .list) _ _ fl (omega (arith, l .inv .0, (c .before .before .before .before .before .before .before .before .before .before .before .loop-test)))
-          (joint-held (a .args .t .now) (l .t) (a .args .o) (a .args .f) (a .args .n) (a .args .k) (l .v) (a .args .ops) _ (a .pre .1 .0) (filling-ext (a .args .t .now) (a .args .k) _ (a .pre .1 .0 .holds) (a .pre .1 .2) (l .t) (l .v) (l .list) fl) ((c .before .before .before .before .before .before .before .before .before .operands-at) .ensures))
+      fill-stop (plain (a .args .t .now)) (a .args .k) _ (a .pre .1 .0 .holds) (a .pre .1 .2) (plain (l .t)) _ (l .v) (l .list) _ _ fl (omega (arith, l .inv .0, (c .before .before .before .before .before .before .before .before .before .before .before .loop-test)))
+          (joint-held (plain (a .args .t .now)) (plain (l .t)) (a .args .o) (a .args .f) (a .args .n) (a .args .k) (l .v) (a .args .ops) _ (a .pre .1 .0) (filling-ext (plain (a .args .t .now)) (a .args .k) _ (a .pre .1 .0 .holds) (a .pre .1 .2) (plain (l .t)) (l .v) (l .list) fl) ((c .before .before .before .before .before .before .before .before .before .operands-at) .ensures))
           ((c .before .before .before .before .before .before .rest-result) .ensures .0) ((c .enum-told) .given .1),
       tt,
     )
@@ -149,10 +154,11 @@ fill-branches-loop-again t c = let a = (c .before .before .before .before .befor
     let fl = l .inv .2 in (
       l .inv .0,
       omega (arith, (c .before .before .before .before .before .before .before .before .before .before .before .before .loop-test)),
-      fill-more (a .args .t .now) (a .args .k) _ (a .pre .1 .0 .holds) (a .pre .1 .2) (l .t) _ (l .v) _ (l .list) _ _ fl (omega (arith, l .inv .0, (c .before .before .before .before .before .before .before .before .before .before .before .before .loop-test)))
-          (joint-held (a .args .t .now) (l .t) (a .args .o) (a .args .f) (a .args .n) (a .args .k) (l .v) (a .args .ops) _ (a .pre .1 .0) (filling-ext (a .args .t .now) (a .args .k) _ (a .pre .1 .0 .holds) (a .pre .1 .2) (l .t) (l .v) (l .list) fl) ((c .before .before .before .before .before .before .before .before .before .before .operands-at) .ensures))
+      fill-more (plain (a .args .t .now)) (a .args .k) _ (a .pre .1 .0 .holds) (a .pre .1 .2) (plain (l .t)) _ (l .v) _ (l .list) _ _ fl (omega (arith, l .inv .0, (c .before .before .before .before .before .before .before .before .before .before .before .before .loop-test)))
+          (joint-held (plain (a .args .t .now)) (plain (l .t)) (a .args .o) (a .args .f) (a .args .n) (a .args .k) (l .v) (a .args .ops) _ (a .pre .1 .0) (filling-ext (plain (a .args .t .now)) (a .args .k) _ (a .pre .1 .0 .holds) (a .pre .1 .2) (plain (l .t)) (l .v) (l .list) fl) ((c .before .before .before .before .before .before .before .before .before .before .operands-at) .ensures))
           ((c .before .before .before .before .before .before .before .rest-result) .ensures .0) ((c .before .r) .given .1),
       still _ _ _ _ _ _ _ ((c .before .r) .given .1) ((c .before .before .before .before .before .before .before .rest-result) .ensures .1),
+      search needs,
       search needs,
     )
 
@@ -165,7 +171,7 @@ fill-branches-same-length-4 t c = search needs
 fill-branches-returns-2 : (t : ℕ) → fill-branches-lts.Need-returns-2 (fill-branches-claims t) (fill-branches-at t) fill-branches.Post fill-branches-Inv-loop fill-branches-μ-loop
 fill-branches-returns-2 t c = let a = (c .before .before .before .before .before .before .before) in
     let l = (c .before .loop) in
-    let e : l .v ≡ size (a .args .t .now) (a .args .k) = omega (arith, l .inv .0, l .inv .1, (c .loop-test)) in
+    let e : l .v ≡ size (plain (a .args .t .now)) (a .args .k) = omega (arith, l .inv .0, l .inv .1, (c .loop-test)) in
     (rw e at (l .inv .2), l .inv .3)
 
 rest-result-array-read-shortcut : (t : ℕ) → rest-result-lts.Need-array-read-shortcut (rest-result-claims t) (rest-result-at t) rest-result.Post
@@ -188,14 +194,13 @@ rest-result-lowest-requires : (t : ℕ) → rest-result-lts.Need-lowest-requires
 rest-result-lowest-requires t c κs = let a = (c .before .before .before .before .before) in (a .pre .1 .0 .holds .laid .laid, a .pre .1 .0 .nine, λ j h. good-small _ _ _ (a .pre .1 .0 .each j h))
 
 rest-result-head-word-requires : (t : ℕ) → rest-result-lts.Need-head-word-requires (rest-result-claims t) (rest-result-at t) rest-result.Post
-rest-result-head-word-requires t c κs = search needs
+rest-result-head-word-requires t c κs = let a = (c .before .before .before .before .before .before .before) in omega (arith, a .pre .1 .0 .holds .laid .laid .room, length-plain (a .args .t .now))
 
 rest-result-wide-requires : (t : ℕ) → rest-result-lts.Need-wide-requires (rest-result-claims t) (rest-result-at t) rest-result.Post
 rest-result-wide-requires t c κs = search needs
 
 rest-result-combine-requires-2 : (t : ℕ) → rest-result-lts.Need-combine-requires-2 (rest-result-claims t) (rest-result-at t) rest-result.Post
 rest-result-combine-requires-2 t c κs = let a = (c .before .before .before .before .before .before .before .before .before .before) in
-    let e : (c .before .wide) .result ≡ features (a .args .t .now) = (c .before .wide) .ensures .0 ∙ (c .before .before .head-word) .ensures in
     (a .pre .1 .0 .two, a .pre .1 .0 .nine)
 
 rest-result-same-length : (t : ℕ) → rest-result-lts.Need-same-length (rest-result-claims t) (rest-result-at t) rest-result.Post
@@ -203,7 +208,7 @@ rest-result-same-length t c = search needs
 
 rest-result-returns-2 : (t : ℕ) → rest-result-lts.Need-returns-2 (rest-result-claims t) (rest-result-at t) rest-result.Post
 rest-result-returns-2 t c = let a = (c .before .before .before .before .before .before .before .before .before .before .before) in
-    let e : (c .before .before .wide) .result ≡ features (a .args .t .now) = (c .before .before .wide) .ensures .0 ∙ (c .before .before .before .head-word) .ensures in
+    let e : (c .before .before .wide) .result ≡ features (plain (a .args .t .now)) = (c .before .before .wide) .ensures .0 ∙ (c .before .before .before .head-word) .ensures ∙ plain-features (a .args .t .now) in
     (joint-phrases _ _ _ _ (a .args .k) ((c .before .before .before .before .before .lowest) .result) _ (a .args .t7) (a .pre .1 .0) ((c .before .before .before .before .before .lowest) .ensures) (omega arith) ((c .combine2) .ensures), a .pre .1 .1)
 
 rest-result-add-rest-result : (t : ℕ) → rest-result-lts.Need-add-rest-result (rest-result-claims t) (rest-result-at t) rest-result.Post
@@ -226,7 +231,7 @@ rest-result-returns-3 t c = let a = (c .before .before .before .before .before .
 
 rest-result-operands-at-requires : (t : ℕ) → rest-result-lts.Need-operands-at-requires (rest-result-claims t) (rest-result-at t) rest-result.Post
 rest-result-operands-at-requires t c κs = let a = (c .before .before .before .before .before .before .before .before .before .before .before .before .before) in
-    let hk = still-left _ _ _ (a .args .k) ((c .before .before .before .before .before .before .before .lowest) .result) _ (a .args .t7) (a .pre .1 .0) ((c .before .before .before .before .before .before .before .lowest) .ensures) ((c .before .before .before .before .wide) .ensures .0 ∙ (c .before .before .before .before .before .head-word) .ensures) ((c .before .before .before .if2) .left) in
+    let hk = still-left (plain (a .args .t .now)) (a .args .f) (a .args .n) (a .args .k) ((c .before .before .before .before .before .before .before .lowest) .result) _ (a .args .t7) (a .pre .1 .0) ((c .before .before .before .before .before .before .before .lowest) .ensures) ((c .before .before .before .before .wide) .ensures .0 ∙ (c .before .before .before .before .before .head-word) .ensures ∙ plain-features (a .args .t .now)) ((c .before .before .before .if2) .left) in
     (a .pre .1 .0, hk, omega (arith, a .pre .1 .0 .holds .laid .laid .large (a .args .k) hk))
 
 rest-result-add-rest-result-2 : (t : ℕ) → rest-result-lts.Need-add-rest-result-2 (rest-result-claims t) (rest-result-at t) rest-result.Post
@@ -234,7 +239,7 @@ rest-result-add-rest-result-2 t c = search needs
 
 rest-result-rest-result-requires-2 : (t : ℕ) → rest-result-lts.Need-rest-result-requires-2 (rest-result-claims t) (rest-result-at t) rest-result.Post
 rest-result-rest-result-requires-2 t c κs = let a = (c .before .before .before .before .before .before .before .before .before .before .before .before .before .before .before .before) in
-    let hk = still-left _ _ _ (a .args .k) ((c .before .before .before .before .before .before .before .before .before .before .lowest) .result) _ (a .args .t7) (a .pre .1 .0) ((c .before .before .before .before .before .before .before .before .before .before .lowest) .ensures) ((c .before .before .before .before .before .before .before .wide) .ensures .0 ∙ (c .before .before .before .before .before .before .before .before .head-word) .ensures) ((c .before .before .before .before .before .before .if2) .left) in
+    let hk = still-left (plain (a .args .t .now)) (a .args .f) (a .args .n) (a .args .k) ((c .before .before .before .before .before .before .before .before .before .before .lowest) .result) _ (a .args .t7) (a .pre .1 .0) ((c .before .before .before .before .before .before .before .before .before .before .lowest) .ensures) ((c .before .before .before .before .before .before .before .wide) .ensures .0 ∙ (c .before .before .before .before .before .before .before .before .head-word) .ensures ∙ plain-features (a .args .t .now)) ((c .before .before .before .before .before .before .if2) .left) in
     (omega arith, (operands-next _ _ _ (a .args .k) 0 (a .args .t7) _ (a .pre .1 .0) hk ((c .before .before .operands-at) .ensures), a .pre .1 .1))
 
 rest-result-same-length-4 : (t : ℕ) → rest-result-lts.Need-same-length-4 (rest-result-claims t) (rest-result-at t) rest-result.Post
@@ -245,13 +250,13 @@ rest-result-same-length-5 t c = search needs
 
 rest-result-returns-4 : (t : ℕ) → rest-result-lts.Need-returns-4 (rest-result-claims t) (rest-result-at t) rest-result.Post
 rest-result-returns-4 t c = let a = (c .before .before .before .before .before .before .before .before .before .before .before .before .before .before .before .before .before .before .before .before .before) in
-    let hk = still-left _ _ _ (a .args .k) ((c .before .before .before .before .before .before .before .before .before .before .before .before .before .before .before .lowest) .result) _ (a .args .t7) (a .pre .1 .0) ((c .before .before .before .before .before .before .before .before .before .before .before .before .before .before .before .lowest) .ensures) ((c .before .before .before .before .before .before .before .before .before .before .before .before .wide) .ensures .0 ∙ (c .before .before .before .before .before .before .before .before .before .before .before .before .before .head-word) .ensures) ((c .before .before .before .before .before .before .before .before .before .before .before .if2) .left) in
+    let hk = still-left (plain (a .args .t .now)) (a .args .f) (a .args .n) (a .args .k) ((c .before .before .before .before .before .before .before .before .before .before .before .before .before .before .before .lowest) .result) _ (a .args .t7) (a .pre .1 .0) ((c .before .before .before .before .before .before .before .before .before .before .before .before .before .before .before .lowest) .ensures) ((c .before .before .before .before .before .before .before .before .before .before .before .before .wide) .ensures .0 ∙ (c .before .before .before .before .before .before .before .before .before .before .before .before .before .head-word) .ensures ∙ plain-features (a .args .t .now)) ((c .before .before .before .before .before .before .before .before .before .before .before .if2) .left) in
     (joint-forget _ _ _ _ _ (a .args .k) (a .args .t7) _ _ (a .pre .1 .0) ((c .before .before .before .before .before .before .before .before .before .if4) .taken) hk ((c .before .before .before .before .before .before .before .operands-at) .ensures) ((c .before .before .before .before .rest-result2) .ensures .0), (c .before .before .before .before .rest-result2) .ensures .1)
 
-rest-result-recall-requires : (t : ℕ) → rest-result-lts.Need-recall-requires (rest-result-claims t) (rest-result-at t) rest-result.Post
-rest-result-recall-requires t c κs = let a = (c .before .before .before .before .before .before .before .before .before .before .before .before .before) in
-    let hk = still-left _ _ _ (a .args .k) ((c .before .before .before .before .before .before .before .lowest) .result) _ (a .args .t7) (a .pre .1 .0) ((c .before .before .before .before .before .before .before .lowest) .ensures) ((c .before .before .before .before .wide) .ensures .0 ∙ (c .before .before .before .before .before .head-word) .ensures) ((c .before .before .before .if2) .left) in
-    omega (arith, a .pre .1 .0 .holds .laid .laid .few)
+rest-result-recall-in-requires : (t : ℕ) → rest-result-lts.Need-recall-in-requires (rest-result-claims t) (rest-result-at t) rest-result.Post
+rest-result-recall-in-requires t c κs = let a = (c .before .before .before .before .before .before .before .before .before .before .before .before .before .before) in
+    let hk = still-left (plain (a .args .t .now)) (a .args .f) (a .args .n) (a .args .k) ((c .before .before .before .before .before .before .before .before .lowest) .result) _ (a .args .t7) (a .pre .1 .0) ((c .before .before .before .before .before .before .before .before .lowest) .ensures) ((c .before .before .before .before .before .wide) .ensures .0 ∙ (c .before .before .before .before .before .before .head-word) .ensures ∙ plain-features (a .args .t .now)) ((c .before .before .before .before .if2) .left) in
+    (a .pre .1 .1 .room, omega (arith, a .pre .1 .0 .holds .laid .laid .few))
 
 rest-result-enum-known-memo : (t : ℕ) → rest-result-lts.Need-enum-known-memo (rest-result-claims t) (rest-result-at t) rest-result.Post
 rest-result-enum-known-memo t c = search needs
@@ -263,22 +268,22 @@ rest-result-same-length-7 : (t : ℕ) → rest-result-lts.Need-same-length-7 (re
 rest-result-same-length-7 t c = search needs
 
 rest-result-returns-5 : (t : ℕ) → rest-result-lts.Need-returns-5 (rest-result-claims t) (rest-result-at t) rest-result.Post
-rest-result-returns-5 t c = let a = (c .before .before .before .before .before .before .before .before .before .before .before .before .before .before .before .before .before) in
-    (hit _ _ _ _ (a .args .k) (a .args .t7) (a .args .s .now) _ _ (a .pre .1 .0) (a .pre .1 .1) ((c .before .before .before .recall) .ensures) ((c .before .memo) .given .1), a .pre .1 .1)
+rest-result-returns-5 t c = let a = (c .before .before .before .before .before .before .before .before .before .before .before .before .before .before .before .before .before .before) in
+    (hit _ _ _ _ (a .args .k) (a .args .t7) (memory (a .args .t .now) (a .args .s .now)) _ _ (a .pre .1 .0) (a .pre .1 .1 .right) ((c .before .before .before .recall-in) .ensures) ((c .before .memo) .given .1), a .pre .1 .1)
 
 rest-result-enum-told : (t : ℕ) → rest-result-lts.Need-enum-told (rest-result-claims t) (rest-result-at t) rest-result.Post
 rest-result-enum-told t c = search needs
 
 rest-result-fill-branches-requires : (t : ℕ) → rest-result-lts.Need-fill-branches-requires (rest-result-claims t) (rest-result-at t) rest-result.Post
-rest-result-fill-branches-requires t c κs = let a = (c .before .before .before .before .before .before .before .before .before .before .before .before .before .before .before .before .before .before) in
-    let hk = still-left _ _ _ (a .args .k) ((c .before .before .before .before .before .before .before .before .before .before .before .before .lowest) .result) _ (a .args .t7) (a .pre .1 .0) ((c .before .before .before .before .before .before .before .before .before .before .before .before .lowest) .ensures) ((c .before .before .before .before .before .before .before .before .before .wide) .ensures .0 ∙ (c .before .before .before .before .before .before .before .before .before .before .head-word) .ensures) ((c .before .before .before .before .before .before .before .before .if2) .left) in
+rest-result-fill-branches-requires t c κs = let a = (c .before .before .before .before .before .before .before .before .before .before .before .before .before .before .before .before .before .before .before) in
+    let hk = still-left (plain (a .args .t .now)) (a .args .f) (a .args .n) (a .args .k) ((c .before .before .before .before .before .before .before .before .before .before .before .before .before .lowest) .result) _ (a .args .t7) (a .pre .1 .0) ((c .before .before .before .before .before .before .before .before .before .before .before .before .before .lowest) .ensures) ((c .before .before .before .before .before .before .before .before .before .before .wide) .ensures .0 ∙ (c .before .before .before .before .before .before .before .before .before .before .before .head-word) .ensures ∙ plain-features (a .args .t .now)) ((c .before .before .before .before .before .before .before .before .before .if2) .left) in
     (omega arith, (a .pre .1 .0, a .pre .1 .1, hk))
 
-rest-result-make-requires : (t : ℕ) → rest-result-lts.Need-make-requires (rest-result-claims t) (rest-result-at t) rest-result.Post
-rest-result-make-requires t c κs = let a = (c .before .before .before .before .before .before .before .before .before .before .before .before .before .before .before .before .before .before .before .before .before .before .before .before .before .before) in
-    let hk = still-left _ _ _ (a .args .k) ((c .before .before .before .before .before .before .before .before .before .before .before .before .before .before .before .before .before .before .before .before .lowest) .result) _ (a .args .t7) (a .pre .1 .0) ((c .before .before .before .before .before .before .before .before .before .before .before .before .before .before .before .before .before .before .before .before .lowest) .ensures) ((c .before .before .before .before .before .before .before .before .before .before .before .before .before .before .before .before .before .wide) .ensures .0 ∙ (c .before .before .before .before .before .before .before .before .before .before .before .before .before .before .before .before .before .before .head-word) .ensures) ((c .before .before .before .before .before .before .before .before .before .before .before .before .before .before .before .before .if2) .left) in
-    let fl = filled _ _ _ _ _ _ ((c .before .before .if5) .taken) ((c .before .before .before .before .before .before .before .fill-branches) .ensures .0) in
-    (fl .filled .grown .well, omega (arith, kept-features _ _ (fl .filled .grown .kept)), fill-listed (a .args .t .now) (a .args .k) _ (a .pre .1 .0 .holds) hk _ _ fl)
+rest-result-make-in-requires : (t : ℕ) → rest-result-lts.Need-make-in-requires (rest-result-claims t) (rest-result-at t) rest-result.Post
+rest-result-make-in-requires t c κs = let a = (c .before .before .before .before .before .before .before .before .before .before .before .before .before .before .before .before .before .before .before .before .before .before .before .before .before .before .before) in
+    let hk = still-left (plain (a .args .t .now)) (a .args .f) (a .args .n) (a .args .k) ((c .before .before .before .before .before .before .before .before .before .before .before .before .before .before .before .before .before .before .before .before .before .lowest) .result) _ (a .args .t7) (a .pre .1 .0) ((c .before .before .before .before .before .before .before .before .before .before .before .before .before .before .before .before .before .before .before .before .before .lowest) .ensures) ((c .before .before .before .before .before .before .before .before .before .before .before .before .before .before .before .before .before .before .wide) .ensures .0 ∙ (c .before .before .before .before .before .before .before .before .before .before .before .before .before .before .before .before .before .before .before .head-word) .ensures ∙ plain-features (a .args .t .now)) ((c .before .before .before .before .before .before .before .before .before .before .before .before .before .before .before .before .before .if2) .left) in
+    let fl = filled (plain (a .args .t .now)) _ (a .args .k) (joint (plain (a .args .t .now)) (a .args .o) (a .args .f) (a .args .n) (a .args .k) (a .args .t7)) _ _ ((c .before .before .if5) .taken) ((c .before .before .before .before .before .before .before .fill-branches) .ensures .0) in
+    (still-if _ _ _ _ _ _ ((c .before .before .if5) .taken) ((c .before .before .before .before .before .before .before .fill-branches) .ensures .1) .room, fl .filled .grown .well, omega (arith, kept-features _ _ (fl .filled .grown .kept)), fill-listed (plain (a .args .t .now)) (a .args .k) (joint (plain (a .args .t .now)) (a .args .o) (a .args .f) (a .args .n) (a .args .k) (a .args .t7)) (a .pre .1 .0 .holds) hk _ _ fl)
 
 rest-result-enum-known-x : (t : ℕ) → rest-result-lts.Need-enum-known-x (rest-result-claims t) (rest-result-at t) rest-result.Post
 rest-result-enum-known-x t c = search needs
@@ -293,15 +298,17 @@ rest-result-same-length-9 : (t : ℕ) → rest-result-lts.Need-same-length-9 (re
 rest-result-same-length-9 t c = search needs
 
 rest-result-returns-6 : (t : ℕ) → rest-result-lts.Need-returns-6 (rest-result-claims t) (rest-result-at t) rest-result.Post
-rest-result-returns-6 t c = let a = (c .before .before .before .before .before .before .before .before .before .before .before .before .before .before .before .before .before .before .before .before .before .before .before .before .before .before .before .before .before .before .before) in
-    let hk = still-left _ _ _ (a .args .k) ((c .before .before .before .before .before .before .before .before .before .before .before .before .before .before .before .before .before .before .before .before .before .before .before .before .before .lowest) .result) _ (a .args .t7) (a .pre .1 .0) ((c .before .before .before .before .before .before .before .before .before .before .before .before .before .before .before .before .before .before .before .before .before .before .before .before .before .lowest) .ensures) ((c .before .before .before .before .before .before .before .before .before .before .before .before .before .before .before .before .before .before .before .before .before .before .wide) .ensures .0 ∙ (c .before .before .before .before .before .before .before .before .before .before .before .before .before .before .before .before .before .before .before .before .before .before .before .head-word) .ensures) ((c .before .before .before .before .before .before .before .before .before .before .before .before .before .before .before .before .before .before .before .before .before .if2) .left) in
-    let fl = filled _ _ _ _ _ _ ((c .before .before .before .before .before .before .before .if5) .taken) ((c .before .before .before .before .before .before .before .before .before .before .before .before .fill-branches) .ensures .0) in
-    (gives-none ((c .enum-told2) .given .1) (fill-make (a .args .t .now) (a .args .k) _ (a .pre .1 .0 .holds) hk _ _ _ _ fl ((c .before .before .before .before .make) .ensures)), tt)
+rest-result-returns-6 t c = let a = (c .before .before .before .before .before .before .before .before .before .before .before .before .before .before .before .before .before .before .before .before .before .before .before .before .before .before .before .before .before .before .before .before) in
+    let hk = still-left (plain (a .args .t .now)) (a .args .f) (a .args .n) (a .args .k) ((c .before .before .before .before .before .before .before .before .before .before .before .before .before .before .before .before .before .before .before .before .before .before .before .before .before .before .lowest) .result) _ (a .args .t7) (a .pre .1 .0) ((c .before .before .before .before .before .before .before .before .before .before .before .before .before .before .before .before .before .before .before .before .before .before .before .before .before .before .lowest) .ensures) ((c .before .before .before .before .before .before .before .before .before .before .before .before .before .before .before .before .before .before .before .before .before .before .before .wide) .ensures .0 ∙ (c .before .before .before .before .before .before .before .before .before .before .before .before .before .before .before .before .before .before .before .before .before .before .before .before .head-word) .ensures ∙ plain-features (a .args .t .now)) ((c .before .before .before .before .before .before .before .before .before .before .before .before .before .before .before .before .before .before .before .before .before .before .if2) .left) in
+    let fl = filled (plain (a .args .t .now)) _ (a .args .k) (joint (plain (a .args .t .now)) (a .args .o) (a .args .f) (a .args .n) (a .args .k) (a .args .t7)) _ _ ((c .before .before .before .before .before .before .before .if5) .taken) ((c .before .before .before .before .before .before .before .before .before .before .before .before .fill-branches) .ensures .0) in
+    (gives-none ((c .enum-told2) .given .1) (fill-make (plain (a .args .t .now)) (a .args .k) (joint (plain (a .args .t .now)) (a .args .o) (a .args .f) (a .args .n) (a .args .k) (a .args .t7)) (a .pre .1 .0 .holds) hk _ _ _ _ fl ((c .before .before .before .before .make-in) .ensures .0)), tt)
 
-rest-result-remember-requires : (t : ℕ) → rest-result-lts.Need-remember-requires (rest-result-claims t) (rest-result-at t) rest-result.Post
-rest-result-remember-requires t c κs = let a = (c .before .before .before .before .before .before .before .before .before .before .before .before .before .before .before .before .before .before .before .before .before .before .before .before .before .before .before .before .before .before .before .before .before) in
-    let hk = still-left _ _ _ (a .args .k) ((c .before .before .before .before .before .before .before .before .before .before .before .before .before .before .before .before .before .before .before .before .before .before .before .before .before .before .before .lowest) .result) _ (a .args .t7) (a .pre .1 .0) ((c .before .before .before .before .before .before .before .before .before .before .before .before .before .before .before .before .before .before .before .before .before .before .before .before .before .before .before .lowest) .ensures) ((c .before .before .before .before .before .before .before .before .before .before .before .before .before .before .before .before .before .before .before .before .before .before .before .before .wide) .ensures .0 ∙ (c .before .before .before .before .before .before .before .before .before .before .before .before .before .before .before .before .before .before .before .before .before .before .before .before .before .head-word) .ensures) ((c .before .before .before .before .before .before .before .before .before .before .before .before .before .before .before .before .before .before .before .before .before .before .before .if2) .left) in
-    omega (arith, a .pre .1 .0 .holds .laid .laid .few)
+rest-result-remember-in-requires : (t : ℕ) → rest-result-lts.Need-remember-in-requires (rest-result-claims t) (rest-result-at t) rest-result.Post
+rest-result-remember-in-requires t c κs = let a = (c .before .before .before .before .before .before .before .before .before .before .before .before .before .before .before .before .before .before .before .before .before .before .before .before .before .before .before .before .before .before .before .before .before .before .before) in
+    let hk = still-left (plain (a .args .t .now)) (a .args .f) (a .args .n) (a .args .k) ((c .before .before .before .before .before .before .before .before .before .before .before .before .before .before .before .before .before .before .before .before .before .before .before .before .before .before .before .before .before .lowest) .result) _ (a .args .t7) (a .pre .1 .0) ((c .before .before .before .before .before .before .before .before .before .before .before .before .before .before .before .before .before .before .before .before .before .before .before .before .before .before .before .before .before .lowest) .ensures) ((c .before .before .before .before .before .before .before .before .before .before .before .before .before .before .before .before .before .before .before .before .before .before .before .before .before .before .wide) .ensures .0 ∙ (c .before .before .before .before .before .before .before .before .before .before .before .before .before .before .before .before .before .before .before .before .before .before .before .before .before .before .before .head-word) .ensures ∙ plain-features (a .args .t .now)) ((c .before .before .before .before .before .before .before .before .before .before .before .before .before .before .before .before .before .before .before .before .before .before .before .before .before .if2) .left) in
+    let fb = (c .before .before .before .before .before .before .before .before .before .before .before .before .before .before .before .fill-branches) in
+    let fl = filled (plain (a .args .t .now)) _ (a .args .k) (joint (plain (a .args .t .now)) (a .args .o) (a .args .f) (a .args .n) (a .args .k) (a .args .t7)) _ _ ((c .before .before .before .before .before .before .before .before .before .before .if5) .taken) (fb .ensures .0) in
+    (noted-made _ _ (a .args .k) (fb .result .list) _ ((c .before .before .before .x) .given .0 .0) (a .args .o) (a .args .f) (a .args .n) _ (fl .filled .grown .well) ((c .before .before .before .before .before .before .before .make-in) .ensures) ((c .before .before .before .x) .given .1) (still-if _ _ _ _ _ _ ((c .before .before .before .before .before .before .before .before .before .before .if5) .taken) (fb .ensures .1)) .room, omega (arith, a .pre .1 .0 .holds .laid .laid .few))
 
 rest-result-same-length-10 : (t : ℕ) → rest-result-lts.Need-same-length-10 (rest-result-claims t) (rest-result-at t) rest-result.Post
 rest-result-same-length-10 t c = search needs
@@ -310,15 +317,16 @@ rest-result-same-length-11 : (t : ℕ) → rest-result-lts.Need-same-length-11 (
 rest-result-same-length-11 t c = search needs
 
 rest-result-returns-7 : (t : ℕ) → rest-result-lts.Need-returns-7 (rest-result-claims t) (rest-result-at t) rest-result.Post
-rest-result-returns-7 t c = let a = (c .before .before .before .before .before .before .before .before .before .before .before .before .before .before .before .before .before .before .before .before .before .before .before .before .before .before .before .before .before .before .before .before .before .before .before .before) in
-    let hk = still-left _ _ _ (a .args .k) ((c .before .before .before .before .before .before .before .before .before .before .before .before .before .before .before .before .before .before .before .before .before .before .before .before .before .before .before .before .before .before .lowest) .result) _ (a .args .t7) (a .pre .1 .0) ((c .before .before .before .before .before .before .before .before .before .before .before .before .before .before .before .before .before .before .before .before .before .before .before .before .before .before .before .before .before .before .lowest) .ensures) ((c .before .before .before .before .before .before .before .before .before .before .before .before .before .before .before .before .before .before .before .before .before .before .before .before .before .before .before .wide) .ensures .0 ∙ (c .before .before .before .before .before .before .before .before .before .before .before .before .before .before .before .before .before .before .before .before .before .before .before .before .before .before .before .before .head-word) .ensures) ((c .before .before .before .before .before .before .before .before .before .before .before .before .before .before .before .before .before .before .before .before .before .before .before .before .before .before .if2) .left) in
-    let fl = filled _ _ _ _ _ _ ((c .before .before .before .before .before .before .before .before .before .before .before .before .if5) .taken) ((c .before .before .before .before .before .before .before .before .before .before .before .before .before .before .before .before .before .fill-branches) .ensures .0) in
-    let q = (c .before .before .before .before .before .x) .given .1 in
-    let re = gives-is q (fill-make (a .args .t .now) (a .args .k) _ (a .pre .1 .0 .holds) hk _ _ _ _ fl ((c .before .before .before .before .before .before .before .before .before .make) .ensures)) in (
-      re,
-      remembers-stored _ _ _ _ (a .args .k) (a .args .t7) _ _ _ (a .pre .1 .0 .nine)
-          (remembers-made _ _ (a .args .k) ((c .before .before .before .before .before .before .before .before .before .before .before .before .before .before .before .before .before .fill-branches) .result .list) _ ((c .before .before .before .before .before .x) .given .0 .0) _ _ _ _ (fl .filled .grown .well) ((c .before .before .before .before .before .before .before .before .before .make) .ensures) q (still-if _ _ _ _ _ _ ((c .before .before .before .before .before .before .before .before .before .before .before .before .if5) .taken) ((c .before .before .before .before .before .before .before .before .before .before .before .before .before .before .before .before .before .fill-branches) .ensures .1)))
-          ((c .before .before .remember) .ensures) (result-recalled _ _ _ _ _ (a .args .k) _ (a .args .t7) (a .pre .1 .0) re),
+rest-result-returns-7 t c = let a = (c .before .before .before .before .before .before .before .before .before .before .before .before .before .before .before .before .before .before .before .before .before .before .before .before .before .before .before .before .before .before .before .before .before .before .before .before .before .before .before .before) in
+    let hk = still-left (plain (a .args .t .now)) (a .args .f) (a .args .n) (a .args .k) ((c .before .before .before .before .before .before .before .before .before .before .before .before .before .before .before .before .before .before .before .before .before .before .before .before .before .before .before .before .before .before .before .before .before .before .lowest) .result) _ (a .args .t7) (a .pre .1 .0) ((c .before .before .before .before .before .before .before .before .before .before .before .before .before .before .before .before .before .before .before .before .before .before .before .before .before .before .before .before .before .before .before .before .before .before .lowest) .ensures) ((c .before .before .before .before .before .before .before .before .before .before .before .before .before .before .before .before .before .before .before .before .before .before .before .before .before .before .before .before .before .before .before .wide) .ensures .0 ∙ (c .before .before .before .before .before .before .before .before .before .before .before .before .before .before .before .before .before .before .before .before .before .before .before .before .before .before .before .before .before .before .before .before .head-word) .ensures ∙ plain-features (a .args .t .now)) ((c .before .before .before .before .before .before .before .before .before .before .before .before .before .before .before .before .before .before .before .before .before .before .before .before .before .before .before .before .before .before .if2) .left) in
+    let fb = (c .before .before .before .before .before .before .before .before .before .before .before .before .before .before .before .before .before .before .before .before .fill-branches) in
+    let w = plain (a .args .t .now) in
+    let fl = filled (plain (a .args .t .now)) _ (a .args .k) (joint (plain (a .args .t .now)) (a .args .o) (a .args .f) (a .args .n) (a .args .k) (a .args .t7)) _ _ ((c .before .before .before .before .before .before .before .before .before .before .before .before .before .before .before .if5) .taken) (fb .ensures .0) in
+    let q = (c .before .before .before .before .before .before .before .before .x) .given .1 in
+    let re = gives-is q (fill-make (plain (a .args .t .now)) (a .args .k) (joint (plain (a .args .t .now)) (a .args .o) (a .args .f) (a .args .n) (a .args .k) (a .args .t7)) (a .pre .1 .0 .holds) hk _ _ _ _ fl ((c .before .before .before .before .before .before .before .before .before .before .before .before .make-in) .ensures .0)) in
+    let nm = noted-made _ _ (a .args .k) (fb .result .list) _ ((c .before .before .before .before .before .before .before .before .x) .given .0 .0) (a .args .o) (a .args .f) (a .args .n) _ (fl .filled .grown .well) ((c .before .before .before .before .before .before .before .before .before .before .before .before .make-in) .ensures) q (still-if _ _ _ _ _ _ ((c .before .before .before .before .before .before .before .before .before .before .before .before .before .before .before .if5) .taken) (fb .ensures .1)) in (
+      subst (λ (u : List ℕ). Result w u (a .args .k) (joint w (a .args .o) (a .args .f) (a .args .n) (a .args .k) (a .args .t7)) (Is ((c .before .before .before .before .before .before .before .before .x) .given .0 .0))) (sym ((c .before .before .before .before .remember-in) .ensures .0)) re,
+      noted-stored _ _ (a .args .o) (a .args .f) (a .args .n) (a .args .k) (a .args .t7) _ _ _ (a .pre .1 .0 .nine) nm ((c .before .before .before .before .remember-in) .ensures) (result-recalled w _ (a .args .o) (a .args .f) (a .args .n) (a .args .k) _ (a .args .t7) (a .pre .1 .0) re),
     )
 
 rest-result-same-length-12 : (t : ℕ) → rest-result-lts.Need-same-length-12 (rest-result-claims t) (rest-result-at t) rest-result.Post
@@ -328,9 +336,9 @@ rest-result-same-length-13 : (t : ℕ) → rest-result-lts.Need-same-length-13 (
 rest-result-same-length-13 t c = search needs
 
 rest-result-returns-8 : (t : ℕ) → rest-result-lts.Need-returns-8 (rest-result-claims t) (rest-result-at t) rest-result.Post
-rest-result-returns-8 t c = let a = (c .before .before .before .before .before .before .before .before .before .before .before .before .before .before .before .before .before .before .before .before .before .before .before .before) in
-    let hk = still-left _ _ _ (a .args .k) ((c .before .before .before .before .before .before .before .before .before .before .before .before .before .before .before .before .before .before .lowest) .result) _ (a .args .t7) (a .pre .1 .0) ((c .before .before .before .before .before .before .before .before .before .before .before .before .before .before .before .before .before .before .lowest) .ensures) ((c .before .before .before .before .before .before .before .before .before .before .before .before .before .before .before .wide) .ensures .0 ∙ (c .before .before .before .before .before .before .before .before .before .before .before .before .before .before .before .before .head-word) .ensures) ((c .before .before .before .before .before .before .before .before .before .before .before .before .before .before .if2) .left) in
-    (stop-result (a .args .t .now) (a .args .k) _ (a .pre .1 .0 .holds) hk _ (not-filled _ _ _ _ _ _ ((c .if5) .left) ((c .before .before .before .before .before .fill-branches) .ensures .0)), tt)
+rest-result-returns-8 t c = let a = (c .before .before .before .before .before .before .before .before .before .before .before .before .before .before .before .before .before .before .before .before .before .before .before .before .before) in
+    let hk = still-left (plain (a .args .t .now)) (a .args .f) (a .args .n) (a .args .k) ((c .before .before .before .before .before .before .before .before .before .before .before .before .before .before .before .before .before .before .before .lowest) .result) _ (a .args .t7) (a .pre .1 .0) ((c .before .before .before .before .before .before .before .before .before .before .before .before .before .before .before .before .before .before .before .lowest) .ensures) ((c .before .before .before .before .before .before .before .before .before .before .before .before .before .before .before .before .wide) .ensures .0 ∙ (c .before .before .before .before .before .before .before .before .before .before .before .before .before .before .before .before .before .head-word) .ensures ∙ plain-features (a .args .t .now)) ((c .before .before .before .before .before .before .before .before .before .before .before .before .before .before .before .if2) .left) in
+    (stop-result (plain (a .args .t .now)) (a .args .k) (joint (plain (a .args .t .now)) (a .args .o) (a .args .f) (a .args .n) (a .args .k) (a .args .t7)) (a .pre .1 .0 .holds) hk _ (not-filled (plain (a .args .t .now)) _ (a .args .k) (joint (plain (a .args .t .now)) (a .args .o) (a .args .f) (a .args .n) (a .args .k) (a .args .t7)) _ _ ((c .if5) .left) ((c .before .before .before .before .before .fill-branches) .ensures .0)), tt)
 
 pub +fill-branches+rest-result-spec : {M : Type 1} → statement M
 +fill-branches+rest-result-spec = close μ-fill-branches μ-rest-result (λ t. fill-branches-lts.spec (fill-branches-claims t)
@@ -383,20 +391,20 @@ pub +fill-branches+rest-result-spec : {M : Type 1} → statement M
     (rest-result-same-length-4 t)
     (rest-result-same-length-5 t)
     (rest-result-returns-4 t)
-    (rest-result-recall-requires t)
+    (rest-result-recall-in-requires t)
     (rest-result-enum-known-memo t)
     (rest-result-same-length-6 t)
     (rest-result-same-length-7 t)
     (rest-result-returns-5 t)
     (rest-result-enum-told t)
     (rest-result-fill-branches-requires t)
-    (rest-result-make-requires t)
+    (rest-result-make-in-requires t)
     (rest-result-enum-known-x t)
     (rest-result-enum-told-2 t)
     (rest-result-same-length-8 t)
     (rest-result-same-length-9 t)
     (rest-result-returns-6 t)
-    (rest-result-remember-requires t)
+    (rest-result-remember-in-requires t)
     (rest-result-same-length-10 t)
     (rest-result-same-length-11 t)
     (rest-result-returns-7 t)

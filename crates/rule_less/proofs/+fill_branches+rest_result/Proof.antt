@@ -11,8 +11,9 @@ use Rattle.cost_nodes.proofs.Stepping.{good-small}
 use Rattle.rule_nodes.specs.Nodes.{Filling}
 use Rattle.rule_nodes.proofs.Filling.{gives-is, gives-none, fill-start, fill-more, fill-stop, stop-result, fill-listed, fill-make, filled, not-filled}
 use Rattle.rule_less.specs.Less.{lessFrom}
+use Rattle.calls.proofs.Lists.{as-long, as-large}
 use Rattle.rule_less.specs.Memory.{Recalled}
-use Rattle.rule_less.proofs.Walking.{same-features, same-size, beside-grown, first-place, second-place, onward-word, still-left, less-equal, skip-left, operands-skip, less-skip, sum-fits, onward-fits, operands-step, less-held}
+use Rattle.rule_less.proofs.Walking.{beside-grown, first-place, second-place, onward-word, still-left, less-equal, skip-left, operands-skip, less-skip, sum-fits, onward-fits, operands-step, less-held}
 use Rattle.rule_less.proofs.Recalling.{hit, remembers-made, remembers-result, still, still-if}
 use borrow.Author.Needs.{needs}
 use borrow.Fn.Kinds.{In}
@@ -87,8 +88,8 @@ fill-branches-wide-requires t c κs = search needs
 fill-branches-loop-holds : (t : ℕ) → fill-branches-lts.Need-loop-holds (fill-branches-claims t) (fill-branches-at t) fill-branches.Post fill-branches-Inv-loop fill-branches-μ-loop
 fill-branches-loop-holds t c = let a = (c .before .before .before .before .before) in
     let e : (c .wide) .result ≡ size (a .args .c .now) (a .args .k) = (c .wide) .ensures .0 ∙ (c .before .head-word) .ensures in
-    let n = same-features _ _ (a .pre .1 .1) in
-    (omega (arith, same-size _ _ (a .pre .1 .1) (a .args .k) (a .pre .1 .3)), e, omega arith, fill-start _ (a .args .k) _ (a .pre .1 .1 .holds) (omega (arith, n, a .pre .1 .3)) _ refl (λ u h. getD-replicate 12 u 0 0 h), a .pre .1 .2, refl)
+    let n = as-long _ _ (a .pre .1 .1 .same) in
+    (omega (arith, as-large _ _ (a .pre .1 .1 .same) (a .args .k) (omega (arith, n, a .pre .1 .3)) (a .pre .1 .3)), e, omega arith, fill-start _ (a .args .k) _ (a .pre .1 .1 .holds) (omega (arith, n, a .pre .1 .3)) _ refl (λ u h. getD-replicate 12 u 0 0 h), a .pre .1 .2, refl)
 
 fill-branches-arm-at-requires : (t : ℕ) → fill-branches-lts.Need-arm-at-requires (fill-branches-claims t) (fill-branches-at t) fill-branches.Post fill-branches-Inv-loop fill-branches-μ-loop
 fill-branches-arm-at-requires t c κs = let a = (c .before .before .before .before .before .before .before) in
@@ -137,7 +138,7 @@ fill-branches-returns t c = let a = (c .before .before .before .before .before .
     let l = (c .before .before .before .before .before .before .before .before .before .before .before .before .before .before .loop) in
     let hv : l .v < size (a .args .c .now) (a .args .k) = omega (arith, l .inv .1, (c .before .before .before .before .before .before .before .before .before .before .before .before .before .loop-test)) in
     let g = onward-word _ _ _ _ _ ((c .before .before .before .before .before .before .before .before .before .before .sum-word) .ensures) ((c .before .before .before .before .before .before .before .before .before .difference-word) .ensures) in
-    let n = same-features _ _ (a .pre .1 .1) in (
+    let n = as-long _ _ (a .pre .1 .1 .same) in (
       fill-stop (a .args .t .now) (a .args .k) _ (a .pre .1 .1 .holds) (omega (arith, n, a .pre .1 .3)) (l .t) _ (l .v) (l .list) _ _ (l .inv .3) (omega (arith, l .inv .0, (c .before .before .before .before .before .before .before .before .before .before .before .before .before .loop-test)))
           (less-held _ _ _ _ _ (a .pre .1 .0) (a .pre .1 .3) (l .v) _ _ _ _ hv ((c .before .before .before .before .before .before .before .before .before .before .before .before .arm-at) .ensures) ((c .before .before .before .before .before .before .before .before .before .before .before .arm-at2) .ensures) _ g)
           ((c .before .before .before .before .before .before .rest-result) .ensures .0) ((c .enum-told) .given .1),
@@ -162,7 +163,7 @@ fill-branches-loop-again t c = let a = (c .before .before .before .before .befor
     let l = (c .before .before .before .before .before .before .before .before .before .before .before .before .before .before .before .loop) in
     let hv : l .v < size (a .args .c .now) (a .args .k) = omega (arith, l .inv .1, (c .before .before .before .before .before .before .before .before .before .before .before .before .before .before .loop-test)) in
     let g = onward-word _ _ _ _ _ ((c .before .before .before .before .before .before .before .before .before .before .before .sum-word) .ensures) ((c .before .before .before .before .before .before .before .before .before .before .difference-word) .ensures) in
-    let n = same-features _ _ (a .pre .1 .1) in (
+    let n = as-long _ _ (a .pre .1 .1 .same) in (
       l .inv .0,
       l .inv .1,
       omega (arith, (c .before .before .before .before .before .before .before .before .before .before .before .before .before .before .loop-test)),
@@ -254,7 +255,7 @@ rest-result-fill-branches-requires t c κs = let a = (c .before .before .before 
 rest-result-make-requires : (t : ℕ) → rest-result-lts.Need-make-requires (rest-result-claims t) (rest-result-at t) rest-result.Post
 rest-result-make-requires t c κs = let a = (c .before .before .before .before .before .before .before .before .before .before .before .before .before .before .before .before .before .before .before .before .before) in
     let hk = still-left _ _ _ _ _ (a .pre .1 .0) ((c .before .before .before .before .before .before .before .before .before .before .before .before .before .before .before .before .before .if1) .left) in
-    let n = same-features _ _ (a .pre .1 .1) in
+    let n = as-long _ _ (a .pre .1 .1 .same) in
     let fl = filled _ _ _ _ _ _ ((c .before .before .if4) .taken) ((c .before .before .before .before .before .before .before .fill-branches) .ensures .0) in
     (fl .filled .grown .well, omega (arith, kept-features _ _ (fl .filled .grown .kept)), fill-listed (a .args .t .now) (a .args .k) _ (a .pre .1 .1 .holds) (omega arith) _ _ fl)
 
@@ -273,7 +274,7 @@ rest-result-same-length-5 t c = search needs
 rest-result-returns-4 : (t : ℕ) → rest-result-lts.Need-returns-4 (rest-result-claims t) (rest-result-at t) rest-result.Post
 rest-result-returns-4 t c = let a = (c .before .before .before .before .before .before .before .before .before .before .before .before .before .before .before .before .before .before .before .before .before .before .before .before .before .before) in
     let hk = still-left _ _ _ _ _ (a .pre .1 .0) ((c .before .before .before .before .before .before .before .before .before .before .before .before .before .before .before .before .before .before .before .before .before .before .if1) .left) in
-    let n = same-features _ _ (a .pre .1 .1) in
+    let n = as-long _ _ (a .pre .1 .1 .same) in
     let fl = filled _ _ _ _ _ _ ((c .before .before .before .before .before .before .before .if4) .taken) ((c .before .before .before .before .before .before .before .before .before .before .before .before .fill-branches) .ensures .0) in
     (gives-none ((c .enum-told2) .given .1) (fill-make (a .args .t .now) (a .args .k) _ (a .pre .1 .1 .holds) (omega arith) _ _ _ _ fl ((c .before .before .before .before .make) .ensures)), tt)
 
@@ -289,7 +290,7 @@ rest-result-same-length-7 t c = search needs
 rest-result-returns-5 : (t : ℕ) → rest-result-lts.Need-returns-5 (rest-result-claims t) (rest-result-at t) rest-result.Post
 rest-result-returns-5 t c = let a = (c .before .before .before .before .before .before .before .before .before .before .before .before .before .before .before .before .before .before .before .before .before .before .before .before .before .before .before .before .before .before .before) in
     let hk = still-left _ _ _ _ _ (a .pre .1 .0) ((c .before .before .before .before .before .before .before .before .before .before .before .before .before .before .before .before .before .before .before .before .before .before .before .before .before .before .before .if1) .left) in
-    let n = same-features _ _ (a .pre .1 .1) in
+    let n = as-long _ _ (a .pre .1 .1 .same) in
     let fl = filled _ _ _ _ _ _ ((c .before .before .before .before .before .before .before .before .before .before .before .before .if4) .taken) ((c .before .before .before .before .before .before .before .before .before .before .before .before .before .before .before .before .before .fill-branches) .ensures .0) in
     let q = (c .before .before .before .before .before .z) .given .1 in
     let re = gives-is q (fill-make (a .args .t .now) (a .args .k) _ (a .pre .1 .1 .holds) (omega arith) _ _ _ _ fl ((c .before .before .before .before .before .before .before .before .before .make) .ensures)) in
@@ -308,7 +309,7 @@ rest-result-same-length-9 t c = search needs
 rest-result-returns-6 : (t : ℕ) → rest-result-lts.Need-returns-6 (rest-result-claims t) (rest-result-at t) rest-result.Post
 rest-result-returns-6 t c = let a = (c .before .before .before .before .before .before .before .before .before .before .before .before .before .before .before .before .before .before .before) in
     let hk = still-left _ _ _ _ _ (a .pre .1 .0) ((c .before .before .before .before .before .before .before .before .before .before .before .before .before .before .before .if1) .left) in
-    let n = same-features _ _ (a .pre .1 .1) in
+    let n = as-long _ _ (a .pre .1 .1 .same) in
     (stop-result (a .args .t .now) (a .args .k) _ (a .pre .1 .1 .holds) (omega arith) _ (not-filled _ _ _ _ _ _ ((c .if4) .left) ((c .before .before .before .before .before .fill-branches) .ensures .0)), tt)
 
 pub +fill-branches+rest-result-spec : {M : Type 1} → statement M

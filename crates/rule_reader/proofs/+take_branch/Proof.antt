@@ -2,7 +2,7 @@
 use Rattle.rule_reader.proofs.Walking.{takes-phrase, inside, in-notes, takes-known, loop-start, asks-branch, branch-falls, loop-more, loop-stop, asks-make, made, takes-small, takes-put}
 use Rattle.rule_reader.specs.Reader.{given, Noted}
 use Rattle.rule_nodes.specs.Nodes.{Filling}
-use Rattle.sheets.specs.Bytes.{width}
+use Rattle.sheet_bytes.specs.Bytes.{width}
 use native.Mathlib.Omega.{arith}
 use mathlib.Core.Path.{_≡_, refl}
 use Prim.Native.Nat.{ℕ, _-_, _≤_, _<_}
@@ -14,9 +14,9 @@ use Rattle.rule_reader.proofs.take_branch.Reads as take-branch
 use Rattle.rule_reader.proofs.take_branch.Kinds as take-branch-kinds
 use Rattle.rule_reader.proofs.+take_branch.Lts-take_branch as take-branch-lts
 use Rattle.rule_nodes.proofs.make.Reads as make-reads
-use Rattle.sheets.proofs.branch_at.Reads as branch-at-reads
-use Rattle.sheets.proofs.feature_at.Reads as feature-at-reads
-use Rattle.sheets.proofs.width_at.Reads as width-at-reads
+use Rattle.sheet_bytes.proofs.branch_at.Reads as branch-at-reads
+use Rattle.sheet_bytes.proofs.feature_at.Reads as feature-at-reads
+use Rattle.sheet_bytes.proofs.width_at.Reads as width-at-reads
 use Rattle.words.proofs.narrow.Reads as narrow-reads
 use Rattle.rule_reader.proofs.+take_branch.{statement}
 use Rattle.rule_reader.proofs.+take_branch.Tie.{close}

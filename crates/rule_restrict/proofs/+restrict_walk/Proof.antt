@@ -4,7 +4,7 @@ use Prim.Native.Nat.{ℕ, _-_, _≤_, _<_}
 use mathlib.Core.Path.{_≡_, refl}
 use Rattle.rule_restrict.proofs.Walking.{walk-holds, walk-small, walk-known, walk-value, asks-here, walked-here, node-here, in-use, in-room, whose, walked-known, loop-start, asks-child, asks-walk, walk-falls, loop-more, loop-stop, asks-make, made, walked-small, walked-room, walked-in, walked-put}
 use Rattle.rule_restrict.specs.Restrict.{restr, Noted}
-use Rattle.rule_restrict.specs.Notes.{plain}
+use Rattle.notes.specs.Plain.{plain}
 use Rattle.rule_nodes.specs.Nodes.{Filling, top}
 use Rattle.words.specs.Words.{features, size}
 use native.Mathlib.Omega.{arith}

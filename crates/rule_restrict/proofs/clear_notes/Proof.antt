@@ -1,5 +1,5 @@
 -- `rule_restrict::clear_notes` meets its contract: of the far words only the notes of nodes i and up may still not be 0 (Clearing). Assumes nothing.
-use Rattle.rule_restrict.proofs.Plain.{length-plain}
+use Rattle.notes.proofs.Plain.{length-plain}
 use Rattle.rule_restrict.proofs.Noting.{Clearing, clearing-more, clearing-all}
 use Rattle.words.specs.Words.{count}
 use lib.ListN.{length}

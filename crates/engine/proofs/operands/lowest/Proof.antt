@@ -1,37 +1,42 @@
 -- `engine::operands::lowest` meets its contract: m is the lowest feature that the first j operands test. Assumes nothing.
+use Rattle.rule_notes.proofs.Reading.{plain-head}
+use Rattle.notes.specs.Plain.{plain}
+use Rattle.notes.proofs.Plain.{length-plain}
 use Rattle.rule_nodes.specs.Nodes.{top}
 use Rattle.words.specs.Words.{features, listed}
 use borrow.Author.Count.{below-more}
 use native.Mathlib.Omega.{arith}
 use Prim.Native.Nat.{ℕ, _-_, _≤_, _<_}
-use mathlib.Core.Path.{_≡_, _∙_}
+use mathlib.Core.Path.{_≡_, sym, _∙_}
 use borrow.Author.Needs.{needs}
 use Rattle.engine.proofs.operands.lowest.Statement.{statement}
 use Rattle.engine.proofs.operands.lowest.Tie as tie
 
 abbrev Inv-loop : tie.InvT-loop
-Inv-loop t n ops m₀ j₀ m j = (m ≤ features t) × (j ≤ n) × ((i : ℕ) → i < j → m ≤ top t (listed ops i)) × ((z : ℕ) → z ≤ features t → ((i : ℕ) → i < j → z ≤ top t (listed ops i)) → z ≤ m)
+Inv-loop t n ops m₀ j₀ m j = (m ≤ features (plain t)) × (j ≤ n) × ((i : ℕ) → i < j → m ≤ top (plain t) (listed ops i)) × ((z : ℕ) → z ≤ features (plain t) → ((i : ℕ) → i < j → z ≤ top (plain t) (listed ops i)) → z ≤ m)
 
 abbrev μ-loop : tie.MeasureT-loop
 μ-loop t n ops m₀ j₀ m j = n - j
 
 head-word-requires : tie.Need-head-word-requires Inv-loop μ-loop
-head-word-requires c κs = search needs
+head-word-requires c κs = let a = (c .before) in omega (arith, a .pre .0 .room, length-plain (a .args .t .now))
 
 wide-requires : tie.Need-wide-requires Inv-loop μ-loop
 wide-requires c κs = search needs
 
 loop-holds : tie.Need-loop-holds Inv-loop μ-loop
-loop-holds c = let e : (c .wide) .result ≡ features ((c .before .before .before) .args .t .now) = (c .wide) .ensures .0 ∙ (c .before .head-word) .ensures in (omega arith, omega arith, (λ i h. absurd (omega arith)), λ z h k. omega arith)
+loop-holds c = let w = (c .before .before .before) .args .t .now in
+    let e : (c .wide) .result ≡ features (plain w) = (c .wide) .ensures .0 ∙ (c .before .head-word) .ensures ∙ sym (plain-head w 2 (omega arith)) in
+    (omega arith, omega arith, (λ i h. absurd (omega arith)), λ z h k. omega arith)
 
-mul-top-of : tie.Need-mul-top-of Inv-loop μ-loop
-mul-top-of c = search needs
+mul-top-in : tie.Need-mul-top-in Inv-loop μ-loop
+mul-top-in c = search needs
 
-array-read-top-of : tie.Need-array-read-top-of Inv-loop μ-loop
-array-read-top-of c = search needs
+array-read-top-in : tie.Need-array-read-top-in Inv-loop μ-loop
+array-read-top-in c = search needs
 
-top-of-requires : tie.Need-top-of-requires Inv-loop μ-loop
-top-of-requires c κs = ((c .before .before .before .before .before) .pre .0, (c .before .before .before .before .before) .pre .2 ((c .before .loop) .j) (omega arith))
+top-in-requires : tie.Need-top-in-requires Inv-loop μ-loop
+top-in-requires c κs = ((c .before .before .before .before .before) .pre .0, (c .before .before .before .before .before) .pre .2 ((c .before .loop) .j) (omega arith))
 
 lower-requires : tie.Need-lower-requires Inv-loop μ-loop
 lower-requires c κs = search needs
@@ -46,8 +51,8 @@ loop-again : tie.Need-loop-again Inv-loop μ-loop
 loop-again c = let l = (c .before .before .before .loop) in (
   omega (arith, (c .lower) .ensures .0, l .inv .0),
   omega arith,
-  below-more _ _ (λ i h. omega (arith, l .inv .2 i h, (c .lower) .ensures .0)) (omega (arith, (c .lower) .ensures .1, (c .before .top-of) .ensures)),
-  (λ z h k. (c .lower) .ensures .2 z (l .inv .3 z h (λ i lt. k i (omega arith))) (omega (arith, k (l .j) (omega arith), (c .before .top-of) .ensures))),
+  below-more _ _ (λ i h. omega (arith, l .inv .2 i h, (c .lower) .ensures .0)) (omega (arith, (c .lower) .ensures .1, (c .before .top-in) .ensures)),
+  (λ z h k. (c .lower) .ensures .2 z (l .inv .3 z h (λ i lt. k i (omega arith))) (omega (arith, k (l .j) (omega arith), (c .before .top-in) .ensures))),
 )
 
 returns : tie.Need-returns Inv-loop μ-loop
@@ -62,9 +67,9 @@ lowest-spec =
     head-word-requires
     wide-requires
     loop-holds
-    mul-top-of
-    array-read-top-of
-    top-of-requires
+    mul-top-in
+    array-read-top-in
+    top-in-requires
     lower-requires
     add-j
     loop-less

@@ -1,5 +1,6 @@
 -- `engine::operands::operands_at` meets its contract: the first j operands have gone to their branches. Assumes nothing.
 use Rattle.engine.specs.Joint.{turn}
+use Rattle.notes.specs.Plain.{plain}
 use Rattle.rule_words.specs.Words.{decode, nodes}
 use Rattle.words.specs.Words.{listed}
 use Rattle.theory.specs.Diagrams.{next as nextOf}
@@ -16,7 +17,7 @@ use Rattle.engine.proofs.operands.operands_at.Statement.{statement}
 use Rattle.engine.proofs.operands.operands_at.Tie as tie
 
 abbrev Inv-loop : tie.InvT-loop
-Inv-loop t f n k v ops next₀ j₀ next j = (length next ≡ 9) × (j ≤ n) × ((i : ℕ) → i < j → decode (listed next i) ≡ nextOf (nodes t) k (decode (listed ops i)) (turn f k i v))
+Inv-loop t f n k v ops next₀ j₀ next j = (length next ≡ 9) × (j ≤ n) × ((i : ℕ) → i < j → decode (listed next i) ≡ nextOf (nodes (plain t)) k (decode (listed ops i)) (turn f k i v))
 
 abbrev μ-loop : tie.MeasureT-loop
 μ-loop t f n k v ops next₀ j₀ next j = n - j
@@ -24,17 +25,17 @@ abbrev μ-loop : tie.MeasureT-loop
 loop-holds : tie.Need-loop-holds Inv-loop μ-loop
 loop-holds c = (refl, omega arith, λ i h. absurd (omega arith))
 
-mul-child-of : tie.Need-mul-child-of Inv-loop μ-loop
-mul-child-of c = search needs
+mul-child-in : tie.Need-mul-child-in Inv-loop μ-loop
+mul-child-in c = search needs
 
-array-read-child-of : tie.Need-array-read-child-of Inv-loop μ-loop
-array-read-child-of c = omega (arith, (c .before .before .before) .pre .0 .nine, (c .loop-test))
+array-read-child-in : tie.Need-array-read-child-in Inv-loop μ-loop
+array-read-child-in c = omega (arith, (c .before .before .before) .pre .0 .nine, (c .loop-test))
 
 turn-of-requires : tie.Need-turn-of-requires Inv-loop μ-loop
 turn-of-requires c κs = search needs
 
-child-of-requires : tie.Need-child-of-requires Inv-loop μ-loop
-child-of-requires c κs = let a = (c .before .before .before .before) in
+child-in-requires : tie.Need-child-in-requires Inv-loop μ-loop
+child-in-requires c κs = let a = (c .before .before .before .before) in
     (operand-place _ (a .args .f) (a .args .n) (a .args .k) (a .args .t5) ((c .before .before .loop) .j) (a .pre .0) (omega arith), a .pre .1, rw ((c .turn-of) .ensures) (turn-small _ (a .args .f) (a .args .n) (a .args .k) (a .args .t5) ((c .before .before .loop) .j) (a .args .v) (a .pre .0) (a .pre .1) (a .pre .2) (omega arith)))
 
 mul-next : tie.Need-mul-next Inv-loop μ-loop
@@ -56,7 +57,7 @@ loop-again c = let l = (c .before .before .before .loop) in
       simp length-set (l .inv .0),
       omega arith,
       (λ i lt. ⊎-elim
-          (λ e. rw e (ap decode (getD-set-same (l .next) (l .j) _ 0 h) ∙ (c .child-of) .ensures ∙ ap (nextOf (nodes (a .args .t .now)) (a .args .k) (decode (listed (a .args .t5) (l .j)))) ((c .before .turn-of) .ensures)))
+          (λ e. rw e (ap decode (getD-set-same (l .next) (l .j) _ 0 h) ∙ (c .child-in) .ensures ∙ ap (nextOf (nodes (plain (a .args .t .now))) (a .args .k) (decode (listed (a .args .t5) (l .j)))) ((c .before .turn-of) .ensures)))
           (λ n. ap decode (getD-set-other (l .next) (l .j) i _ 0 n) ∙ l .inv .2 i (omega (arith, n)))
           (same i (l .j))),
     )
@@ -71,10 +72,10 @@ operands-at-spec =
     Inv-loop
     μ-loop
     loop-holds
-    mul-child-of
-    array-read-child-of
+    mul-child-in
+    array-read-child-in
     turn-of-requires
-    child-of-requires
+    child-in-requires
     mul-next
     array-write-next
     add-j

@@ -1,4 +1,5 @@
 -- `operations::joining::put_joint` meets its contract: what the engine built is settled. Assumes nothing.
+use Rattle.operations.proofs.Operands.{at-rest}
 use Rattle.settling.proofs.Settling.{settle-asks, settles}
 use Rattle.rules.proofs.Sounding.{sound-long}
 use Rattle.engine.specs.Joint.{joint}
@@ -15,7 +16,7 @@ wide-requires : tie.Need-wide-requires
 wide-requires c κs = search needs
 
 join-requires : tie.Need-join-requires
-join-requires c κs = search needs
+join-requires c κs = let a = (c .before .before .before .before .before .before .before) in (a .pre .2, at-rest (a .pre .0))
 
 settle-requires : tie.Need-settle-requires
 settle-requires c κs = let a = (c .before .before .before .before .before .before .before .before .before .before .before .before .before) in

@@ -3,6 +3,8 @@ use Rattle.operations.proofs.Firsts.{met-refused, met-taken, met-none}
 use Rattle.settings.proofs.Endings.{stop, pass}
 use Rattle.settings.proofs.Answers.{denied, granted}
 use Rattle.rule_next.specs.Next.{Answers}
+use Rattle.rule_sound.specs.Sound.{Sound}
+use Rattle.rules.proofs.Sounding.{sound-long}
 use Rattle.rule_words.specs.Words.{ruleOf}
 use Rattle.words.specs.Words.{sizes}
 use native.Mathlib.Omega.{arith}
@@ -35,7 +37,7 @@ returns-3 : tie.Need-returns-3
 returns-3 c = met-refused ((c .refused3) .result) ((c .refused3) .ensures) (pass (λ n. n (granted ((c .before .before .before .before .sound) .result) ((c .before .before .before .if1) .left) ((c .before .before .before .before .sound) .ensures))) (pass (omega arith) (stop (inl (omega arith)))))
 
 setting-fits-requires : tie.Need-setting-fits-requires
-setting-fits-requires c κs = granted ((c .before .before .before .sound) .result) ((c .before .before .if1) .left) ((c .before .before .before .sound) .ensures)
+setting-fits-requires c κs = let s : Sound ((c .before .before .before .before .before .before) .args .t .now) = granted ((c .before .before .before .sound) .result) ((c .before .before .if1) .left) ((c .before .before .before .sound) .ensures) in (omega (arith, sound-long s), s .header .few)
 
 refused-requires-4 : tie.Need-refused-requires-4
 refused-requires-4 c κs = search needs

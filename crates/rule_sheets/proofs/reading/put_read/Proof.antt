@@ -1,7 +1,7 @@
 -- `rule_sheets::reading::put_read` meets its contract: what was taken in is settled. Assumes nothing.
 use native.Mathlib.Omega.{arith}
 use mathlib.Core.Path.{sym, _∙_}
-use Rattle.sheets.specs.Diagram.{ruleOf}
+use Rattle.sheet_check.specs.Diagram.{ruleOf}
 use Rattle.rules.proofs.Sounding.{sound-long}
 use Rattle.settling.proofs.Settling.{sound-holds, settle-asks, settles}
 use borrow.Author.Needs.{needs}

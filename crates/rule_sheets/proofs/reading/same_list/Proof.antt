@@ -4,7 +4,7 @@ use mathlib.Core.Path.{_≡_, sym, _∙_}
 use Prim.Native.Nat.{ℕ, _-_, _≤_, _<_}
 use native.Mathlib.Omega.{arith}
 use borrow.Author.Count.{below-more}
-use Rattle.sheets.specs.Bytes.{features, size}
+use Rattle.sheet_bytes.specs.Bytes.{features, size}
 use Rattle.words.specs.Words as W
 use Rattle.rules.proofs.Sounding.{sound-long}
 use Rattle.rule_sheets.proofs.Lists.{many-same, size-same, list-same}

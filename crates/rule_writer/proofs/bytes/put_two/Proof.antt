@@ -1,6 +1,6 @@
 -- `rule_writer::bytes::put_two` meets its contract: the high byte and the low byte, one after the other. Assumes nothing.
 use borrow.Author.Needs.{needs}
-use Rattle.sheets.specs.Sections.{two}
+use Rattle.sheet_bytes.specs.Sections.{two}
 use Rattle.rule_writer.proofs.Putting.{puts-after}
 use Rattle.rule_writer.proofs.bytes.put_two.Statement.{statement}
 use Rattle.rule_writer.proofs.bytes.put_two.Tie as tie

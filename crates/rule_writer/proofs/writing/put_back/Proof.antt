@@ -2,7 +2,7 @@
 use mathlib.Core.Path.{sym, _∙_}
 use native.Mathlib.Omega.{arith}
 use borrow.Author.Needs.{needs}
-use Rattle.sheets.specs.Sections.{section}
+use Rattle.sheet_bytes.specs.Sections.{section}
 use Rattle.rule_writer.proofs.Numbers.{count-most, noted-most, word-small, length-numbered}
 use Rattle.rule_writer.proofs.Parts.{root-bytes}
 use Rattle.rule_writer.proofs.Putting.{puts-after, puts-same, puts-long, length-two}

@@ -3,7 +3,7 @@ use mathlib.Core.Path.{sym, _∙_}
 use native.Mathlib.Omega.{arith}
 use borrow.Author.Needs.{needs}
 use Rattle.words.proofs.Words.{length-sizes}
-use Rattle.sheets.specs.Sections.{section}
+use Rattle.sheet_bytes.specs.Sections.{section}
 use Rattle.rule_writer.proofs.Putting.{puts-after, puts-long, length-two}
 use Rattle.rule_writer.proofs.writing.put_front.Statement.{statement}
 use Rattle.rule_writer.proofs.writing.put_front.Tie as tie

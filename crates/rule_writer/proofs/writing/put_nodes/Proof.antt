@@ -5,8 +5,8 @@ use native.Mathlib.Omega.{arith}
 use lib.ListN.{length}
 use borrow.Author.Needs.{needs}
 use Rattle.words.specs.Words.{size, feature}
-use Rattle.sheets.specs.Sheet.{branchBytes}
-use Rattle.sheets.specs.Sections.{nodesBytes}
+use Rattle.sheet_bytes.specs.Sections.{nodesBytes}
+use Rattle.sheet_bytes.specs.Sheet.{branchBytes}
 use Rattle.rule_writer.specs.Numbering.{numbered}
 use Rattle.rule_writer.specs.Laid.{Puts}
 use Rattle.rule_writer.proofs.Numbers.{count-most, noted-most}

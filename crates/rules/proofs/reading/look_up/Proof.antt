@@ -1,5 +1,6 @@
 -- `rules::reading::look_up` meets its contract: each test refuses in its turn, and the way ends at the number. Assumes nothing.
 use Rattle.rules.proofs.Answering.{look-refused, look-taken}
+use Rattle.rules.proofs.Sounding.{sound-long}
 use Rattle.settings.proofs.Endings.{stop, pass}
 use Rattle.settings.proofs.Answers.{denied, granted}
 use Rattle.rule_sound.specs.Sound.{Sound}
@@ -21,7 +22,7 @@ returns-2 : tie.Need-returns-2
 returns-2 c = look-refused (pass (λ n. n (granted ((c .before .before .sound) .result) ((c .before .if1) .left) ((c .before .before .sound) .ensures))) (stop (omega arith)))
 
 setting-fits-requires : tie.Need-setting-fits-requires
-setting-fits-requires c κs = granted ((c .before .before .sound) .result) ((c .before .if1) .left) ((c .before .before .sound) .ensures)
+setting-fits-requires c κs = let s : Sound ((c .before .before .before .before .before) .args .t .now) = granted ((c .before .before .sound) .result) ((c .before .if1) .left) ((c .before .before .sound) .ensures) in (omega (arith, sound-long s), s .header .few)
 
 returns-3 : tie.Need-returns-3
 returns-3 c = look-refused (pass (λ n. n (granted ((c .before .before .before .before .sound) .result) ((c .before .before .before .if1) .left) ((c .before .before .before .before .sound) .ensures))) (pass (omega arith) (stop (denied ((c .before .setting-fits) .result) ((c .if3) .taken) ((c .before .setting-fits) .ensures)))))

@@ -3,7 +3,7 @@ use Prim.Native.Nat.{ℕ}
 use mathlib.Core.List.{List}
 use mathlib.Core.Path.{subst}
 use native.Mathlib.Omega.{arith}
-use Rattle.sheets.proofs.Places.{part-sizes}
+use Rattle.sheet_bytes.proofs.Places.{part-sizes}
 use Rattle.settings.specs.Tells.{Tells}
 use Rattle.theory.specs.Settings.{Valid}
 use borrow.Author.Needs.{needs}

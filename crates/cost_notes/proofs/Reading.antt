@@ -1,0 +1,65 @@
+-- What a cost table says is what its words without notes say, and `make` adds to these. Assumes nothing.
+use mathlib.Core.Path.{_≡_, sym, ap, _∙_}
+use mathlib.Core.List.{List}
+use Prim.Native.Nat.{ℕ, zero, suc, _+_, _≤_, _<_}
+use native.Mathlib.Omega.{arith}
+use Rattle.words.specs.Words.{head, features, size, count}
+use Rattle.records.specs.Laid.{Laid}
+use Rattle.notes.specs.Plain.{plain}
+use Rattle.notes.proofs.Alike.{Like, plain-like, like-head, like-sym, like-size, like-record, like-nodes, like-laid, like-holds, plain-grown}
+use Rattle.cost_words.specs.Words.{target, branch, code, nodes}
+use Rattle.cost_words.proofs.Packing.{faithful}
+use Rattle.cost_nodes.specs.Nodes.{Holds, Armed, Makes, top, Place}
+use Rattle.cost_nodes.specs.declared.Answer.{Answer}
+
+-- words alike past the near records
+module _ {w u : List ℕ} (e : Like w u) where
+  like-top : Laid w → (x : ℕ) → x ≤ count w → top u x ≡ top w x
+  unfolding top
+  like-top d zero h = like-head e 2 (omega arith)
+  like-top d (suc i) h = like-record e d i 0 (omega arith) (omega arith)
+
+  like-place : (k x : ℕ) → Place w k x → Place u k x
+  like-place k x p =
+      let n = like-nodes e (p .holds .laid .laid) faithful in
+      record { holds = like-holds e faithful (p .holds); good = rw n (p .good); upTo = omega (arith, p .upTo, like-head e 2 (omega arith)) }
+
+  like-armed : (k : ℕ) (x a : List ℕ) → Holds w → k < features w → Armed w k x a → Armed u k x a
+  like-armed k x a ok h r =
+      let n = like-nodes e (ok .laid .laid) faithful in
+      let s : size u k ≡ size w k = like-size e (ok .laid .laid) k h in
+      record { each = λ v l. rw n (r .each v (omega arith)); pad = λ v l b. r .pad v (omega arith) b; near = λ v l. r .near v (omega arith) }
+
+-- ---- without notes
+module _ (w : List ℕ) where
+  with-notes : Like (plain w) w
+  with-notes = like-sym (plain-like w)
+
+  pub plain-head : (j : ℕ) → j < 4096 → head (plain w) j ≡ head w j
+  plain-head j h = like-head (plain-like w) j (omega arith)
+
+  pub noted-laid : Laid (plain w) → Laid w
+  noted-laid d = like-laid with-notes d
+
+  pub noted-holds : Holds (plain w) → Holds w
+  noted-holds ok = like-holds with-notes faithful ok
+
+  pub noted-top : Laid (plain w) → (x : ℕ) → x ≤ count (plain w) → top w x ≡ top (plain w) x
+  noted-top d x h = like-top with-notes d x h
+
+  pub noted-place : (k x : ℕ) → Place (plain w) k x → Place w k x
+  noted-place k x p = like-place with-notes k x p
+
+  pub noted-nodes : Laid (plain w) → nodes w ≡ nodes (plain w)
+  noted-nodes d = like-nodes with-notes d faithful
+
+  pub noted-armed : (k : ℕ) (x a : List ℕ) → Holds (plain w) → k < features (plain w) → Armed (plain w) k x a → Armed w k x a
+  noted-armed k x a ok h r = like-armed with-notes k x a ok h r
+
+-- `make` on a table is `make` on its words without notes
+pub plain-makes : (t t′ : List ℕ) (k : ℕ) (x a : List ℕ) (o : Answer) → Holds (plain t) → k < features (plain t) → Makes t t′ k x a o → Makes (plain t) (plain t′) k x a o
+plain-makes t t′ k x a o ok h m =
+    let n : nodes t ≡ nodes (plain t) = noted-nodes t (ok .laid .laid) in
+    let s : size t k ≡ size (plain t) k = like-size (like-sym (plain-like t)) (ok .laid .laid) k h in
+    let c = like-head (plain-like t) 1 (omega arith) in
+    rw (← n, ← s) (record { grown = plain-grown faithful t t′ _ (m .grown); answers = rw c (m .answers) })

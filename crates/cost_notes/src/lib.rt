@@ -1,0 +1,77 @@
+// A cost table while a walk works on it, told of the words without its notes: steps down a diagram, the making of a node, and what the walk
+// remembers, in lent scratch words or, where these are fewer, in the far records.
+use cost_memory::Memo;
+use cost_memory::recall;
+use cost_memory::remember;
+use cost_nodes::Answer;
+use cost_nodes::Arm;
+use cost_nodes::arm_at;
+use cost_nodes::make;
+use cost_nodes::top_of;
+use words::head_word;
+use words::wide;
+ghost use mathlib.Core.Path.{_≡_};
+ghost use Prim.Native.Nat.{ℕ, _≤_, _<_};
+ghost use Rattle.cost_laws.specs.Relative.{branchAt};
+ghost use Rattle.words.specs.Words.{features, size, count};
+ghost use Rattle.records.specs.Laid.{Laid};
+ghost use Rattle.notes.specs.Far.{memory, Aside};
+ghost use Rattle.notes.specs.Plain.{Roomy, plain};
+ghost use Rattle.cost_memory.specs.Memory.{Recalls, Stored};
+ghost use Rattle.cost_words.specs.Words.{target, branch, nodes};
+ghost use Rattle.cost_nodes.specs.Nodes.{Holds, Armed, Makes, top, Place};
+
+// The lowest feature that one of two targets tests.
+pub fn lowest(t: &[u32], x: u32, y: u32) -> usize
+    requires { ⌜ (Laid (plain (now t))) × (x ≤ count (plain (now t))) × (y ≤ count (plain (now t))) ⌝ }
+    ensures { λ r. ⌜ (r ≤ top (plain (now (t .entry))) x) × (r ≤ top (plain (now (t .entry))) y) × ((z : ℕ) → z ≤ top (plain (now (t .entry))) x → z ≤ top (plain (now (t .entry))) y → z ≤ r) ⌝ }
+{
+    let a = top_of(t, x);
+    let b = top_of(t, y);
+    if a < b { a } else { b }
+}
+
+// The branch of a target for value v of feature k.
+pub fn arm_in(t: &[u32], k: usize, x: u32, v: usize) -> Arm
+    requires { ⌜ (Place (plain (now t)) k x) × (k < features (plain (now t))) × (v < size (plain (now t)) k) ⌝ }
+    ensures { λ r. ⌜ branch (r .to) (r .adds) ≡ branchAt (nodes (plain (now (t .entry)))) k (target x) v ⌝ }
+{
+    arm_at(t, k, x, v)
+}
+
+// The branch that has these branches at feature k; what is remembered stays.
+pub fn make_in(t: &mut [u32], k: usize, goes: [u32; 8], adds: [u32; 8]) -> Answer
+    requires { ⌜ (Roomy (now t)) × (Holds (plain (now t))) × (k < features (plain (now t))) × (Armed (plain (now t)) k goes adds) ⌝ }
+    ensures { λ r. ⌜ (Makes (plain (now (t .entry))) (plain (now (t .exit))) k goes adds r) × (Aside (now (t .entry)) (now (t .exit))) ⌝ }
+{
+    make(t, k, goes, adds)
+}
+
+// What is remembered under a tag for two targets and their difference.
+pub fn recall_in(t: &[u32], s: &[u32], tag: u32, x: u32, y: u32, d: u32) -> Memo
+    requires { ⌜ Roomy (now t) ⌝ }
+    ensures { λ r. ⌜ Recalls (memory (now (t .entry)) (now (s .entry))) tag x y d r ⌝ }
+{
+    let n = 16 * wide(head_word(t, 1));
+    if s.len() < n {
+        let from = 8192 + n;
+        let end = from + n;
+        return recall(&t[from..end], tag, x, y, d);
+    }
+    recall(s, tag, x, y, d)
+}
+
+// Remembers the result's words z and e.
+pub fn remember_in(t: &mut [u32], s: &mut [u32], tag: u32, x: u32, y: u32, d: u32, z: u32, e: u32)
+    requires { ⌜ (Roomy (now t)) × (0 < tag) ⌝ }
+    ensures { λ _. ⌜ (plain (now (t .exit)) ≡ plain (now (t .entry))) × (Stored (memory (now (t .entry)) (now (s .entry))) (memory (now (t .exit)) (now (s .exit))) tag x y d z e) ⌝ }
+{
+    let n = 16 * wide(head_word(t, 1));
+    if s.len() < n {
+        let from = 8192 + n;
+        let end = from + n;
+        remember(&mut t[from..end], tag, x, y, d, z, e);
+        return;
+    }
+    remember(s, tag, x, y, d, z, e);
+}

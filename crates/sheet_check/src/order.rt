@@ -1,0 +1,54 @@
+// The nodes stand as the walk from the root finishes them: the walk keeps only how many nodes are done.
+use sheet_bytes::branch_at;
+use sheet_bytes::count_of;
+use sheet_bytes::root_of;
+use sheet_bytes::width_at;
+ghost use Prim.Native.Nat.{_<_};
+ghost use Rattle.settings.specs.Tells.{Tells};
+ghost use Rattle.sheet_bytes.specs.Bytes.{count, root, Laid};
+ghost use Rattle.sheet_check.specs.Nodes.{Below};
+ghost use Rattle.sheet_check.specs.Diagram.{Ordered, InOrder, Visits, VisitsAll};
+
+// The walk from the branch word w, the nodes below c done: how many are done after it, or 65,536 where one is not met in its turn.
+fn visit(s: &[u8], at: &[u32; 4096], w: usize, c: usize) -> usize
+    requires { ⌜ (Ordered (now s)) × (Laid (now s) (now at)) × (Below (now s) (count (now s)) 0 w) × (c < 65536) ⌝ }
+    ensures { λ r. ⌜ Visits (now (s .entry)) w c r ⌝ }
+{
+    if w < 65536 {
+        return c;
+    }
+    let i = w - 65536;
+    if i < c {
+        return c;
+    }
+    if visit_list(s, at, i, c) == i {
+        return i + 1;
+    }
+    65536
+}
+
+// The same over the branches of node i in turn. A lost walk stops at once, so each node's branches are walked once.
+fn visit_list(s: &[u8], at: &[u32; 4096], i: usize, c: usize) -> usize
+    requires { ⌜ (Ordered (now s)) × (Laid (now s) (now at)) × (i < count (now s)) × (c < 65536) ⌝ }
+    ensures { λ r. ⌜ VisitsAll (now (s .entry)) i c r ⌝ }
+{
+    let z = width_at(s, at, i);
+    let mut d = c;
+    let mut v: usize = 0;
+    while v < z {
+        d = visit(s, at, branch_at(s, at, i, v), d);
+        if 65536 <= d {
+            return 65536;
+        }
+        v += 1;
+    }
+    d
+}
+
+// Whether the walk from the root meets all nodes, each in its turn.
+pub fn in_order(s: &[u8], at: &[u32; 4096]) -> bool
+    requires { ⌜ (Ordered (now s)) × (Laid (now s) (now at)) × (Below (now s) (count (now s)) 0 (root (now s))) ⌝ }
+    ensures { λ r. ⌜ Tells r (InOrder (now (s .entry))) ⌝ }
+{
+    visit(s, at, root_of(s), 0) == count_of(s)
+}
