@@ -1,6 +1,5 @@
 -- What the calls hand to the engines, and that what these build is what is promised. Assumes nothing.
 use mathlib.Core.Path.{_≡_, sym, ap, ap₂, subst, _∙_}
-use mathlib.Core.Logic.{_⊎_, ⊎-elim}
 use mathlib.Core.List.{List}
 use Prim.Native.Nat.{ℕ, _<_}
 use Rattle.theory.specs.Costs.{Cost, costs}
@@ -30,8 +29,8 @@ use Rattle.both_tables.specs.Choosing.{choice}
 use Rattle.both_tables.specs.Comparing.{below}
 
 -- neither table is damaged
-pub undamaged : {v w : List ℕ} → SoundRules v → Sound w → ((SoundRules v → ⊥) ⊎ (Sound w → ⊥)) → ⊥
-undamaged r s = ⊎-elim (λ n. n r) (λ n. n s)
+pub undamaged : {v w : List ℕ} → SoundRules v → Sound w → ((SoundRules v × Sound w) → ⊥) → ⊥
+undamaged r s n = n (r, s)
 
 -- ---- the branch b of place p of a sound cost table
 module _ {w : List ℕ} (s : Sound w) {b : Branch costs} (p : ℕ) (e : b ≡ rootAt w p) (h : p < 16) where

@@ -3,4 +3,3 @@ pub mod Settling
 pub mod Sounding
 pub mod Theorems
 pub mod Lists
-pub mod Exactly

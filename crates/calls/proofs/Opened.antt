@@ -1,4 +1,4 @@
--- A fresh table: the words that opening lays out are the picture of constants 0. Assumes nothing.
+-- A fresh table: the words that opening lays out are the picture of constants 0, and its promise is met. Assumes nothing.
 use mathlib.Core.Path.{_≡_, refl, sym, ap, subst, _∙_}
 use mathlib.Core.Logic.{⊎-elim}
 use mathlib.Core.List.{List, [], _∷_, _++_}
@@ -16,15 +16,18 @@ use Rattle.theory.proofs.Growing.{each-append}
 use Rattle.theory.proofs.Ranges.{features-pos}
 use Rattle.theory.proofs.Values.{value-ending}
 use Rattle.theory.proofs.WellFormed.{wf-empty}
+use Rattle.settings.specs.declared.refusals.Refusal.the-variants.{BadOpening}
+use Rattle.settings.specs.declared.refusals.Outcome.the-variants.{Taken, Refused}
+use Rattle.settings.proofs.Endings.{stop, pass, not-taken, not-refused}
 use Rattle.words.specs.Tab.{tab}
 use Rattle.words.specs.Words.{head, word, bound}
 use Rattle.words.specs.Picture.{Drawing, Shows, Pictures, Proper, nodeHash}
 use Rattle.words.proofs.Tab.{split, tab-none, tab-snoc, getD-tab, length-tab}
 use Rattle.words.proofs.Chains.{last-none}
-use Rattle.calls.specs.Opening.{Openable, Cleared, Based, Sized, Named}
+use Rattle.calls.specs.Opening.{Openable, fresh, Opens, Cleared, Based, Sized, Named}
 
 -- the words that the steps of opening leave
-pub named : {S w u x w′ : List ℕ} {cap b : ℕ} (k c n : ℕ) → Openable S cap w → c ≡ cap → n ≡ length S → Cleared (bound cap) w u → Based b u x → Sized S (set (set (set x 0 k) 1 c) 2 n) w′ → Named k b S cap w w′
+pub named : {S w u x w′ : List ℕ} {cap b : ℕ} (k c n : ℕ) → Openable S cap (length w) → c ≡ cap → n ≡ length S → Cleared (bound cap) w u → Based b u x → Sized S (set (set (set x 0 k) 1 c) 2 n) w′ → Named k b S cap w w′
 named {S} {w} {u} {x} {w′} {cap} {b} k c n o ec en d f z =
     let few = o .list .few in
     let some = o .some in
@@ -50,10 +53,7 @@ named {S} {w} {u} {x} {w′} {cap} {b} k c n o ec en d f z =
     thru j h e = e ∙ getD-set-other t₂ 2 j n 0 (omega arith) ∙ getD-set-other t₁ 1 j c 0 (omega arith) ∙ getD-set-other x 0 j k 0 (omega arith)
 
 module _ {K : Kind} where
-  -- n constants 0 and the branches that they have
-  abbrev pub fresh : ℕ → List (Fun K)
-  fresh n = tab (λ p. zero-fun) n
-
+  -- the branches of n constants 0
   abbrev pub ends : ℕ → List (Branch K)
   ends n = tab (λ p. blank) n
 
@@ -68,7 +68,7 @@ module _ {K : Kind} where
       (canonical S 0 S refl (features-pos S f) [] (wf-empty S) blank zero-fun (record { ok = tt; says = λ s v. value-ending [] 0 (zero-fun []) s }))
       ∙ ap (λ (l : List (Branch K)). let t : List (Branch K) × List (Node K) = (l, []) in t) (sym (tab-snoc (λ p. blank) n))
 
-module _ {K : Kind} (D : Drawing K) {b : ℕ} {S : List ℕ} {cap : ℕ} {w w′ : List ℕ} (o : Openable S cap w) (n : Named (D .number) b S cap w w′) where
+module _ {K : Kind} (D : Drawing K) {b : ℕ} {S : List ℕ} {cap : ℕ} {w w′ : List ℕ} (o : Openable S cap (length w)) (n : Named (D .number) b S cap w w′) where
   pub fresh-pictures : ((p : ℕ) → p < 32 → getD w′ (32 + p) 0 ≡ D .rootOf (ends (D .places)) p) → Pictures D cap S (fresh (D .places)) w′
   unfolding head word
   fresh-pictures roots = subst (λ (q : List (Branch K) × List (Node K)). Shows D cap S (q .0) (q .1) w′) (sym (zeros-built S (o .list) (D .places))) (shown roots)
@@ -111,3 +111,11 @@ module _ {K : Kind} (D : Drawing K) {b : ℕ} {S : List ℕ} {cap : ℕ} {w w′
         range = λ p h s v. subst (λ (g : Fun K). D .InRange (g s)) (sym (getD-tab (λ q. zero-fun) (D .places) p zero-fun h)) (range s);
         fits = omega (arith, ap (λ (q : List (Branch K) × List (Node K)). length (q .1)) (zeros-built S (o .list) (D .places)), o .some);
       }
+
+  -- the promise met
+  pub opened : ((p : ℕ) → p < 32 → getD w′ (32 + p) 0 ≡ D .rootOf (ends (D .places)) p) → ((s : List ℕ) → D .InRange (zero-fun s)) → Opens D S cap w w′ Taken
+  opened roots range =
+      record { ends = pass (λ q. q o) refl; long = n .long; proper = λ e. fresh-proper range; pictures = λ e. fresh-pictures roots; past = λ e. n .past; refused = λ x. not-refused }
+
+pub not-opened : {K : Kind} {D : Drawing K} {S : List ℕ} {cap : ℕ} {w : List ℕ} → (Openable S cap (length w) → ⊥) → Opens D S cap w w (Refused BadOpening)
+not-opened h = record { ends = stop h; long = refl; proper = not-taken; pictures = not-taken; past = not-taken; refused = λ x e. refl }

@@ -1,17 +1,40 @@
--- What opening asks for, and what its steps leave, for every kind. Assumes nothing.
+-- The promise of opening, and what its steps leave, for every kind. Assumes nothing.
 use mathlib.Core.Path.{_≡_}
 use mathlib.Core.List.{List}
 use Prim.Native.Nat.{ℕ, _+_, _≤_, _<_}
 use lib.ListN.{length, getD}
+use Rattle.theory.specs.Kind.{Kind}
 use Rattle.theory.specs.Settings.{FeatureList}
+use Rattle.theory.specs.Functions.{Fun, zero-fun}
+use Rattle.settings.specs.Refusals.{Ends, _when_else_, taken}
+use Rattle.settings.specs.declared.refusals.Refusal.{Refusal}
+use Rattle.settings.specs.declared.refusals.Refusal.the-variants.{BadOpening}
+use Rattle.settings.specs.declared.refusals.Outcome.{Outcome}
+use Rattle.settings.specs.declared.refusals.Outcome.the-variants.{Taken, Refused}
+use Rattle.words.specs.Tab.{tab}
 use Rattle.words.specs.Words.{bound}
+use Rattle.words.specs.Picture.{Drawing, Pictures, Proper}
 
--- inside document 01's numbers, and enough words
-pub record Openable (S : List ℕ) (cap : ℕ) (w : List ℕ) : Type 0 where
+-- inside document 01's numbers, and n words are enough
+pub record Openable (S : List ℕ) (cap n : ℕ) : Type 0 where
   pub list : FeatureList S
   pub some : 1 ≤ cap
   pub most : cap ≤ 4096
-  pub room : bound cap ≤ length w
+  pub room : bound cap ≤ n
+
+-- n places, each with the constant 0
+abbrev pub fresh : {K : Kind} → ℕ → List (Fun K)
+fresh n = tab (λ p. zero-fun) n
+
+-- opening with the list S and the capacity cap makes w into w′ and ends as o
+module _ {K : Kind} (D : Drawing K) where
+  pub record Opens (S : List ℕ) (cap : ℕ) (w w′ : List ℕ) (o : Outcome) : Type 0 where
+    pub ends : Ends (BadOpening when (Openable S cap (length w) → ⊥) else taken) o
+    pub long : length w′ ≡ length w
+    pub proper : o ≡ Taken → Proper D cap S (fresh (D .places))
+    pub pictures : o ≡ Taken → Pictures D cap S (fresh (D .places)) w′
+    pub past : o ≡ Taken → (j : ℕ) → bound cap ≤ j → getD w′ j 0 ≡ getD w j 0
+    pub refused : (x : Refusal) → o ≡ Refused x → w′ ≡ w
 
 -- ---- the steps
 -- the first n words are 0, the others kept

@@ -42,7 +42,7 @@ fn write_sizes(t: &mut [u32], features: &[u8])
 
 // Lays a table of a kind out whose places hold the constant 0: no node, and the word of the base 0 where the kind has bases.
 pub fn lay(t: &mut [u32], kind: u32, base: u32, features: &[u8], capacity: usize)
-    requires { ⌜ Openable (now features) capacity (now t) ⌝ }
+    requires { ⌜ Openable (now features) capacity (length (now t)) ⌝ }
     ensures { λ _. ⌜ Named kind base (now (features .entry)) capacity (now (t .entry)) (now (t .exit)) ⌝ }
 {
     clear(t, 8192 + 32 * capacity);

@@ -1,3 +1,2 @@
 pub mod Prices
 pub mod Operands
-pub mod Theorems

@@ -2,4 +2,3 @@ pub mod Sounding
 pub mod Answering
 pub mod Looking
 pub mod Opened
-pub mod Theorems

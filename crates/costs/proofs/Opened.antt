@@ -1,27 +1,26 @@
 -- A fresh cost table: its roots go to the end, its bases are the word of 0. Assumes nothing.
-use mathlib.Core.Path.{_≡_, refl, sym, ap, _∙_}
+use mathlib.Core.Path.{_≡_, sym, ap, _∙_}
 use mathlib.Core.Logic.{⊎-elim}
 use mathlib.Core.List.{List}
 use Prim.Native.Nat.{ℕ, _+_, _-_, _≤_, _<_}
 use native.Mathlib.Omega.{arith}
-use lib.ListN.{getD}
+use lib.ListN.{length, getD}
 use Rattle.theory.specs.Costs.{costs}
 use Rattle.theory.specs.Diagrams.{Branch, blank}
-use Rattle.settings.specs.declared.refusals.Refusal.the-variants.{BadOpening}
-use Rattle.settings.specs.declared.refusals.Outcome.the-variants.{Taken, Refused}
-use Rattle.settings.proofs.Endings.{stop, pass, not-taken, not-refused}
+use Rattle.settings.specs.declared.refusals.Outcome.the-variants.{Taken}
 use Rattle.cost_laws.specs.Integers.{wordFor}
 use Rattle.cost_laws.specs.Range.{costMost}
 use Rattle.cost_laws.proofs.Integers.{fit-zero}
 use Rattle.words.proofs.Tab.{split, getD-tab}
 use Rattle.calls.specs.Opening.{Openable, Named}
-use Rattle.calls.proofs.Opened.{ends, fresh-pictures, fresh-proper}
+use Rattle.calls.proofs.Opened as C
+use Rattle.calls.proofs.Opened.{ends}
 use Rattle.cost_words.specs.Words.{targetWord}
 use Rattle.cost_words.specs.Picture.{rootOf, drawing}
 use Rattle.cost_words.proofs.Showing.{root-shows, base-shows}
 use Rattle.costs.specs.Opening.{Opens}
 
-module _ {S : List ℕ} {cap : ℕ} {w w′ : List ℕ} (o : Openable S cap w) (n : Named 2 2147483648 S cap w w′) where
+module _ {S : List ℕ} {cap : ℕ} {w w′ : List ℕ} (o : Openable S cap (length w)) (n : Named 2 2147483648 S cap w w′) where
   roots : (p : ℕ) → p < 32 → getD w′ (32 + p) 0 ≡ rootOf (ends 16) p
   roots p h = ⊎-elim low high (split p 16)
     where
@@ -37,15 +36,4 @@ module _ {S : List ℕ} {cap : ℕ} {w w′ : List ℕ} (o : Openable S cap w) (
           ∙ sym (ap (rootOf (ends 16)) (sym q) ∙ base-shows (ends 16) (p - 16) ∙ ap (λ (b : Branch costs). wordFor (b .adds)) (getD-tab (λ q. blank) 16 (p - 16) blank (omega arith)))
 
   pub opened : Opens S cap w w′ Taken
-  opened =
-      record {
-        ends = pass (λ q. q o) refl;
-        long = n .long;
-        proper = λ e. fresh-proper drawing o n (λ s. fit-zero costMost);
-        pictures = λ e. fresh-pictures drawing o n roots;
-        past = λ e. n .past;
-        refused = λ x. not-refused;
-      }
-
-pub not-opened : {S : List ℕ} {cap : ℕ} {w : List ℕ} → (Openable S cap w → ⊥) → Opens S cap w w (Refused BadOpening)
-not-opened h = record { ends = stop h; long = refl; proper = not-taken; pictures = not-taken; past = not-taken; refused = λ x e. refl }
+  opened = C.opened drawing o n roots (λ s. fit-zero costMost)

@@ -1,6 +1,6 @@
 -- What a call that reads a cost answers lies within the range of costs. Assumes nothing.
 use mathlib.Core.Path.{_≡_, sym, subst}
-use mathlib.Core.Logic.{_⊎_, inl, inr}
+use mathlib.Core.Logic.{inl}
 use mathlib.Core.List.{List}
 use Prim.Native.Nat.{ℕ, _≤_}
 use native.Mathlib.Omega.{arith}
@@ -21,7 +21,7 @@ use Rattle.rule_sound.specs.Sound as R
 use Rattle.cost_sound.specs.Sound.{Sound}
 use Rattle.costs.specs.Reading.{Looks, look-cases}
 use Rattle.costs.specs.declared.reading.Looked.{Looked}
-use Rattle.costs.proofs.Theorems.{ended}
+use Rattle.calls.proofs.Theorems.{ended}
 use Rattle.both_tables.specs.Seeking.{Seeks, lowest-cases}
 use Rattle.both_tables.specs.declared.seeking.Found.{Found}
 
@@ -56,9 +56,9 @@ found-fits a q v w r f =
     done : r .outcome ≡ Taken → Ends (lowest-cases a q v w) Taken → Fit costMost (r .cost)
     done e l =
         let g = f .gives e in
-        cost-fits a (g .0) w (r .cost) (λ n. damaged (inr n)) (λ h. not-refused (l .1 damaged .0 (inl h))) (λ n. n (g .2 .valid)) (sym (g .2 .gives))
+        cost-fits a (g .0) w (r .cost) (λ n. damaged (λ s. n (s .1))) (λ h. not-refused (l .1 damaged .0 (inl h))) (λ n. n (g .2 .valid)) (sym (g .2 .gives))
       where
-        damaged : (R.Sound v → ⊥) ⊎ (Sound w → ⊥) → ⊥
+        damaged : ((R.Sound v × Sound w) → ⊥) → ⊥
         damaged d = not-refused (l .0 d)
 
 -- and keeps it in 64 bits

@@ -1,24 +1,22 @@
--- The promise of next is met at each return, and decides the whole answer. Assumes nothing.
-use mathlib.Core.Path.{_≡_, refl, sym, ap, subst, _∙_}
+-- The promise of next is met at each return. Assumes nothing.
+use mathlib.Core.Path.{_≡_, refl, sym, ap, subst}
 use mathlib.Core.Bool.{true, false}
 use mathlib.Core.Logic.{_⊎_, ⊎-elim}
 use mathlib.Core.List.{List}
 use Prim.Native.Nat.{ℕ, _≤_, _<_}
 use native.Mathlib.Omega.{arith}
 use Rattle.theory.specs.Settings.{Valid}
-use Rattle.theory.proofs.First.{first-unique, first-or-none}
-use Rattle.settings.specs.Step.{settingOf}
+use Rattle.theory.proofs.First.{first-or-none}
 use Rattle.settings.specs.Refusals.{Ends}
 use Rattle.settings.specs.declared.refusals.Refusal.{Refusal}
 use Rattle.settings.specs.declared.refusals.Refusal.the-variants.{None}
 use Rattle.settings.specs.declared.refusals.Outcome.the-variants.{Taken, Refused}
 use Rattle.settings.specs.declared.steps.Setting.{Setting}
-use Rattle.settings.proofs.Endings.{stop, pass, ends-unique, not-taken, not-refused}
+use Rattle.settings.proofs.Endings.{stop, pass, not-taken, not-refused}
 use Rattle.words.specs.Words.{sizes}
 use Rattle.rule_words.specs.Words.{ruleOf}
 use Rattle.rule_sound.specs.Sound.{Sound}
 use Rattle.rule_next.specs.Next.{Answers}
-use Rattle.rules.proofs.Theorems.{ended}
 use Rattle.operations.specs.Meeting.{Meets, next-cases, unmet}
 use Rattle.operations.specs.declared.meeting.Met.{Met}
 
@@ -40,17 +38,3 @@ module _ (p x : ℕ) (s w : List ℕ) (ok : Sound w) (hp : p < 32) (hx : x < 655
 
   pub met-none : (t : Setting) (r : Met) → Answers (sizes w) (ruleOf w p) x s false t → r ≡ unmet None → Meets p x s w r
   met-none t r a q = met-refused r q (pass (λ n. n ok) (pass (omega arith) (pass inside (stop (a .1)))))
-
--- DECIDED
-pub meets-decided : (p x : ℕ) (s w : List ℕ) (r q : Met) → Meets p x s w r → Meets p x s w q → r ≡ q
-meets-decided p x s w r q a b = ended (r .outcome) given (λ y e. a .refused y e ∙ sym (b .refused y (sym same ∙ e)))
-  where
-    same : r .outcome ≡ q .outcome
-    same = ends-unique (next-cases p x s w) (r .outcome) (q .outcome) (a .ends) (b .ends)
-
-    given : r .outcome ≡ Taken → r ≡ q
-    given e =
-        let f = a .gives e in
-        let g = b .gives (sym same ∙ e) in
-        let u : r .setting ≡ q .setting = f .1 ∙ ap settingOf (first-unique (f .2) (g .2)) ∙ sym (g .1) in
-        λ i. record { outcome = same i; setting = u i }

@@ -1,4 +1,3 @@
 pub mod Operands
 pub mod Bits
-pub mod Theorems
 pub mod Firsts

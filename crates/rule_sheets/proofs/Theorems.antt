@@ -1,48 +1,40 @@
 -- What the promises of write and read add up to. Assumes nothing.
--- Words past the bound do not matter: rules' `becomes-past` holds for every call that writes a place.
 use mathlib.Core.Path.{_≡_, refl, sym, ap, subst, _∙_}
 use mathlib.Core.Logic.{⊎-elim}
 use mathlib.Core.List.{List}
 use Prim.Native.Nat.{ℕ, _≤_, _<_}
 use native.Mathlib.Omega.{arith}
-use lib.ListN.{length}
 use Rattle.theory.specs.Functions.{Agree}
 use Rattle.theory.specs.Rules.{Rule, Phrase}
 use Rattle.theory.specs.Settings.{Valid}
 use Rattle.theory.proofs.Ranges.{valid?}
-use Rattle.settings.specs.Refusals.{Ends, Ordered}
+use Rattle.settings.specs.Refusals.{Ends}
 use Rattle.settings.specs.declared.refusals.Refusal.the-variants.{BadArgument, NoRoom}
 use Rattle.settings.specs.declared.refusals.Outcome.{Outcome}
 use Rattle.settings.specs.declared.refusals.Outcome.the-variants.{Taken, Refused}
-use Rattle.settings.proofs.Endings.{ends-unique, not-refused}
+use Rattle.settings.proofs.Endings.{not-refused}
 use Rattle.words.specs.Words.{sizes}
 use Rattle.words.proofs.Tab.{split}
 use Rattle.rule_words.specs.Words.{ruleOf}
 use Rattle.rule_sound.specs.Sound.{Sound}
 use Rattle.rules.specs.Reading.{Looks}
 use Rattle.rules.specs.declared.reading.Looked.{Looked}
-use Rattle.rules.proofs.Theorems.{ended, becomes-sound, becomes-one, place-written, places-kept, frame-kept}
+use Rattle.rules.proofs.Theorems.{ended, becomes-sound, place-written, frame-kept}
 use Rattle.settling.specs.Settling.{Exceeds}
 use Rattle.settling.proofs.Settling.{exceeds-agree}
 use Rattle.sheet_bytes.specs.Sheet.{sheetOf, IsSheet, Written}
 use Rattle.sheet_check.proofs.Reading.{sheet-says}
 use Rattle.sheets.specs.Lookup.{returned, Returns}
 use Rattle.sheets.proofs.Theorems.{agree-sheet, longest, newer-not, returns-argument, returns-number}
-use Rattle.rule_sheets.specs.Reading.{SheetExceeds, read-cases, ReadsSheet}
+use Rattle.rule_sheets.specs.Reading.{SheetExceeds, ReadsSheet}
 use Rattle.rule_sheets.specs.Writing.{sheetAt, write-cases, WritesSheet}
 use Rattle.rule_sheets.specs.declared.writing.Wrote.{Wrote}
 use Rattle.rule_sheets.proofs.Sheeted.{place-sheet}
 
--- ---- SOUND: read leaves a sound table sound, and keeps the rule of every other place
+-- ---- SOUND: read leaves a sound table sound
 pub read-sound : {p : ℕ} {s w w′ : List ℕ} {o : Outcome} → Sound w → ReadsSheet p s w w′ o → Sound w′
 read-sound {o = o} ok r =
     ended o (λ e. let x = r .sheet e in becomes-sound (r .becomes e (x .rule) (x .is))) (λ x e. subst Sound (sym (r .refused x e)) ok)
-
-pub read-keeps : {p : ℕ} {s w w′ : List ℕ} {o : Outcome} → ReadsSheet p s w w′ o → (q : ℕ) → q < 32 → (q ≡ p → ⊥) → Agree (sizes w) (ruleOf w′ q) (ruleOf w q)
-read-keeps {o = o} r q h n =
-    ended o
-    (λ e. let x = r .sheet e in places-kept (r .becomes e (x .rule) (x .is)) q h n)
-    (λ x e t v. ap (λ (u : List ℕ). ruleOf u q t) (r .refused x e))
 
 -- ---- READ WHAT WAS WRITTEN: the same rule, in any table over the list with room; NO ROOM exactly where there is none
 module _ {w u u′ : List ℕ} {p q : ℕ} {o : Outcome} (ok : Sound w) (hp : p < 32) (fit : Sound u) (hq : q < 32) (list : sizes u ≡ sizes w) (r : ReadsSheet q (sheetAt w p) u u′ o) where
@@ -92,37 +84,6 @@ module _ {p : ℕ} {s w w′ : List ℕ} (hp : p < 32) (r : ReadsSheet p s w w�
           let e = later .1 (λ m. m (subst (λ (S : List ℕ). Valid S t) (sym list) v)) in
           returns-number b (r .sheet refl .is) v ∙ ap (λ (x : Phrase). x .end) (sym (says t v)) ∙ sym (a .gives e) ∙ sym (told e)
       go (no m) = returns-argument b (r .sheet refl .is) m ∙ sym (told (later .0 (λ v. m (subst (λ (S : List ℕ). Valid S t) list v))))
-
--- ---- the numbers of each table ascend: the first refusal that applies is the lowest
-pub sheets-ordered : (p : ℕ) (s w : List ℕ) → Ordered (read-cases p s w) × Ordered (write-cases p s w)
-sheets-ordered p s w = (
-  (omega arith, (omega arith, (omega arith, (omega arith, (omega arith, (omega arith, tt)))))),
-  (omega arith, (omega arith, (omega arith, tt))),
-)
-
--- ---- DECIDED: two outcomes that meet a promise are the same
-pub read-decided : (p : ℕ) (s w u v : List ℕ) (o q : Outcome) → ReadsSheet p s w u o → ReadsSheet p s w v q → (o ≡ q) × (u ≡ v)
-read-decided p s w u v o q a b = (
-  same,
-  ended o
-      (λ e. let x = a .sheet e in becomes-one (a .becomes e (x .rule) (x .is)) (b .becomes (sym same ∙ e) (x .rule) (x .is)))
-      (λ x e. a .refused x e ∙ sym (b .refused x (sym same ∙ e))),
-)
-  where
-    same : o ≡ q
-    same = ends-unique (read-cases p s w) o q (a .ends) (b .ends)
-
-pub write-decided : (p : ℕ) (w out u v : List ℕ) (r q : Wrote) → WritesSheet p w out u r → WritesSheet p w out v q → (r ≡ q) × (u ≡ v)
-write-decided p w out u v r q a b = (
-  λ i. record { outcome = same i; length = long i },
-  ended (r .outcome) (λ e. a .bytes e ∙ sym (b .bytes (sym same ∙ e))) (λ x e. a .kept x e ∙ sym (b .kept x (sym same ∙ e))),
-)
-  where
-    same : r .outcome ≡ q .outcome
-    same = ends-unique (write-cases p out w) (r .outcome) (q .outcome) (a .ends) (b .ends)
-
-    long : r .length ≡ q .length
-    long = ended (r .outcome) (λ e. a .length-is e ∙ sym (b .length-is (sym same ∙ e))) (λ x e. a .none x e ∙ sym (b .none x (sym same ∙ e)))
 
 -- ---- SMALL: a written sheet has at most 102,428 bytes
 pub written-small : (p : ℕ) (w out out′ : List ℕ) (r : Wrote) → WritesSheet p w out out′ r → r .length ≤ 102428

@@ -3,4 +3,3 @@ pub mod Answering
 pub mod Opened
 pub mod Looking
 pub mod Theorems
-pub mod Past

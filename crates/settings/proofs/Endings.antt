@@ -1,7 +1,6 @@
--- Laws of a call's table of refusals: how to meet it, that it decides the ending, and that the lowest number that applies is given. Assumes nothing.
+-- Laws of a call's table of refusals: how to meet it, and that it decides the ending. Assumes nothing.
 use mathlib.Core.Path.{_≡_, refl, sym, ap, _∙_}
-use mathlib.Core.Logic.{_⊎_, inl, inr, ⊎-elim}
-use Prim.Native.Nat.{ℕ, _≤_, _<_}
+use Prim.Native.Nat.{ℕ, _≤_}
 use native.Mathlib.Omega.{arith}
 use native.Mathlib.Decide.{ℕ-discrete}
 use lib.ListN.{getD}
@@ -10,7 +9,7 @@ use Rattle.settings.specs.declared.refusals.Refusal.{Refusal}
 use Rattle.settings.specs.declared.refusals.Refusal.the-variants.{Damaged, BadPlace, Newer, BadSheet, OtherFeatures, BadArgument, BadSelector, Range, NoRoom, NoSpace, None, BadOpening}
 use Rattle.settings.specs.declared.refusals.Outcome.{Outcome}
 use Rattle.settings.specs.declared.refusals.Outcome.the-variants.{Taken, Refused}
-use Rattle.settings.specs.Refusals.{numberOf, outcomeNumber, Cases, taken, _when_else_, Ends, Decidable, Above, Ordered, Applies}
+use Rattle.settings.specs.Refusals.{numberOf, outcomeNumber, Cases, taken, _when_else_, Ends}
 
 -- `Ends (x when P else rest)` is met at `Refused x` where P holds. Stated on what `Ends` computes to, with Rest for `Ends rest`, so that a use writes nothing out
 pub stop : {x : Refusal} {P Rest : Type 0} → P → (P → Refused x ≡ Refused x) × ((P → ⊥) → Rest)
@@ -68,11 +67,14 @@ unfolding endings
 outcome-back Taken = refl
 outcome-back (Refused x) = refusal-back x
 
+pub one-number : {o u : Outcome} → outcomeNumber o ≡ outcomeNumber u → o ≡ u
+one-number {o} {u} e = sym (outcome-back o) ∙ ap (λ (n : ℕ). getD endings n Taken) e ∙ outcome-back u
+
 pub outcome? : (o u : Outcome) → Dec (o ≡ u)
 outcome? o u = go (ℕ-discrete (outcomeNumber o) (outcomeNumber u))
   where
     go : Dec (outcomeNumber o ≡ outcomeNumber u) → Dec (o ≡ u)
-    go (yes e) = yes (sym (outcome-back o) ∙ ap (λ (n : ℕ). getD endings n Taken) e ∙ outcome-back u)
+    go (yes e) = yes (one-number e)
     go (no n) = no (λ e. n (ap outcomeNumber e))
 
 -- the table decides how the call ends
@@ -83,38 +85,3 @@ ends-unique (x when P else rest) o u e f = go (outcome? o u) (λ n. ends-unique 
     go : Dec (o ≡ u) → ((P → ⊥) → o ≡ u) → o ≡ u
     go (yes q) i = q
     go (no n) i = i (λ p. n (e .0 p ∙ sym (f .0 p)))
-
--- what is given applies
-pub given-applies : (l : Cases) (x : Refusal) → Decidable l → Ends l (Refused x) → Applies l x
-given-applies taken x d e = let z : _≡_ {A = ℕ} 0 1 = cc in absurd (omega arith)
-given-applies (y when P else rest) x d e = go (d .0) (λ n. given-applies rest x (d .1) (e .1 n))
-  where
-    go : Dec P → ((P → ⊥) → Applies rest x) → ((y ≡ x) × P) ⊎ Applies rest x
-    go (yes p) i = let h : Refused x ≡ Refused y = e .0 p in inl (cc, p)
-    go (no n) i = inr (i n)
-
--- where the call is taken, nothing applies
-pub taken-free : (l : Cases) (x : Refusal) → Ends l Taken → Applies l x → ⊥
-taken-free taken x e a = a
-taken-free (y when P else rest) x e a =
-    let no-P : P → ⊥ = λ p. let h : Taken ≡ Refused y = e .0 p in let z : _≡_ {A = ℕ} 0 1 = cc in omega arith in
-    ⊎-elim (λ h. no-P (h .1)) (λ h. taken-free rest x (e .1 no-P) h) a
-
-above-applies : (n : ℕ) (l : Cases) (x : Refusal) → Above n l → Applies l x → n < numberOf x
-above-applies n taken x o a = absurd a
-above-applies n (y when P else rest) x o a =
-    ⊎-elim (λ h. omega (arith, o .0, ap numberOf (h .0))) (λ h. omega (arith, o .0, above-applies (numberOf y) rest x (o .1) h)) a
-
-lowest-above : (n : ℕ) (l : Cases) (x y : Refusal) → Above n l → Decidable l → Ends l (Refused x) → Applies l y → numberOf x ≤ numberOf y
-lowest-above n taken x y o d e a = absurd a
-lowest-above n (z when P else rest) x y o d e a = go (d .0) (λ m. lowest-above (numberOf z) rest x y (o .1) (d .1) (e .1 m))
-  where
-    go : Dec P → ((P → ⊥) → Applies rest y → numberOf x ≤ numberOf y) → numberOf x ≤ numberOf y
-    go (yes p) i =
-        let h : numberOf x ≡ numberOf z = ap outcomeNumber (e .0 p) in
-        ⊎-elim (λ q. omega (arith, h, ap numberOf (q .0))) (λ q. omega (arith, h, above-applies (numberOf z) rest y (o .1) q)) a
-    go (no m) i = ⊎-elim (λ q. absurd (m (q .1))) (λ q. i m q) a
-
--- of an ordered table, the lowest number that applies is given
-pub lowest-given : (l : Cases) (x y : Refusal) → Ordered l → Decidable l → Ends l (Refused x) → Applies l y → numberOf x ≤ numberOf y
-lowest-given l x y o d e a = lowest-above 0 l x y o d e a

@@ -5,5 +5,4 @@ pub mod Visits
 pub mod Holding
 pub mod Turning
 pub mod Stepping
-pub mod Decided
 pub mod Places

@@ -43,11 +43,6 @@ abbrev pub Applies : Cases → Refusal → Type 0
 Applies taken y = ⊥
 Applies (x when P else rest) y = ((x ≡ y) × P) ⊎ Applies rest y
 
--- every condition of the table can be decided
-abbrev pub Decidable : Cases → Type 0
-Decidable taken = Unit {0}
-Decidable (x when P else rest) = Dec P × Decidable rest
-
 -- the numbers of the table ascend from above n
 abbrev pub Above : ℕ → Cases → Type 0
 Above n taken = Unit {0}

@@ -1,9 +1,8 @@
--- What the definitions add up to: bytes and rules decide each other, NEWER whatever follows, the longest sheet, one answer. Assumes nothing.
+-- What the definitions add up to: bytes and rules decide each other, NEWER whatever follows, the longest sheet, what C gets. Assumes nothing.
 use mathlib.Core.Path.{_≡_, refl, sym, ap, subst, _∙_}
 use mathlib.Core.Logic.{_↔_}
 use mathlib.Core.List.{List, [], _∷_}
 use Prim.Native.Nat.{ℕ, _+_, _≤_}
-use native.Mathlib.Decide.{ℕ-discrete}
 use native.Mathlib.Omega.{arith}
 use lib.ListN.{length}
 use Rattle.theory.specs.Settings.{Valid}
@@ -11,17 +10,13 @@ use Rattle.theory.specs.Functions.{Agree}
 use Rattle.theory.specs.Rules.{Built, Rule}
 use Rattle.theory.proofs.Canonical.{build-agree}
 use Rattle.settings.specs.Refusals.{Ends}
-use Rattle.settings.specs.declared.refusals.Outcome.the-variants.{Taken, Refused}
 use Rattle.settings.specs.declared.refusals.Outcome.{Outcome}
-use Rattle.settings.proofs.Endings.{ends-unique}
 use Rattle.sheet_bytes.specs.Sections.{sheetBytes}
 use Rattle.sheet_bytes.specs.Sheet.{branchBytes, sheetOf, Writable, IsSheet, Written, NewerSheet}
 use Rattle.sheet_bytes.specs.Bytes.{count}
 use Rattle.sheet_bytes.proofs.Places.{place-most}
 use Rattle.sheet_check.proofs.Reading.{sheet-good, sheet-sizes, sheet-says, written-good}
-use Rattle.sheet_check.proofs.Answering.{taken-sheet}
-use Rattle.sheets.specs.Lookup.{setting-cases, look-cases, Looks, returned, Returns}
-use Rattle.sheets.specs.declared.looking.Looked.{Looked}
+use Rattle.sheets.specs.Lookup.{setting-cases, returned, Returns}
 
 written : (S : List ℕ) (g : Rule) (s : List ℕ) → Writable S g → sheetOf S g ≡ s → IsSheet S g s
 written S g s w e = record { writable = w; bytes = e }
@@ -54,32 +49,6 @@ pub longest : {S : List ℕ} {g : Rule} {s : List ℕ} → IsSheet S g s → len
 longest {s = s} x =
     let o = sheet-good x .ordered in
     omega (arith, o .lie .ends, o .lie .room, place-most (o .head) (count s) (o .lie .known))
-
--- DECIDED: two answers that meet the promise are the same
-module _ (s t : List ℕ) {r q : Looked} (a : Looks s t r) (b : Looks s t q) where
-  same-outcome : r .outcome ≡ q .outcome
-  same-outcome = ends-unique (look-cases s t) (r .outcome) (q .outcome) (a .ends) (b .ends)
-
-  -- a taken lookup has a sheet
-  has-sheet : r .outcome ≡ Taken → (Written s → ⊥) → ⊥
-  has-sheet e n = taken-sheet s (setting-cases s t) (subst (Ends (look-cases s t)) e (a .ends)) n
-
-  same-number : r .number ≡ q .number
-  same-number = ended (r .outcome) refl
-    where
-      taken-same : r .outcome ≡ Taken → Dec (r .number ≡ q .number) → r .number ≡ q .number
-      taken-same e (yes d) = d
-      taken-same e (no d) = absurd (has-sheet e (λ w. d (a .gives e (w .list) (w .rule) (w .is) ∙ sym (b .gives (sym same-outcome ∙ e) (w .list) (w .rule) (w .is)))))
-
-      ended : (o : Outcome) → r .outcome ≡ o → r .number ≡ q .number
-      ended Taken e = taken-same e (ℕ-discrete (r .number) (q .number))
-      ended (Refused x) e = a .refused x e ∙ sym (b .refused x (sym same-outcome ∙ e))
-
-  pub looks-decided : r ≡ q
-  looks-decided = λ i. record { outcome = same-outcome i; number = same-number i }
-
-pub returns-decided : (s t : List ℕ) (r q : ℕ) → Returns s t r → Returns s t q → r ≡ q
-returns-decided s t r q a b = a .is ∙ ap (λ (l : Looked). returned (l .outcome) (l .number)) (looks-decided s t (a .looks) (b .looks)) ∙ sym (b .is)
 
 -- ---- what C gets, case by case
 module _ {s t : List ℕ} {r : ℕ} (a : Returns s t r) where
