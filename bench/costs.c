@@ -1,13 +1,15 @@
 /* The cost calls, and those on both tables, with more and more scratch: two costs that each add up prices over sixteen features of
-   size 8, so sixteen nodes each, and what is worked out of them. The unit is the sum of the table's words. */
+   size 8, so sixteen nodes each, and what is worked out of them: the smaller and the larger of the two, with some hundred nodes. The
+   unit is the sum of the table's words. */
 #include "lampgrotto.h"
 #include "timing.h"
 #include <stdio.h>
 #include <stdlib.h>
 
-enum { CAPACITY = 1024, WORDS = 32 * CAPACITY + 8192, LENT = 65536 };
-enum { FIRST, SECOND, PRICE, RESULT, SMALLER, LARGER, CHOSEN }; /* places of the cost table */
-enum { BELOW, WORKED };                                         /* places of the rule table */
+enum { CAPACITY = 2048, WORDS = 32 * CAPACITY + 8192, LENT = 65536 };
+enum { FIRST, SECOND, PRICE, RESULT, SMALLER, LARGER, UP, DOWN, SCALED }; /* places of the cost table */
+enum { BELOW, WORKED, ALL };                                              /* places of the rule table */
+enum { MOST = 1000000000 };
 static uint32_t costs[WORDS], rules[WORDS], lent[LENT], out[17];
 static size_t lent_length = LENT;
 static const uint8_t features[16] = {8, 8, 8, 8, 8, 8, 8, 8, 8, 8, 8, 8, 8, 8, 8, 8}, setting[16];
@@ -30,6 +32,19 @@ static void sum_of_prices(size_t place, uint32_t seed) {
     }
 }
 
+/* the lowest cost of a place */
+static int32_t lowest(size_t place) {
+    taken(lampgrotto_lowest(costs, WORDS, rules, WORDS, lent, LENT, place, ALL, out, 17));
+    return (int32_t)out[0];
+}
+
+/* the place gets that of another times a factor, then an amount more */
+static void moved(size_t place, size_t from, int64_t factor, int64_t more) {
+    taken(lampgrotto_scale(costs, WORDS, lent, LENT, place, from, factor));
+    taken(lampgrotto_cost_constant(costs, WORDS, PRICE, more));
+    taken(lampgrotto_add(costs, WORDS, lent, LENT, place, place, PRICE));
+}
+
 static uint32_t tally(void) {
     taken(lampgrotto_cost_tally(costs, WORDS, out, 1));
     return out[0];
@@ -37,16 +52,20 @@ static uint32_t tally(void) {
 
 /* ---- each call, on results that are there, so that it can be made again and again */
 static void adding(void) { sink += lampgrotto_add(costs, WORDS, lent, lent_length, RESULT, FIRST, SECOND); }
-static void scaling(void) { sink += lampgrotto_scale(costs, WORDS, lent, lent_length, RESULT, FIRST, -3); }
+static void adding_large(void) { sink += lampgrotto_add(costs, WORDS, lent, lent_length, RESULT, SMALLER, LARGER); }
+static void adding_far(void) { sink += lampgrotto_add(costs, WORDS, lent, lent_length, RESULT, UP, DOWN); }
+static void scaling(void) { sink += lampgrotto_scale(costs, WORDS, lent, lent_length, SCALED, LARGER, -3); }
 static void lesser(void) { sink += lampgrotto_smaller(costs, WORDS, lent, lent_length, SMALLER, FIRST, SECOND); }
 static void comparing(void) { sink += lampgrotto_less(rules, WORDS, costs, WORDS, lent, lent_length, WORKED, FIRST, SECOND); }
 static void choosing(void) { sink += lampgrotto_choose(costs, WORDS, rules, WORDS, lent, lent_length, SMALLER, BELOW, FIRST, SECOND); }
 static void seeking(void) { sink += lampgrotto_lowest(costs, WORDS, rules, WORDS, lent, lent_length, LARGER, BELOW, out, 17); }
+static void seeking_all(void) { sink += lampgrotto_lowest(costs, WORDS, rules, WORDS, lent, lent_length, LARGER, ALL, out, 17); }
 static void looking(void) { sink += lampgrotto_cost_look_up(costs, WORDS, LARGER, setting, 16, out, 1); }
 static void constant(void) { sink += lampgrotto_cost_constant(costs, WORDS, RESULT, 7); }
 static void summing(void) { sum_words(costs, WORDS); }
 
-static void (*const jobs[])(void) = {looking, constant, adding, scaling, lesser, comparing, choosing, seeking};
+static void (*const jobs[])(void) = {looking, constant, adding,    adding_large, adding_far, scaling,
+                                     lesser,  comparing, choosing, seeking,      seeking_all};
 
 int main(void) {
     taken(lampgrotto_cost_open(costs, WORDS, features, 16, CAPACITY));
@@ -56,11 +75,20 @@ int main(void) {
     taken(lampgrotto_smaller(costs, WORDS, lent, LENT, SMALLER, FIRST, SECOND));
     taken(lampgrotto_larger(costs, WORDS, lent, LENT, LARGER, FIRST, SECOND));
     taken(lampgrotto_less(rules, WORDS, costs, WORDS, lent, LENT, BELOW, FIRST, SECOND));
+    taken(lampgrotto_constant(rules, WORDS, ALL, 1));
+    /* the larger cost up to the end of the range, and its highest amount less it: their sum is the most everywhere, though the highest of both
+       together is more */
+    moved(DOWN, LARGER, -1, 0);
+    int64_t high = -(int64_t)lowest(DOWN);
+    moved(DOWN, LARGER, -1, high);
+    moved(UP, LARGER, 1, MOST - high);
+    moved(SCALED, LARGER, -3, 0);
     uint32_t nodes = tally();
     taken(lampgrotto_tally(rules, WORDS, out, 1));
     double unit = best(summing);
     printf("%u nodes of costs and %u of rules in use; the sum of %d words takes %.0f us\n\n", nodes, out[0], WORDS, unit / 1000);
-    printf("| scratch words | look up | constant | add | scale | smaller | less | choose | lowest |\n|---|---|---|---|---|---|---|---|---|\n");
+    printf("| scratch words | look up | constant | add | add, large | add, at the end of the range | scale, large | smaller | less | choose | lowest | lowest of all |\n");
+    printf("|---|---|---|---|---|---|---|---|---|---|---|---|\n");
     for (lent_length = 0; lent_length <= LENT; lent_length = lent_length ? 4 * lent_length : 1024) {
         printf("| %zu |", lent_length);
         for (size_t j = 0; j < sizeof jobs / sizeof *jobs; j++) {

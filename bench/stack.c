@@ -9,6 +9,7 @@
 enum { CAPACITY = 512, WORDS = 32 * CAPACITY + 8192, SCRATCH = 8192, LENT = 1 << 20, PAINT = 0xa5 };
 enum { COST_CAPACITY = 1024, COST_WORDS = 32 * COST_CAPACITY + 8192 };
 enum { FIRST, SECOND, LITERAL, RESULT }; /* places of both tables */
+enum { UP = 4, DOWN };                   /* more of the cost table */
 static uint32_t words[WORDS], cost_words[COST_WORDS], scratch[SCRATCH], out[17];
 static uint8_t sheet[8192];
 static size_t sheet_length;
@@ -38,6 +39,14 @@ static void many(size_t place, size_t value) {
         expect(!lampgrotto_price(cost_words, COST_WORDS, LITERAL, k, prices, 8), "price");
         expect(!lampgrotto_add(cost_words, COST_WORDS, scratch, SCRATCH, place, place, LITERAL), "add");
     }
+}
+
+/* the first cost up to the end of the range, and its highest amount, 16, less it: no end of one meets that of the other */
+static void far(void) {
+    expect(!lampgrotto_cost_constant(cost_words, COST_WORDS, LITERAL, 1000000000 - 16), "constant");
+    expect(!lampgrotto_add(cost_words, COST_WORDS, scratch, SCRATCH, UP, FIRST, LITERAL), "add");
+    expect(!lampgrotto_cost_constant(cost_words, COST_WORDS, LITERAL, 16), "constant");
+    expect(!lampgrotto_subtract(cost_words, COST_WORDS, scratch, SCRATCH, DOWN, LITERAL, FIRST), "subtract");
 }
 
 /* ---- each call as all that a thread does */
@@ -70,6 +79,7 @@ THREAD(cost_constant, lampgrotto_cost_constant(cost_words, COST_WORDS, RESULT, 7
 THREAD(pricing, lampgrotto_price(cost_words, COST_WORDS, RESULT, 15, prices, 8))
 THREAD(adding, lampgrotto_add(cost_words, COST_WORDS, scratch, 0, RESULT, FIRST, SECOND))
 THREAD(adding_lent, lampgrotto_add(cost_words, COST_WORDS, scratch, SCRATCH, RESULT, FIRST, SECOND))
+THREAD(adding_far, lampgrotto_add(cost_words, COST_WORDS, scratch, 0, RESULT, UP, DOWN))
 THREAD(smaller, lampgrotto_smaller(cost_words, COST_WORDS, scratch, 0, RESULT, FIRST, SECOND))
 THREAD(scaling, lampgrotto_scale(cost_words, COST_WORDS, scratch, 0, RESULT, FIRST, -3))
 THREAD(cost_tallying, lampgrotto_cost_tally(cost_words, COST_WORDS, out, 1))
@@ -99,11 +109,13 @@ static void cost_rows(void) {
     expect(!lampgrotto_cost_open(cost_words, COST_WORDS, features, 16, COST_CAPACITY), "open");
     many(FIRST, 7);
     many(SECOND, 6);
+    far();
     row("cost look up", cost_looking);
     row("cost constant", cost_constant);
     row("price list", pricing);
     row("add, with scratch", adding_lent);
     row("add", adding);
+    row("add, at the end of the range", adding_far);
     row("smaller", smaller);
     row("scale", scaling);
     row("cost tally", cost_tallying);

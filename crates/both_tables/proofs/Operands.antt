@@ -23,6 +23,7 @@ use Rattle.settling.proofs.Settling.{sound-holds as rules-hold}
 use Rattle.cost_settling.proofs.Settling.{sound-holds}
 use Rattle.cost_operations.proofs.Operands.{sound-rest}
 use Rattle.rule_lending.specs.Lending.{lent, Roots}
+use Rattle.cost_sound.proofs.Pictures.{sound-narrow}
 use Rattle.cost_choose.specs.Choice.{Choosable}
 use Rattle.rule_less.specs.Less.{Comparable}
 use Rattle.both_tables.specs.Choosing.{choice}
@@ -61,6 +62,7 @@ module _ (v w : List ℕ) (q a b : ℕ) {c : ℕ} {x y : Branch costs} (ec : Roo
   choosable s e ha hb = record {
     holds = sound-holds s;
     rest = sound-rest s;
+    narrow = sound-narrow s;
     alike = e;
     rule = ec .there;
     first = place-ok s a ex ha;

@@ -106,6 +106,7 @@ module _ {K : Kind} {R : Reading K} (L : Read R) where
           middle = zeros-kept 64 4096 (omega arith) (λ j x y e. omega arith) (h .middle);
           clean = clean-kept;
           wf = r .grown .well .wf;
+          spared = r .grown .well .laid .spared;
           rooted = λ p l. rw (root-same p l) (ok-ext (nodes C w) (nodes C t) 0 (R .rootAt w p) ext (tested-root L s p l));
         }
 

@@ -1,7 +1,7 @@
 -- What a tested table gives a call, for every kind: it can be built onto, a place may be replaced, and its nodes are tallied. Assumes nothing.
 use mathlib.Core.Path.{_≡_, sym, ap, _∙_}
 use mathlib.Core.List.{List}
-use Prim.Native.Nat.{ℕ, _+_, _*_}
+use Prim.Native.Nat.{ℕ}
 use native.Mathlib.Omega.{arith}
 use lib.ListN.{length}
 use Rattle.theory.specs.Diagrams.{Branch, Node}
@@ -38,7 +38,6 @@ module _ {K : Kind} {R : Reading K} (L : Read R) {w : List ℕ} (s : Tested R w)
         few = h .few;
         large = h .fit .large;
         tests = λ i l. s .nodes-ok i l .known;
-        spare = λ i j l a b. s .spare i l .zeros (8192 + 16 * i + j) (omega arith) (omega arith);
         links = s .chained .linked .links;
         heads = s .chained .heads;
         clean = λ j a b. h .clean .zeros j a (omega arith);
@@ -46,7 +45,7 @@ module _ {K : Kind} {R : Reading K} (L : Read R) {w : List ℕ} (s : Tested R w)
 
   -- it can be built onto
   pub tested-holds : Holds (layoutOf (R .going .code)) w
-  tested-holds = record { laid = record { laid = laid; padded = λ i h. s .nodes-ok i h .padded }; wf = tested-wf L s }
+  tested-holds = record { laid = record { laid = laid; padded = λ i h. s .nodes-ok i h .padded; spared = s .spared }; wf = tested-wf L s }
 
   -- a place may be replaced
   pub tested-untidy : Untidy (formOf R) w
@@ -64,6 +63,7 @@ module _ {K : Kind} {R : Reading K} (L : Read R) {w : List ℕ} (s : Tested R w)
         middle = h .middle;
         clean = h .clean;
         wf = tested-wf L s;
+        spared = s .spared;
         rooted = tested-root L s;
       }
 

@@ -1,8 +1,8 @@
 -- For every kind: a table whose words are tested is the picture of its functions, and every picture passes the test. Assumes nothing.
-use mathlib.Core.Path.{_≡_, refl, sym, ap, subst, _∙_}
+use mathlib.Core.Path.{_≡_, refl, sym, ap, ap₂, subst, _∙_}
 use mathlib.Core.List.{List, map}
 use mathlib.Core.Option.{Option, some}
-use Prim.Native.Nat.{ℕ, _+_, _-_, _*_, _≤_, _<_}
+use Prim.Native.Nat.{ℕ, _+_, _-_, _≤_, _<_}
 use native.Mathlib.Nat.{le-refl}
 use native.Mathlib.Omega.{arith}
 use lib.ListN.{length, getD, length-map, List·getD-eq-default}
@@ -19,9 +19,9 @@ use Rattle.theory.proofs.Growing.{each-length}
 use Rattle.theory.proofs.WellFormed.{all-ok-at, all-ok-of}
 use Rattle.theory.proofs.Ordering.{tidy-is-table, table-is-tidy}
 use Rattle.theory.proofs.Tables.{table-mean}
-use Rattle.words.specs.Coding.{Faithful, branches, nodeAt, nodes}
+use Rattle.words.specs.Coding.{Faithful, Spared, branches, nodeAt, nodes}
 use Rattle.words.specs.Picture.{Drawing, nodeHash, Shows, Pictures, Proper}
-use Rattle.words.specs.Words.{word, head, capacity, features, size, count, sizes, feature, body, hashAt, lastOf, Zeros}
+use Rattle.words.specs.Words.{word, head, capacity, features, size, count, sizes, feature, body, hashAt, lastOf}
 use Rattle.words.proofs.Chains.{last-ext}
 use Rattle.words.proofs.Coding.{length-nodes, at-nodes}
 use Rattle.words.proofs.Picture.{hash-shown}
@@ -51,13 +51,14 @@ pub record Read {K : Kind} (R : Reading K) : Type 0 where
   pub at-said : (w : List ℕ) (p : ℕ) → p < R .drawing .places → getD (R .drawing .said w) p zero-fun ≡ meaning (nodes (R .going .code) w) (R .rootAt w p)
   pub body-shows : (w : List ℕ) → ((i : ℕ) → i < count w → R .going .code .Padded (size w (feature w i)) (body w i))
       → (i v : ℕ) → i < count w → v < 12 → body w i v ≡ R .drawing .bodyOf (at (nodes (R .going .code) w) i) v
+  pub spare-shows : (S : List ℕ) (N : List (Node K)) (i j : ℕ) → R .going .code .spareOf S N i j ≡ R .drawing .spareOf S N i j
   pub root-shows : (w : List ℕ) (p : ℕ) → p < 32 → head w (32 + p) ≡ R .drawing .rootOf (R .roots w) p
 
 -- what is tested of the words of every kind
 pub record Tested {K : Kind} (R : Reading K) (w : List ℕ) : Type 0 where
   pub header : Header (R .drawing .number) w
   pub nodes-ok : (i : ℕ) → i < count w → NodeFits (R .going) w i
-  pub spare : (i : ℕ) → i < count w → Zeros w (8192 + 16 * i + 14) (8192 + 16 * i + 16)
+  pub spared : Spared (R .going .code) w
   pub chained : Chained w
   pub roots-ok : (p : ℕ) → p < R .drawing .places → Sits (R .going .first) w (count w) 0 (head w (32 + p))
   pub in-order : scans (scan (nodes (R .going .code) w) 0 (sizes w)) (R .roots w) 0 ≡ some (count w)
@@ -129,7 +130,7 @@ module _ {K : Kind} {R : Reading K} (L : Read R) where
           links = λ i hi.
               let l : i < count w = omega arith in
               s .chained .linked .links i l ∙ ap (λ (x : ℕ). lastOf (hashAt w) x i) (hash-is i l) ∙ last-ext (hashAt w) H (H i) i (λ j hj. hash-is j (omega arith));
-          spare = λ i j hi hj g. s .spare i (omega arith) .zeros (8192 + 16 * i + j) (omega arith) (omega arith);
+          spare = λ i j hi hj. s .spared i j (omega arith) hj ∙ L .spare-shows (sizes w) M i j;
           clean = record { zeros = λ j hj g. h .clean .zeros j (omega arith) g };
         }
 
@@ -279,11 +280,9 @@ module _ {K : Kind} {R : Reading K} (L : Read R) where
           record {
             header = shown-header;
             nodes-ok = wf-node (L .goes) (L .faithful) w shown-sizes shown-wf shown-pad;
-            spare = λ i h. record {
-              zeros = λ j hj g.
-                  let e : j ≡ 8192 + 16 * i + (j - (8192 + 16 * i)) = omega arith in
-                  ap (λ (x : ℕ). getD w x 0) e ∙ d .spare i (j - (8192 + 16 * i)) (omega arith) (omega arith) (omega arith);
-            };
+            spared = λ i j h hj.
+                d .spare i j (omega arith) hj ∙ sym (L .spare-shows S N i j)
+                ∙ sym (ap₂ (λ (T : List ℕ) (A : List (Node K)). R .going .code .spareOf T A i j) sizes-said nodes-show);
             chained = shown-chained;
             roots-ok = λ q h.
                 good-sits (L .goes) w 0 (head w (32 + q))

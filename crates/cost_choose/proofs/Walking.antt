@@ -46,7 +46,7 @@ use Rattle.cost_nodes.specs.declared.Answer.{Answer}
 use Rattle.cost_nodes.specs.declared.Answer.the-variants.{Is, NoRoom}
 use Rattle.cost_nodes.proofs.Reading.{lawful, pos-from, sizes-from}
 use Rattle.cost_nodes.proofs.Stepping.{good-small, top-good, top-most}
-use Rattle.cost_nodes.proofs.Filling.{filling-ext}
+use Rattle.cost_nodes.proofs.Filling.{filling-ext, filling-narrow}
 use Rattle.cost_choose.specs.Choice.{by, Choosable, choice, choiceOf, endOf, Choices, Branches, Lowest}
 use Rattle.cost_choose.proofs.Choices.{by-moves, choice-step, choice-wait, choice-ext, choice-first, choice-second, choice-spread, choice-adds}
 
@@ -82,6 +82,7 @@ module _ (v w : List ℕ) (b x y m : ℕ) (d : ℤ) (l : Lowest v w b x y m) whe
           placed =
               placed-wait (nodes w) k (size w k) (drop (suc k) (sizes w)) (omega (arith, p .holds .laid .laid .large k left)) (target x) (target y) d (good-on x (p .first) (l .first)) (good-on y (p .second) (l .second))
               (subst (λ (ns : List ℕ). Placed costMost ns (nodes w) k (target x) (target y) d) (sizes-from w k left) (p .placed));
+          narrow = p .narrow;
         }
 
     one-built : built w k (C k) ≡ built w (suc k) (C (suc k))
@@ -197,6 +198,7 @@ module _ (v w : List ℕ) (k b x y : ℕ) (d : ℤ) (p : Choices v w k b x y d) 
               subst (λ (f : Branch costs). Placed costMost ns (nodes w) (suc k) (f .to) (target yb) (onward d (f .adds) (int e))) (sym ea)
               (subst (λ (h : Branch costs). Placed costMost ns (nodes w) (suc k) (branchAt (nodes w) k (target x) u .to) (h .to) (onward d (branchAt (nodes w) k (target x) u .adds) (h .adds))) (sym eb)
               (placed-step (nodes w) k (size w k) ns (target x) (target y) d pl u hu));
+          narrow = p .narrow;
         };
         ahead =
             subst (λ (h : Branch costs). Fit addMost (d +ℤ h .adds)) (sym eb)
@@ -207,8 +209,9 @@ module _ (v w : List ℕ) (k b x y : ℕ) (d : ℤ) (p : Choices v w k b x y d) 
       })
 
   -- in a table that holds more
-  pub choices-ext : (t : List ℕ) (g : Cost) (u : ℕ) (xs ys : List ℕ) → Filling w t k g u xs ys → k < features w → Choices v t k b x y d
-  choices-ext t g u xs ys f hk =
+  pub choices-ext : (t : List ℕ) (u : ℕ) (xs ys : List ℕ) → Filling w t k (choice (lent v k b) (nodes w) k (target x) (target y) d) u xs ys → k < features w → u ≤ size w k → Choices v t k b x y d
+  choices-ext t u xs ys f hk l =
+      let g : Cost = choice (lent v k b) (nodes w) k (target x) (target y) d in
       let kp = f .filled .grown .kept in
       let e : Ext (nodes w) (nodes t) = filling-ext w k g (p .holds) hk t u xs ys f in
       let z : sizes t ≡ sizes w = kept-sizes w t kp (p .holds .laid .laid .few) in
@@ -220,6 +223,7 @@ module _ (v w : List ℕ) (k b x y : ℕ) (d : ℤ) (p : Choices v w k b x y d) 
         first = ok-ext (nodes w) (nodes t) k (bare (target x)) e (p .first);
         second = ok-ext (nodes w) (nodes t) k (bare (target y)) e (p .second);
         placed = rw z (placed-ext (nodes w) k (sizes w) (p .holds .wf) (nodes t) e (drop k (sizes w)) (target x) (target y) d (p .first) (p .second) (p .placed));
+        narrow = filling-narrow w k g (p .holds) hk t u xs ys f l choice-near (p .narrow);
       }
 
 -- ---- two branches
@@ -297,6 +301,7 @@ module _ (v w : List ℕ) (b x a y c : ℕ) (p : Choosable v w b (branch x a) (b
           first = p .first;
           second = p .second;
           placed = subst (λ (z : ℤ). Placed costMost (sizes w) (nodes w) 0 (target x) (target y) (z -ℤ int a)) (sym none) (placed-start (nodes w) 0 (sizes w) (branch x a) (branch y c) (p .firstIn) (p .secondIn));
+          narrow = p .narrow;
         };
         ahead = subst (Fit addMost) (sym none) (wide (int c) (adds-fits (sizes w) (nodes w) (ok .wf) 0 (sizes w) ps (branch y c) (p .second) (p .secondIn)));
         whole =

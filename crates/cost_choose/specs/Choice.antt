@@ -10,7 +10,7 @@ use Rattle.theory.specs.Functions.{lift}
 use Rattle.theory.specs.Rules.{Rule}
 use Rattle.theory.specs.WellFormed.{Ok}
 use Rattle.cost_laws.specs.Integers.{Fit, int}
-use Rattle.cost_laws.specs.Narrow.{Placed}
+use Rattle.cost_laws.specs.Narrow.{Placed, Narrow}
 use Rattle.cost_laws.specs.Operations.{chosenOf}
 use Rattle.cost_laws.specs.Range.{Within, addMost, costMost}
 use Rattle.cost_laws.specs.Relative.{apartFrom, onward}
@@ -26,6 +26,7 @@ use Rattle.cost_nodes.specs.declared.Answer.the-variants.{Is}
 pub record Choosable (v w : List ℕ) (b : ℕ) (x y : Branch costs) : Type 0 where
   pub holds : Holds w
   pub rest : Resting w
+  pub narrow : Narrow addMost (sizes w) (nodes w)
   pub alike : sizes v ≡ sizes w
   pub rule : Lent v 0 b
   pub first : Ok (nodes w) 0 x
@@ -59,6 +60,7 @@ pub record Choices (v w : List ℕ) (k b x y : ℕ) (d : ℤ) : Type 0 where
   pub first : Good w k x
   pub second : Good w k y
   pub placed : Placed costMost (drop k (sizes w)) (nodes w) k (target x) (target y) d
+  pub narrow : Narrow addMost (sizes w) (nodes w)
 
 -- two branches of the cost table; no sum that is met leaves ±2,000,000,000
 pub record Branches (v w : List ℕ) (k b x a y c : ℕ) (d : ℤ) : Type 0 where

@@ -48,6 +48,7 @@ regular =
     record {
       faithful = faithful;
       bodies = body-shows;
+      spares = λ S N i j. refl;
       places = λ w w′ e p h.
           let q : 32 + (16 + p) ≡ 48 + p = omega arith in
           ap₂ branch (e p (omega arith)) (subst (λ (j : ℕ). head w′ j ≡ head w j) q (e (16 + p) (omega arith)));

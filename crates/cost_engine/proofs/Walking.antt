@@ -34,7 +34,8 @@ use Rattle.cost_nodes.specs.declared.Answer.{Answer}
 use Rattle.cost_nodes.specs.declared.Answer.the-variants.{Is, NoRoom}
 use Rattle.cost_nodes.proofs.Reading.{lawful, pos-from, sizes-from}
 use Rattle.cost_nodes.proofs.Stepping.{good-small, good-top, top-good, top-most, top-below}
-use Rattle.cost_nodes.proofs.Filling.{filling-ext}
+use Rattle.cost_nodes.proofs.Filling.{filling-ext, filling-narrow}
+use Rattle.cost_laws.specs.Narrow.{Narrow}
 use Rattle.cost_engine.specs.Joint.{opOf, together, joint, jointFrom, ahead, gap, Bounded, Joinable, Operands, Branches}
 use Rattle.cost_engine.specs.declared.operators.Operator.{Operator}
 use Rattle.cost_engine.proofs.Joining.{joint-none, joint-split, joint-step, joint-wait, joint-ext, joint-end}
@@ -83,6 +84,7 @@ module _ (w : List ℕ) (o : Operator) (k x y : ℕ) (d : ℤ) (p : Operands w o
           first = good-on x (p .first) hx;
           second = good-on y (p .second) hy;
           bounded = bounded-wait (nodes w) k (size w k) (drop (suc k) (sizes w)) (target x) (target y) d o (omega (arith, p .holds .laid .laid .large k skip-left)) (good-on x (p .first) hx) (good-on y (p .second) hy) (listed-bounded skip-left);
+          narrow = p .narrow;
         })
 
     pub joint-skip : (t : List ℕ) (a : Answer) → Result w t (k + 1) (jointFrom o (nodes w) (k + 1) (target x) (target y) d) a → Result w t k (jointFrom o (nodes w) k (target x) (target y) d) a
@@ -108,6 +110,7 @@ module _ (w : List ℕ) (o : Operator) (k x y : ℕ) (d : ℤ) (p : Operands w o
               subst (λ (f : Branch costs). Bounded o ns (nodes w) (suc k) (f .to) (target yb) (gap o d (f .adds) (int b))) (sym ea)
               (subst (λ (g : Branch costs). Bounded o ns (nodes w) (suc k) (branchAt (nodes w) k (target x) v .to) (g .to) (gap o d (branchAt (nodes w) k (target x) v .adds) (g .adds))) (sym eb)
               (bounded-step (nodes w) k (size w k) ns (target x) (target y) d o v hv c));
+          narrow = p .narrow;
         };
         lead =
             subst (λ (f : Branch costs). Fit addMost (ahead o (f .adds) (int b))) (sym ea)
@@ -129,20 +132,23 @@ module _ (w : List ℕ) (o : Operator) (k x y : ℕ) (d : ℤ) (p : Operands w o
       ∙ ap₂ (λ (f g : Branch costs). joint o (nodes t) (suc k) f g d s) (sym ea) (sym eb))
 
   -- in a table that holds more
-  pub operands-grown : (t : List ℕ) → Holds t → features t ≡ features w → sizes t ≡ sizes w → Ext (nodes w) (nodes t) → Operands t o k x y d
-  operands-grown t ok f z e =
+  pub operands-grown : (t : List ℕ) → Holds t → features t ≡ features w → sizes t ≡ sizes w → Ext (nodes w) (nodes t) → Narrow addMost (sizes t) (nodes t) → Operands t o k x y d
+  operands-grown t ok f z e nr =
       record {
         holds = ok;
         upTo = omega (arith, p .upTo);
         first = ok-ext (nodes w) (nodes t) k (bare (target x)) e (p .first);
         second = ok-ext (nodes w) (nodes t) k (bare (target y)) e (p .second);
         bounded = rw z (bounded-ext (sizes w) (nodes w) (nodes t) (p .holds .wf) e (drop k (sizes w)) k (target x) (target y) d (p .first) (p .second) o (p .bounded));
+        narrow = nr;
       }
 
-  pub operands-ext : (t : List ℕ) (g : Cost) (v : ℕ) (xs ys : List ℕ) → Filling w t k g v xs ys → k < features w → Operands t o k x y d
-  operands-ext t g v xs ys f hk =
+  pub operands-ext : (t : List ℕ) (v : ℕ) (xs ys : List ℕ) → Filling w t k (jointFrom o (nodes w) k (target x) (target y) d) v xs ys → k < features w → v ≤ size w k → Operands t o k x y d
+  operands-ext t v xs ys f hk l =
+      let g : Cost = jointFrom o (nodes w) k (target x) (target y) d in
       let kp = f .filled .grown .kept in
       operands-grown t (f .filled .grown .well) (kept-features w t kp) (kept-sizes w t kp (p .holds .laid .laid .few)) (filling-ext w k g (p .holds) hk t v xs ys f)
+      (filling-narrow w k g (p .holds) hk t v xs ys f l (p .bounded .spread) (p .narrow))
 
   -- both have ended
   pub joint-ends : (e : ℕ) → x + y ≡ 0 → int e ≡ opOf o (pos 0) d → Result w w k (jointFrom o (nodes w) k (target x) (target y) d) (Is 0 e)
@@ -210,6 +216,7 @@ module _ (w : List ℕ) (o : Operator) (x a y b : ℕ) (p : Joinable w o (branch
           first = p .first;
           second = p .second;
           bounded = bounded-start (sizes w) (nodes w) (ok .wf) 0 (sizes w) (pos-from w 0 ok) (branch x a) (branch y b) (p .first) (p .second) (p .firstIn) (p .secondIn) o (p .resultIn);
+          narrow = p .narrow;
         };
         lead = lead-start (sizes w) (nodes w) (ok .wf) 0 (sizes w) (pos-from w 0 ok) (branch x a) (branch y b) (p .first) (p .second) (p .firstIn) (p .secondIn) o (p .resultIn);
         whole = whole-start (sizes w) (nodes w) (ok .wf) 0 (sizes w) (pos-from w 0 ok) (branch x a) (branch y b) (p .first) (p .second) (p .firstIn) (p .secondIn) o (p .resultIn);

@@ -9,7 +9,7 @@ use Rattle.theory.specs.Diagrams.{Branch, Node, Target, meaning, value}
 use Rattle.theory.specs.Settings.{zeros}
 use Rattle.theory.specs.WellFormed.{Ok}
 use Rattle.cost_laws.specs.Integers.{Fit, int}
-use Rattle.cost_laws.specs.Narrow.{Placed, Spread}
+use Rattle.cost_laws.specs.Narrow.{Placed, Spread, Narrow}
 use Rattle.cost_laws.specs.Operations.{joined, smallerOf, largerOf}
 use Rattle.cost_laws.specs.Range.{Within, addMost, costMost}
 use Rattle.cost_laws.specs.Relative.{bare, onward}
@@ -36,6 +36,7 @@ together o f g = joined (opOf o) f g
 pub record Joinable (w : List ℕ) (o : Operator) (b c : Branch costs) : Type 0 where
   pub holds : Holds w
   pub rest : Resting w
+  pub narrow : Narrow addMost (sizes w) (nodes w)
   pub first : Ok (nodes w) 0 b
   pub second : Ok (nodes w) 0 c
   pub firstIn : Within costMost (sizes w) (meaning (nodes w) b)
@@ -86,6 +87,7 @@ pub record Operands (w : List ℕ) (o : Operator) (k x y : ℕ) (d : ℤ) : Type
   pub first : Good w k x
   pub second : Good w k y
   pub bounded : Bounded o (drop k (sizes w)) (nodes w) k (target x) (target y) d
+  pub narrow : Narrow addMost (sizes w) (nodes w)
 
 -- two branches of the table w, where features k and up are left
 pub record Branches (w : List ℕ) (o : Operator) (k x a y b : ℕ) (d : ℤ) : Type 0 where

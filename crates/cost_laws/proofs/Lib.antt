@@ -18,3 +18,7 @@ pub mod Passing
 pub mod Lowest
 pub mod Spots
 pub mod Seeking
+pub mod Owning
+pub mod Growing
+pub mod Example
+pub mod Nearing

@@ -6,3 +6,4 @@ pub mod Spots
 pub mod Extremes
 pub mod Relative
 pub mod Narrow
+pub mod Below

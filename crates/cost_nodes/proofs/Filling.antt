@@ -11,7 +11,7 @@ use lib.ListN.{length, getD, drop, set, length-set}
 use lib.Seq.{getD-set-same, getD-set-other, drop-cons}
 use Rattle.theory.specs.Build.{Built, Ext, build, make}
 use Rattle.theory.specs.Costs.{costs, Cost}
-use Rattle.theory.specs.Diagrams.{Branch, blank}
+use Rattle.theory.specs.Diagrams.{Branch, base, blank}
 use Rattle.theory.specs.Functions.{held, parts}
 use Rattle.theory.specs.Settings.{Valid, zeros}
 use Rattle.theory.specs.WellFormed.{Mean, Ok}
@@ -20,8 +20,15 @@ use Rattle.theory.proofs.Meaning.{Rights, build-right, each-right}
 use Rattle.theory.proofs.Ranges.{zeros-valid}
 use Rattle.theory.proofs.Values.{means-at, value-zeros}
 use Rattle.cost_laws.specs.Integers.{Fit, int}
-use Rattle.cost_laws.specs.Narrow.{Spread}
+use Rattle.cost_laws.specs.Narrow.{Spread, Narrow}
+use Rattle.cost_laws.proofs.Narrow.{branches-narrow}
+use Rattle.cost_laws.proofs.Nearing.{arms-near}
+use Rattle.cost_words.proofs.Summing.{way}
+use Rattle.theory.specs.Settings.{Pos}
 use Rattle.cost_laws.specs.Range.{addMost}
+use Rattle.cost_laws.specs.Extremes.{Passed, along}
+use Rattle.cost_words.specs.Kept.{kept}
+use Rattle.cost_words.specs.Sums.{sideOf}
 use Rattle.cost_laws.proofs.Relative.{offs}
 use Rattle.words.specs.Holding as H
 use Rattle.words.specs.Holding.{eachTo}
@@ -88,8 +95,10 @@ module _ (w : List ℕ) (k : ℕ) (g : Cost) (ok : Holds w) (hk : k < features w
   same-size t x a f = kept-size w t (f .filled .grown .kept) (ok .laid .laid .few) k hk
 
   -- `make` may be asked
-  pub fill-armed : (t x a : List ℕ) → Filling w t k g (size w k) x a → ((v : ℕ) → v < size w k → Fit addMost (int (listed a v) -ℤ int (listed a 0))) → Armed t k x a
-  fill-armed t x a f near =
+  pub fill-armed : (t x a : List ℕ) → Filling w t k g (size w k) x a → ((v : ℕ) → v < size w k → Fit addMost (int (listed a v) -ℤ int (listed a 0))) →
+      ((up : Bool) (v : ℕ) → v < size w k → Fit addMost (along (kept up t) (branch (listed x v) (listed a v)) -ℤ int (listed a 0))) →
+      ((up : Bool) → Passed (sideOf up) (nodes t) (length (nodes t)) (kept up t)) → Armed t k x a
+  fill-armed t x a f near sums paired =
       let s : size t k ≡ size w k = same-size t x a f in
       record {
         each = λ v h.
@@ -97,6 +106,8 @@ module _ (w : List ℕ) (k : ℕ) (g : Cost) (ok : Holds w) (hk : k < features w
             (F.fill-ok lawful w k g ok hs t (arms (size w k) x a) (full t x a f) v (omega (arith, at-sizes w k hk)));
         pad = λ v l h. f .pad v (omega arith) h;
         near = λ v h. near v (omega arith);
+        sums = λ up v h. sums up v (omega arith);
+        paired = paired;
       }
 
   -- what branch v adds is what g has there, where the other features are 0
@@ -124,6 +135,35 @@ module _ (w : List ℕ) (k : ℕ) (g : Cost) (ok : Holds w) (hk : k < features w
       let l : drop k (sizes w) ≡ size w k ∷ ns = drop-cons (sizes w) k 0 hs ∙ ap (λ (n : ℕ). n ∷ ns) (at-sizes w k hk) in
       let r : Spread addMost (size w k ∷ ns) g = subst (λ (ms : List ℕ). Spread addMost ms g) l sp in
       subst (Fit addMost) (sym (λ i. fill-adds t x a f v h i -ℤ fill-adds t x a f 0 (omega arith) i)) (r .apart (v ∷ zeros ns) (0 ∷ zeros ns) (h, z) (omega arith, z))
+
+  -- the nodes stay narrow while a cost of this spread is filled in
+  pub filling-narrow : (t : List ℕ) (v : ℕ) (x a : List ℕ) → Filling w t k g v x a → v ≤ size w k → Spread addMost (drop k (sizes w)) g → Narrow addMost (sizes w) (nodes w) → Narrow addMost (sizes t) (nodes t)
+  unfolding eachTo
+  filling-narrow t v x a f l sp nr =
+      let n : ℕ = getD (sizes w) k 0 in
+      let ns : List ℕ = drop (suc k) (sizes w) in
+      let c : drop k (sizes w) ≡ n ∷ ns = drop-cons (sizes w) k 0 hs in
+      let e : nodes t ≡ eachTo layout w k g v .1 = F.grown-nodes lawful w t (eachTo layout w k g v .1) (f .filled .grown) (f .filled .fits) in
+      let s : sizes t ≡ sizes w = lawful .kept-sizes w t (ok .laid) (f .filled .grown .kept) in
+      rw (s, e) (branches-narrow (sizes w) k n ns c g (subst (λ (ms : List ℕ). Spread addMost ms g) c sp) v (omega (arith, at-sizes w k hk)) (nodes w) (ok .wf) nr)
+
+  -- the sums below the new node lie no further from 0 than the cost's amounts lie apart
+  pub fill-sums : (t x a : List ℕ) → Filling w t k g (size w k) x a → Spread addMost (drop k (sizes w)) g → (up : Bool) → Passed (sideOf up) (nodes t) (length (nodes t)) (kept up t) →
+      (v : ℕ) → v < size w k → Fit addMost (along (kept up t) (branch (listed x v) (listed a v)) -ℤ int (listed a 0))
+  unfolding eachTo
+  fill-sums t x a f sp up q v h =
+      let n : ℕ = getD (sizes w) k 0 in
+      let ns : List ℕ = drop (suc k) (sizes w) in
+      let en : size w k ≡ n = sym (at-sizes w k hk) in
+      let c : drop k (sizes w) ≡ n ∷ ns = drop-cons (sizes w) k 0 hs in
+      let e : nodes t ≡ eachTo layout w k g n .1 = F.grown-nodes lawful w t (eachTo layout w k g n .1) (full t x a f .grown) (full t x a f .fits) in
+      let b : arms (size w k) x a ≡ eachTo layout w k g n .0 = full t x a f .says in
+      let r : Rights (sizes w) (suc k) ns (parts 0 n g) (nodes w) (eachTo layout w k g n) =
+      each-right (sizes w) (suc k) ns (build (suc k) ns) (build-right (sizes w) (suc k) ns refl) (parts 0 n g) (nodes w) (ok .wf) in
+      let y : Fit addMost (along (kept up t) (getD (arms (size w k) x a) v blank) -ℤ base (arms (size w k) x a)) =
+      arms-near (way up) (sizes w) k n ns c (subst Pos c (pos-drop k (sizes w) (lawful .positive w (ok .laid)))) (nodes t) (rw e (r .wfs)) (kept up t) q g (arms (size w k) x a) (rw (e, b) (r .means)) (subst (λ (ms : List ℕ). Spread addMost ms g) c sp) v (omega arith) in
+      subst (Fit addMost)
+      (ap₂ (λ (p q : Branch costs). along (kept up t) p -ℤ q .adds) (getD-tab (λ u. branch (listed x u) (listed a u)) (size w k) v blank h) (getD-tab (λ u. branch (listed x u) (listed a u)) (size w k) 0 blank (omega arith))) y
 
   -- and its answer is the result
   pub fill-make : (t t′ x a : List ℕ) (o : Answer) → Filling w t k g (size w k) x a → Makes t t′ k x a o → Result w t′ k g o

@@ -1,9 +1,10 @@
 -- The laws of `find` and `make`: those of every kind, for packed bodies whose branch 0 adds nothing. Assumes nothing.
-use mathlib.Core.Path.{_≡_, sym, ap, ap₂, subst, _∙_}
+use mathlib.Core.Path.{_≡_, refl, sym, ap, ap₂, subst, _∙_}
 use mathlib.Core.Logic.{⊎-elim}
-use mathlib.Core.List.{List, map}
+use mathlib.Core.Bool.{Bool, true, false}
+use mathlib.Core.List.{List, [], _∷_, _++_, map}
 use mathlib.Core.Option.{Option, none, some}
-use Prim.Native.Nat.{ℕ, suc, _+_, _≤_, _<_}
+use Prim.Native.Nat.{ℕ, zero, suc, _+_, _≤_, _<_}
 use native.Mathlib.Omega.{arith}
 use lib.IntN.{ℤ, _+ℤ_, _-ℤ_, +ℤ-idr}
 use lib.ListN.{length, getD, length-map}
@@ -15,18 +16,25 @@ use Rattle.theory.specs.Diagrams.{Branch, blank, up}
 use Rattle.theory.specs.WellFormed.{Ok}
 use Rattle.theory.proofs.Lists.{getD-map-in}
 use Rattle.theory.proofs.Offsets.{Level, branchTo}
-use Rattle.cost_laws.specs.Integers.{int}
+use Rattle.cost_laws.specs.Integers.{Fit, int}
+use Rattle.cost_laws.specs.Range.{addMost}
+use Rattle.cost_laws.specs.Extremes.{across, along, keptAt, own}
+use Rattle.cost_laws.proofs.Extremes.{across-ext}
 use Rattle.cost_laws.proofs.Integers.{ℕ-eq, sum-ℕ, minus-ℕ, minus-self}
 use Rattle.cost_laws.proofs.Words.{int-one}
 use Rattle.words.specs.Coding.{branches}
 use Rattle.words.specs.Holding as H
-use Rattle.words.specs.Words.{capacity, features, size, count, listed}
+use Rattle.words.specs.Words.{capacity, features, size, sizes, count, listed}
+use Rattle.words.proofs.Coding.{length-nodes}
 use Rattle.words.proofs.Filling.{raised, gives-lift}
 use Rattle.words.proofs.Tab.{split, length-tab, getD-tab}
-use Rattle.records.specs.Changes.{Pushed, RecordIs, Finds as FindsRecord}
-use Rattle.records.specs.Nodes.{Listed, Absent}
+use Rattle.records.specs.Changes.{pairOf, Pushed, RecordIs, Finds as FindsRecord}
+use Rattle.records.specs.Nodes.{Listed, nodeOf, Behind, Absent}
 use Rattle.records.proofs.Making as M
-use Rattle.cost_words.specs.Words.{branch, goes, added, code, packed, nodes}
+use Rattle.cost_words.specs.Kept.{kept, armSum, Bodied, Sides}
+use Rattle.cost_words.specs.Sums.{sideOf}
+use Rattle.cost_words.specs.Words.{branch, goes, added, code, packed, pairWord, nodes}
+use Rattle.cost_words.proofs.Pairing.{new-pair}
 use Rattle.cost_words.specs.declared.Target.{Target as CodeTarget}
 use Rattle.cost_words.proofs.Packing.{target-node, target-one, int-zero, packed-goes, packed-added, faithful}
 use Rattle.cost_nodes.specs.Nodes.{layout, Holds, Levelled, AllSame, Finds, arms, Armed, Lowered, Makes}
@@ -93,6 +101,9 @@ small-target w k x a ok ar v h = ⊎-elim
 back : (z y : ℤ) → z +ℤ (y -ℤ z) ≡ y
 back z y = ℕ-eq (z +ℤ (y -ℤ z)) y (omega (arith, sum-ℕ z (y -ℤ z), minus-ℕ y z))
 
+turn : (y z u : ℤ) → (y -ℤ z) +ℤ u ≡ (y +ℤ u) -ℤ z
+turn y z u = ℕ-eq ((y -ℤ z) +ℤ u) ((y +ℤ u) -ℤ z) (omega (arith, minus-ℕ y z, sum-ℕ (y -ℤ z) u, sum-ℕ y u, minus-ℕ (y +ℤ u) z))
+
 -- the body l has the targets x, and what a adds more than its first
 module _ (w : List ℕ) (k : ℕ) (x a r l : List ℕ) (ok : Holds w) (hk : k < features w) (ar : Armed w k x a) (lo : Lowered (size w k) a r)
     (e : (v : ℕ) → v < 12 → getD l v 0 ≡ packed (listed x) (listed r) v) where
@@ -158,11 +169,56 @@ module _ (w : List ℕ) (k : ℕ) (x a r l : List ℕ) (ok : Holds w) (hk : k < 
   answered w′ y g =
       subst (λ (b : Branch costs). H.Gives layout w w′ (make k (arms m x a) (nodes w)) (some b)) (raised-is y) (lifted w′ (some (branch y 2147483648)) g)
 
-  pub made-new : (w′ : List ℕ) (y : ℕ) → Absent code w k l → count w < capacity w → y ≡ suc (count w) → Pushed w w′ k l → Makes w w′ k x a (Is y (listed a 0))
-  made-new w′ y ab less d p =
+  -- ---- the pair of the new node
+  -- the sum along branch v: that of the branch asked for, less what the first adds
+  sum-is : (up : Bool) (v : ℕ) → v < m → armSum up w l v ≡ along (kept up w) (branch (listed x v) (listed a v)) -ℤ z
+  sum-is up v h =
+      ap (along (kept up w)) (arm-is v (omega (arith, size-is)))
+      ∙ ap (λ (c : ℤ). c +ℤ keptAt (kept up w) (branch (listed x v) 0 .to)) (lo .each v h)
+      ∙ turn (int (listed a v)) z (keptAt (kept up w) (branch (listed x v) 0 .to))
+
+  -- the sums along the first branches may be asked for, ..
+  pub bodied : (n : ℕ) → 1 ≤ n → n ≤ m → Bodied w l n
+  bodied n h b =
+      record {
+        some = h;
+        most = omega (arith, size-is);
+        near = λ v hv.
+            let y : goes (listed l) v ≤ count w = ok-small w (suc k) (goes (listed l) v) (added (listed l) v) (fits .each v (omega arith)) in
+            record { room = omega (arith, ok .laid .laid .room, ok .laid .laid .within); most = omega (arith, ok .laid .laid .most, ok .laid .laid .within) };
+      }
+
+  -- .. none is lost, ..
+  sides-are : (up : Bool) (r : ℕ) → Sides up w l m r → int r ≡ across (sideOf up) (armSum up w l) m
+  sides-are up zero s = absurd (s .lost refl (λ v h. subst (Fit addMost) (sym (sum-is up v h)) (ar .sums up v h)))
+  sides-are up (suc r) s = s .stands (omega arith)
+
+  -- .. and the furthest are the new node's own
+  own-is : (up : Bool) → across (sideOf up) (armSum up w l) m ≡ own (sideOf up) (kept up w) (nodeOf code w k l)
+  unfolding own
+  own-is up =
+      across-ext (sideOf up) (armSum up w l) (λ v. along (kept up w) (getD (branches code m (listed l)) v blank)) m (λ v h. ap (along (kept up w)) (sym (getD-tab (code .arm (listed l)) m v blank h)))
+      ∙ ap (across (sideOf up) (λ v. along (kept up w) (getD (branches code m (listed l)) v blank))) (sym (length-tab (code .arm (listed l)) m))
+
+  -- so they are its spare words
+  behind : (c d : ℕ) → Absent code w k l → Sides false w l m c → Sides true w l m d → Behind code w k l c d
+  behind c d ab ec ed = go
+    where
+      pair : (c ≡ pairWord (sizes w) (nodes w ++ (nodeOf code w k l ∷ [])) (length (nodes w)) 0) × (d ≡ pairWord (sizes w) (nodes w ++ (nodeOf code w k l ∷ [])) (length (nodes w)) 1)
+      pair =
+          new-pair (sizes w) (lawful .positive w (ok .laid)) (nodes w) (nodeOf code w k l) (M.new-wf faithful w k l ok hk fits (level-bs w k l ok hk levelled) ab) (λ up. kept up w) (ar .paired) c d (sides-are false c ec ∙ own-is false) (sides-are true d ed ∙ own-is true)
+
+      go : (j : ℕ) → j < 2 → pairOf c d j ≡ pairWord (sizes w) (nodes w ++ (nodeOf code w k l ∷ [])) (count w) j
+      go zero h = pair .0 ∙ ap (λ (i : ℕ). pairWord (sizes w) (nodes w ++ (nodeOf code w k l ∷ [])) i 0) (length-nodes code w)
+      go (suc zero) h = pair .1 ∙ ap (λ (i : ℕ). pairWord (sizes w) (nodes w ++ (nodeOf code w k l ∷ [])) i 1) (length-nodes code w)
+      go (suc (suc j)) h = absurd (omega arith)
+
+  pub made-new : (w′ : List ℕ) (y c d n n′ : ℕ) → Absent code w k l → count w < capacity w → y ≡ suc (count w) → n ≡ m → n′ ≡ m → Sides false w l n c → Sides true w l n′ d → Pushed w w′ k l c d → Makes w w′ k x a (Is y (listed a 0))
+  made-new w′ y c b n n′ ab less d en en′ ec eb p =
       answered w′ y
       (subst (λ (b : Branch costs). H.Gives layout w w′ (make k (branches code m (listed l)) (nodes w)) (some b)) (node-branch y (count w) d)
-      (M.made-new faithful w k l ok hk fits (level-bs w k l ok hk levelled) w′ ab less p))
+      (M.made-new faithful w k l ok hk fits (level-bs w k l ok hk levelled) w′ ab less
+      (behind c b ab (subst (λ (q : ℕ). Sides false w l q c) en ec) (subst (λ (q : ℕ). Sides true w l q b) en′ eb)) p))
 
   pub made-none : Absent code w k l → (count w < capacity w → ⊥) → Makes w w k x a NoRoom
   made-none ab full = lifted w none (M.made-none faithful w k l ok hk fits (level-bs w k l ok hk levelled) ab full)

@@ -1,4 +1,5 @@
--- A cost table is a lawful holder, the features that are left from one on, and its target words are small. Assumes nothing.
+-- A cost table is a lawful holder, the features that are left from one on, its target words are small, and it keeps each node's own pair. Assumes nothing.
+use mathlib.Core.Bool.{Bool}
 use mathlib.Core.Path.{_≡_, ap, _∙_}
 use mathlib.Core.List.{List, _∷_}
 use Prim.Native.Nat.{ℕ, suc, _≤_, _<_}
@@ -7,12 +8,18 @@ use lib.ListN.{length, drop}
 use Rattle.theory.specs.Settings.{Pos}
 use Rattle.theory.specs.WellFormed.{Ok}
 use Rattle.theory.proofs.Lists.{pos-drop}
+use Rattle.cost_laws.specs.Extremes.{Passed}
+use Rattle.cost_laws.specs.Narrow.{Narrow}
+use Rattle.cost_laws.specs.Range.{addMost}
 use Rattle.words.specs.Holding.{Lawful}
 use Rattle.words.specs.Words.{features, size, sizes, count}
 use Rattle.words.proofs.Filling as F
 use Rattle.words.proofs.Words.{length-sizes, at-sizes}
 use Rattle.records.proofs.Making as M
+use Rattle.cost_words.specs.Kept.{kept}
+use Rattle.cost_words.specs.Sums.{sideOf}
 use Rattle.cost_words.specs.Words.{branch, code, nodes}
+use Rattle.cost_words.proofs.Pairing.{spared-pairs, pairs-passed}
 use Rattle.cost_words.proofs.Reading.{length-nodes, under-word}
 use Rattle.cost_nodes.specs.Nodes.{layout, Holds}
 
@@ -29,3 +36,7 @@ sizes-from w k h = F.sizes-from lawful w k (omega (arith, length-sizes w)) ∙ a
 -- a target word of the table
 pub ok-small : (w : List ℕ) (k x a : ℕ) → Ok (nodes w) k (branch x a) → x ≤ count w
 ok-small w k x a g = omega (arith, under-word (nodes w) (length (nodes w)) k x g, length-nodes w)
+
+-- the table keeps each node's own, where its nodes are narrow
+pub holds-passed : (w : List ℕ) → Holds w → Narrow addMost (sizes w) (nodes w) → (up : Bool) → Passed (sideOf up) (nodes w) (length (nodes w)) (kept up w)
+holds-passed w ok nr = pairs-passed w (lawful .positive w (ok .laid)) (ok .wf) (spared-pairs w (lawful .positive w (ok .laid)) (ok .wf) nr (ok .laid .spared))

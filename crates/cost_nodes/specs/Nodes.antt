@@ -12,11 +12,14 @@ use Rattle.theory.specs.Diagrams.{Branch, Node}
 use Rattle.theory.specs.WellFormed.{Ok, Under}
 use Rattle.cost_laws.specs.Integers.{Fit, int}
 use Rattle.cost_laws.specs.Range.{addMost}
+use Rattle.cost_laws.specs.Extremes.{Passed, along}
 use Rattle.words.specs.Coding.{branches}
 use Rattle.words.specs.Holding as H
 use Rattle.words.specs.Tab.{tab}
 use Rattle.words.specs.Words.{features, size, sizes, feature, listed}
 use Rattle.records.specs.Nodes as R
+use Rattle.cost_words.specs.Kept.{kept}
+use Rattle.cost_words.specs.Sums.{sideOf}
 use Rattle.cost_words.specs.Words.{target, branch, goes, added, code, nodes, wordOf}
 use Rattle.cost_nodes.specs.declared.Found.{Found}
 use Rattle.cost_nodes.specs.declared.Found.the-variants.{At, Missing}
@@ -73,11 +76,13 @@ Finds w k l Missing = R.Absent code w k l
 abbrev pub arms : ℕ → List ℕ → List ℕ → List (Branch costs)
 arms m x a = tab (λ v. branch (listed x v) (listed a v)) m
 
--- targets and added words for feature k: 0 past its size, and no two added integers too far apart
+-- targets and added words for feature k: 0 past its size, no two added integers too far apart, nor the sums below; and the table keeps each node's own
 pub record Armed (w : List ℕ) (k : ℕ) (x a : List ℕ) : Type 0 where
   pub each : (v : ℕ) → v < size w k → Ok (nodes w) (suc k) (branch (listed x v) (listed a v))
   pub pad : (v : ℕ) → size w k ≤ v → v < 8 → listed x v ≡ 0
   pub near : (v : ℕ) → v < size w k → Fit addMost (int (listed a v) -ℤ int (listed a 0))
+  pub sums : (up : Bool) (v : ℕ) → v < size w k → Fit addMost (along (kept up w) (branch (listed x v) (listed a v)) -ℤ int (listed a 0))
+  pub paired : (up : Bool) → Passed (sideOf up) (nodes w) (length (nodes w)) (kept up w)
 
 -- r has what the added words a add more than the first, and 0 past the first m
 pub record Lowered (m : ℕ) (a r : List ℕ) : Type 0 where

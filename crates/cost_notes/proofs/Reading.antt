@@ -1,16 +1,27 @@
 -- What a cost table says is what its words without notes say, and `make` adds to these. Assumes nothing.
-use mathlib.Core.Path.{_≡_, sym, ap, _∙_}
+use mathlib.Core.Bool.{Bool, true, false}
+use mathlib.Core.Path.{_≡_, refl, sym, ap, subst, _∙_}
 use mathlib.Core.List.{List}
 use Prim.Native.Nat.{ℕ, zero, suc, _+_, _≤_, _<_}
 use native.Mathlib.Omega.{arith}
-use Rattle.words.specs.Words.{head, features, size, count}
+use lib.IntN.{ℤ, _+ℤ_, _-ℤ_}
+use lib.ListN.{length}
+use Rattle.cost_laws.specs.Integers.{Fit, int}
+use Rattle.cost_laws.specs.Range.{addMost}
+use Rattle.cost_laws.specs.Extremes.{Passed, keptAt}
+use Rattle.cost_laws.proofs.Passing.{own-ext}
+use Rattle.words.specs.Words.{head, features, size, sizes, count, listed}
 use Rattle.records.specs.Laid.{Laid}
 use Rattle.notes.specs.Plain.{plain}
 use Rattle.notes.proofs.Alike.{Like, plain-like, like-head, like-sym, like-size, like-record, like-nodes, like-laid, like-holds, plain-grown}
-use Rattle.cost_words.specs.Words.{target, branch, code, nodes}
+use Rattle.cost_words.specs.Kept.{kept}
+use Rattle.cost_words.specs.Sums.{sideOf}
+use Rattle.cost_words.specs.Words.{target, nodes}
+use Rattle.cost_words.proofs.Reading.{length-nodes}
 use Rattle.cost_words.proofs.Packing.{faithful}
 use Rattle.cost_nodes.specs.Nodes.{Holds, Armed, Makes, top, Place}
 use Rattle.cost_nodes.specs.declared.Answer.{Answer}
+use Rattle.cost_nodes.proofs.Reading.{ok-small}
 
 -- words alike past the near records
 module _ {w u : List ℕ} (e : Like w u) where
@@ -24,11 +35,36 @@ module _ {w u : List ℕ} (e : Like w u) where
       let n = like-nodes e (p .holds .laid .laid) faithful in
       record { holds = like-holds e faithful (p .holds); good = rw n (p .good); upTo = omega (arith, p .upTo, like-head e 2 (omega arith)) }
 
+  -- what is kept for the nodes is the same
+  like-kept : Laid w → (up : Bool) (i : ℕ) → i < count w → kept up u i ≡ kept up w i
+  like-kept d true i h = ap int (like-record e d i 15 h (omega arith))
+  like-kept d false i h = ap int (like-record e d i 14 h (omega arith))
+
+  like-at : Laid w → (up : Bool) (x : ℕ) → x ≤ count w → keptAt (kept up u) (target x) ≡ keptAt (kept up w) (target x)
+  unfolding target
+  like-at d up zero h = refl
+  like-at d up (suc i) h = like-kept d up i h
+
+  like-passed : Holds w → (up : Bool) → Passed (sideOf up) (nodes w) (length (nodes w)) (kept up w) → Passed (sideOf up) (nodes w) (length (nodes w)) (kept up u)
+  like-passed ok up q =
+      record {
+        each = λ i h. like-kept (ok .laid .laid) up i (omega (arith, length-nodes w)) ∙ q .each i h
+            ∙ sym (own-ext (sideOf up) (sizes w) (nodes w) (ok .wf) (kept up w) (kept up u) i h (λ j l. like-kept (ok .laid .laid) up j (omega (arith, length-nodes w))));
+      }
+
   like-armed : (k : ℕ) (x a : List ℕ) → Holds w → k < features w → Armed w k x a → Armed u k x a
   like-armed k x a ok h r =
       let n = like-nodes e (ok .laid .laid) faithful in
       let s : size u k ≡ size w k = like-size e (ok .laid .laid) k h in
-      record { each = λ v l. rw n (r .each v (omega arith)); pad = λ v l b. r .pad v (omega arith) b; near = λ v l. r .near v (omega arith) }
+      record {
+        each = λ v l. rw n (r .each v (omega arith));
+        pad = λ v l b. r .pad v (omega arith) b;
+        near = λ v l. r .near v (omega arith);
+        sums = λ up v l.
+            let y : v < size w k = omega arith in
+            subst (λ (z : ℤ). Fit addMost ((int (listed a v) +ℤ z) -ℤ int (listed a 0))) (sym (like-at (ok .laid .laid) up (listed x v) (ok-small w (suc k) (listed x v) (listed a v) (r .each v y)))) (r .sums up v y);
+        paired = λ up. rw n (like-passed ok up (r .paired up));
+      }
 
 -- ---- without notes
 module _ (w : List ℕ) where
@@ -49,6 +85,9 @@ module _ (w : List ℕ) where
 
   pub noted-place : (k x : ℕ) → Place (plain w) k x → Place w k x
   noted-place k x p = like-place with-notes k x p
+
+  pub noted-kept : Laid (plain w) → (up : Bool) (x : ℕ) → x ≤ count (plain w) → keptAt (kept up w) (target x) ≡ keptAt (kept up (plain w)) (target x)
+  noted-kept d up x h = like-at with-notes d up x h
 
   pub noted-nodes : Laid (plain w) → nodes w ≡ nodes (plain w)
   noted-nodes d = like-nodes with-notes d faithful

@@ -22,6 +22,7 @@ use Rattle.settings.specs.declared.refusals.Outcome.the-variants.{Refused}
 use Rattle.words.specs.Words.{sizes}
 use Rattle.notes.specs.Plain.{Resting}
 use Rattle.cost_words.specs.Words.{nodes, rootAt, costOf}
+use Rattle.cost_sound.proofs.Pictures.{sound-narrow}
 use Rattle.cost_sound.specs.Sound.{Sound}
 use Rattle.cost_nodes.specs.Nodes.{Result}
 use Rattle.cost_nodes.specs.declared.Answer.{Answer}
@@ -75,6 +76,7 @@ module _ {w : List ℕ} (s : Sound w) (o : Operator) (b c : Branch costs) (p q :
   operable hp hq f = record {
     holds = sound-holds s;
     rest = sound-rest s;
+    narrow = sound-narrow s;
     first = subst (Ok (nodes w) 0) (sym eb) (sound-root s p hp);
     second = subst (Ok (nodes w) 0) (sym ec) (sound-root s q hq);
     firstIn = subst (λ (d : Branch costs). Within costMost (sizes w) (meaning (nodes w) d)) (sym eb) (s .ranged .ranged p hp);

@@ -4,11 +4,11 @@ use mathlib.Core.Logic.{_⊎_, ⊎-elim}
 use mathlib.Core.List.{List, map}
 use Prim.Native.Nat.{ℕ, suc, _≤_, _<_}
 use native.Mathlib.Omega.{arith}
-use lib.IntN.{ℤ, pos}
+use lib.IntN.{ℤ, pos, _-ℤ_, +ℤ-idr}
 use lib.ListN.{length, getD, length-map, replicate, getD-replicate}
 use lib.Seq.{ext-getD}
-use Rattle.theory.specs.Costs.{to-end}
-use Rattle.theory.specs.Diagrams.{blank}
+use Rattle.theory.specs.Costs.{costs, to-end}
+use Rattle.theory.specs.Diagrams.{Branch, blank}
 use Rattle.theory.specs.WellFormed.{Ok}
 use Rattle.theory.proofs.Lists.{getD-map-in}
 use Rattle.settings.specs.declared.refusals.Refusal.the-variants.{Damaged, BadPlace, BadArgument}
@@ -16,7 +16,10 @@ use Rattle.settings.specs.declared.refusals.Outcome.{Outcome}
 use Rattle.settings.specs.declared.refusals.Outcome.the-variants.{Refused}
 use Rattle.settings.proofs.Endings.{stop, pass}
 use Rattle.cost_laws.specs.Operations.{priced}
-use Rattle.cost_laws.specs.Range.{costMost}
+use Rattle.cost_laws.specs.Range.{addMost, costMost}
+use Rattle.cost_laws.specs.Integers.{Fit, int}
+use Rattle.cost_laws.specs.Extremes.{along}
+use Rattle.cost_laws.specs.Narrow.{Narrow}
 use Rattle.cost_laws.proofs.Integers.{fit-minus}
 use Rattle.cost_laws.proofs.Prices.{build-priced}
 use Rattle.words.specs.Holding.{built as builtOf}
@@ -25,9 +28,10 @@ use Rattle.words.proofs.Tab.{length-tab, getD-tab}
 use Rattle.words.proofs.Words.{length-sizes, at-sizes}
 use Rattle.cost_words.specs.Words.{branch, nodes}
 use Rattle.cost_words.proofs.Packing.{target-end}
+use Rattle.cost_words.specs.Kept.{kept}
 use Rattle.cost_nodes.specs.Nodes.{Holds, Makes, Result, Armed, arms}
 use Rattle.cost_nodes.specs.declared.Answer.{Answer}
-use Rattle.cost_nodes.proofs.Reading.{lawful}
+use Rattle.cost_nodes.proofs.Reading.{lawful, holds-passed}
 use Rattle.cost_sound.specs.Sound.{Sound}
 use Rattle.costs.proofs.Answering.{write-refused}
 use Rattle.cost_settling.specs.Settling.{Puts}
@@ -46,12 +50,16 @@ module _ (w : List ℕ) (f : ℕ) (l : List ℤ) (a : List ℕ) (ok : Holds w) (
   arm v h = λ i. record { adds = words .each v (omega (arith, d .long)) i; to = target-end (listed ends v) (getD-replicate 8 v 0 0 (omega (arith, most))) i }
 
   -- `make` may be asked
-  pub price-armed : Armed w f ends a
-  price-armed = record {
+  pub price-armed : Narrow addMost (sizes w) (nodes w) → Armed w f ends a
+  price-armed nr = record {
     each = λ v h. subst (Ok (nodes w) (suc f)) (sym (arm v h)) tt;
     pad = λ v m h. getD-replicate 8 v 0 0 h;
     near = λ v h. let hv : v < length l = omega (arith, d .long) in let h0 : 0 < length l = omega arith in
         rw (words .each v hv, words .each 0 h0) (fit-minus costMost costMost (getD l v (pos 0)) (getD l 0 (pos 0)) (d .priced .each v hv) (d .priced .each 0 h0));
+    sums = λ up v h. let hv : v < length l = omega (arith, d .long) in let h0 : 0 < length l = omega arith in
+        subst (λ (b : Branch costs). Fit addMost (along (kept up w) b -ℤ int (listed a 0))) (sym (arm v h))
+        (subst (Fit addMost) (sym (λ i. +ℤ-idr (getD l v (pos 0)) i -ℤ words .each 0 h0 i)) (fit-minus costMost costMost (getD l v (pos 0)) (getD l 0 (pos 0)) (d .priced .each v hv) (d .priced .each 0 h0)));
+    paired = holds-passed w ok nr;
   }
 
   -- the branches are the prices

@@ -1,60 +1,62 @@
 -- RANGE from the ends of a cost; scaled costs; what each operation asks and tells. Assumes nothing.
-use mathlib.Core.Bool.{Bool, false}
-use mathlib.Core.Path.{_≡_, refl, sym, ap, subst, _∙_}
+use mathlib.Core.Bool.{Bool}
+use mathlib.Core.Path.{_≡_, sym, ap, subst, _∙_}
 use mathlib.Core.List.{List}
 use Prim.Native.Nat.{ℕ, _+_, _-_, _*_, _≤_, _<_}
 use native.Mathlib.Nat.{add-mul, mul-add, mul-le-mul-left, mul-le-mul-right}
 use native.Mathlib.Omega.{arith}
 use lib.Dec.{leb}
-use lib.IntN.{ℤ, pos, negsuc, _+ℤ_, _*ℤ_, +ℤ-idr}
-use Rattle.theory.specs.Costs.{Cost, amount, costs}
-use Rattle.theory.specs.Diagrams.{Branch, ending, meaning, value}
-use Rattle.theory.specs.Functions.{Agree}
+use lib.IntN.{ℤ, pos, negsuc, _+ℤ_, _*ℤ_}
+use Rattle.theory.specs.Costs.{Cost, costs}
+use Rattle.theory.specs.Diagrams.{Branch, meaning}
 use Rattle.theory.specs.Settings.{Pos}
-use Rattle.theory.proofs.Values.{value-ending}
+use Rattle.cost_laws.specs.Extremes.{extreme, keptAt}
 use Rattle.cost_laws.specs.Integers.{rise, fall, Fit, int}
 use Rattle.cost_laws.specs.Operations.{scaled}
 use Rattle.cost_laws.specs.Range.{Within, addMost, costMost}
 use Rattle.cost_laws.proofs.Extremes.{low, high, extreme-taken}
 use Rattle.cost_laws.proofs.Integers.{fit-more, rise-near, fall-near}
+use Rattle.cost_laws.proofs.Passing.{place-extreme}
 use Rattle.cost_laws.proofs.Products.{mul-rise, mul-fall}
 use Rattle.cost_laws.proofs.Range.{extreme-fits, within-exactly, lowest-scaled, highest-scaled, lowest-turned, highest-turned}
-use Rattle.cost_laws.proofs.Relative.{offs}
 use Rattle.cost_laws.proofs.Spreads.{within-spread}
 use Rattle.cost_laws.proofs.Words.{int-ℕ}
 use Rattle.settings.specs.Tells.{Tells}
-use Rattle.settings.proofs.Answers.{tells-leb}
+use Rattle.settings.proofs.Answers.{retell, tells-leb}
 use Rattle.words.specs.Words.{sizes}
-use Rattle.cost_words.specs.Words.{branch, nodes}
-use Rattle.cost_words.proofs.Packing.{target-end, int-zero}
-use Rattle.cost_nodes.proofs.Stepping.{top-good}
+use Rattle.cost_words.specs.Kept.{kept}
+use Rattle.cost_words.specs.Sums.{sideOf}
+use Rattle.cost_words.specs.Words.{target, branch, nodes}
+use Rattle.cost_words.proofs.Summing.{way}
+use Rattle.cost_nodes.proofs.Reading.{pos-from, holds-passed}
 use Rattle.cost_engine.specs.Joint.{together, Joinable}
 use Rattle.cost_engine.specs.declared.operators.Operator.{Operator}
 use Rattle.cost_engine.specs.declared.operators.Operator.the-variants.{Scale}
 use Rattle.cost_engine.proofs.Operating.{below, above}
-use Rattle.cost_range.specs.Ends.{Spans, Reaches, Pair, ofBranches}
-use Rattle.cost_range.specs.Operable.{Factored, Operable, Scalable}
+use Rattle.cost_range.specs.Ends.{Spans, Reaches, Inside, Pair}
+use Rattle.cost_range.specs.Operable.{Factored, Operable, Operand}
 use Rattle.cost_range.specs.declared.Ends.{Ends}
-use Rattle.cost_range.specs.declared.Ends.the-variants.{Lost}
-use Rattle.cost_range.proofs.Ending.{reaches-agree}
+use Rattle.cost_range.specs.declared.Ends.the-variants.{Are, Lost}
 
 -- ---- a cost in range has its ends there, and no other has
 module _ (ns : List ℕ) (ps : Pos ns) (f : Cost) where
-  pub lost-leaves : Reaches ns f Lost → Within costMost ns f → ⊥
-  lost-leaves q w = q (within-spread w) (record { fits = λ s x. fit-more costMost addMost (f s .off) (omega arith) (w .fits s x) })
+  inside-within : (e : Ends) → Reaches ns f e → Inside e → Within costMost ns f
+  inside-within Lost q i = absurd i
+  inside-within (Are l h) q i =
+      within-exactly costMost ns ps f .1
+      (rw (← q .lowest) (fall-near (int l) (omega (arith, int-ℕ l, i .0))), rw (← q .highest) (rise-near (int h) (omega (arith, int-ℕ h, i .1))))
+
+  within-inside : (e : Ends) → Reaches ns f e → Within costMost ns f → Inside e
+  within-inside Lost q w = q (within-spread w) (record { fits = λ s x. fit-more costMost addMost (f s .off) (omega arith) (w .fits s x) })
+  within-inside (Are l h) q w =
+      let a : fall (int l) ≤ costMost = rw (q .lowest) (within-exactly costMost ns ps f .0 w .0) in
+      let b : rise (int h) ≤ costMost = rw (q .highest) (within-exactly costMost ns ps f .0 w .1) in
+      (omega (arith, int-ℕ l), omega (arith, int-ℕ h))
+
+  pub ends-tell : (e : Ends) → Reaches ns f e → (r : Bool) → Tells r (Inside e) → Tells r (Within costMost ns f)
+  ends-tell e q r t = retell r (inside-within e q) (within-inside e q) t
 
   module _ (l h : ℕ) (q : Spans ns f l h) where
-    pub low-leaves : l < 1147483648 → Within costMost ns f → ⊥
-    low-leaves c w =
-        let b : fall (int l) ≤ costMost = rw (q .lowest) (within-exactly costMost ns ps f .0 w .0) in
-        absurd (omega (arith, int-ℕ l))
-
-    pub ends-tell : 1147483648 ≤ l → Tells (leb h 3147483648) (Within costMost ns f)
-    ends-tell c =
-        tells-leb h 3147483648
-        (λ d. within-exactly costMost ns ps f .1 (rw (← q .lowest) (fall-near (int l) (omega (arith, int-ℕ l))), rw (← q .highest) (rise-near (int h) (omega (arith, int-ℕ h)))))
-        (λ w. let b : rise (int h) ≤ costMost = rw (q .highest) (within-exactly costMost ns ps f .0 w .1) in omega (arith, int-ℕ h))
-
     -- both ends of a cost in range are costs
     pub low-fits : Within costMost ns f → Fit costMost (int l)
     low-fits w = rw (q .lowest) (extreme-fits low ns ps f w)
@@ -116,28 +118,32 @@ product-tells x y p q ep eq =
     let e : p * q ≡ rise (x *ℤ y) + fall (x *ℤ y) = (λ i. ep i * eq i) ∙ far-product x y in
     tells-leb (p * q) 1000000000 (λ h. far-fit costMost (x *ℤ y) (omega arith)) (λ f. omega (arith, fit-far costMost (x *ℤ y) f))
 
--- ---- scale: one branch, and the end beside it
-module _ (w : List ℕ) (x a c : ℕ) (p : Scalable w (branch x a) c) where
-  pub scale-pair : Pair w 0 x 0
-  scale-pair = record { holds = p .holds; upTo = omega arith; first = p .first; second = top-good w 0 0 (omega arith) (omega arith) }
+-- ---- one branch of the table: its ends, from what is kept for its target
+module _ (w : List ℕ) (x a : ℕ) (o : Operand w (branch x a)) (up : Bool) (b : ℕ) (k : int b ≡ keptAt (kept up w) (target x)) where
+  end-is : int a +ℤ int b ≡ extreme (sideOf up) (sizes w) (meaning (nodes w) (branch x a))
+  end-is =
+      ap (λ (z : ℤ). int a +ℤ z) k
+      ∙ sym (place-extreme (sizes w) (pos-from w 0 (o .holds)) (nodes w) (o .holds .wf) (branch x a) (o .ok) (way up) (kept up w) (holds-passed w (o .holds) (o .narrow) up))
 
-  beside : (s : List ℕ) → value (nodes w) 0 (branch 0 2147483648) s .off ≡ pos 0
-  beside s =
-      let e : branch 0 2147483648 ≡ ending (amount (pos 0)) = λ i. record { adds = int-zero i; to = target-end 0 refl i } in
-      ap (λ (b : Branch costs). value (nodes w) 0 b s .off) e ∙ offs (value-ending (nodes w) 0 (amount (pos 0)) s)
+  pub end-fits : Fit addMost (int a +ℤ int b)
+  end-fits = fit-more costMost addMost (int a +ℤ int b) (omega arith) (subst (Fit costMost) (sym end-is) (extreme-fits (way up) (sizes w) (pos-from w 0 (o .holds)) (meaning (nodes w) (branch x a)) (o .within)))
 
-  alone : Agree (sizes w) (meaning (nodes w) (branch x a)) (ofBranches false w 0 x a 0 2147483648)
-  alone s h = sym (ap amount (ap (λ (z : ℤ). value (nodes w) 0 (branch x a) s .off +ℤ z) (beside s) ∙ +ℤ-idr (value (nodes w) 0 (branch x a) s .off)))
-
-  pub scale-reaches : (r : Ends) → Reaches (sizes w) (ofBranches false w 0 x a 0 2147483648) r → Reaches (sizes w) (meaning (nodes w) (branch x a)) r
-  scale-reaches r q = reaches-agree (sizes w) (meaning (nodes w) (branch x a)) (ofBranches false w 0 x a 0 2147483648) alone r q
+  pub end-side : (r : ℕ) → int r ≡ int a +ℤ int b → int r ≡ extreme (sideOf up) (sizes w) (meaning (nodes w) (branch x a))
+  end-side r e = e ∙ end-is
 
 -- ---- the operations
-pub operable-pair : (w : List ℕ) (o : Operator) (x a y b : ℕ) → Operable w o (branch x a) (branch y b) → Pair w 0 x y
-operable-pair w o x a y b p = record { holds = p .holds; upTo = omega arith; first = p .first; second = p .second }
+pub operand-pair : (w : List ℕ) (x a y b : ℕ) → Operand w (branch x a) → Operand w (branch y b) → Pair w 0 x y
+operand-pair w x a y b p q = record { holds = p .holds; narrow = p .narrow; upTo = omega arith; first = p .ok; second = q .ok }
 
-pub operable-scale : (w : List ℕ) (o : Operator) (b d : Branch costs) (c : ℕ) → o ≡ Scale c → Operable w o b d → Scalable w b c
-operable-scale w o b d c e p = record { holds = p .holds; rest = p .rest; first = p .first; firstIn = p .firstIn; factorIn = subst Factored e (p .factorIn) }
+module _ {w : List ℕ} {o : Operator} {b c : Branch costs} (p : Operable w o b c) where
+  pub first-operand : Operand w b
+  first-operand = record { holds = p .holds; rest = p .rest; narrow = p .narrow; ok = p .first; within = p .firstIn }
+
+  pub second-operand : Operand w c
+  second-operand = record { holds = p .holds; rest = p .rest; narrow = p .narrow; ok = p .second; within = p .secondIn }
+
+  pub factor-fits : (n : ℕ) → o ≡ Scale n → Fit costMost (int n)
+  factor-fits n e = subst Factored e (p .factorIn)
 
 -- what is told of one operator's result, for the operator that it is
 pub told : (S : List ℕ) (f g : Cost) (o u : Operator) → o ≡ u → (r : Bool) → Tells r (Within costMost S (together u f g)) → Tells r (Within costMost S (together o f g))
@@ -146,4 +152,4 @@ told S f g o u e r h = subst (λ (q : Operator). Tells r (Within costMost S (tog
 -- with the result in range, the engine may join the two
 pub joinable : (w : List ℕ) (o : Operator) (b c : Branch costs) → Operable w o b c → Within costMost (sizes w) (together o (meaning (nodes w) b) (meaning (nodes w) c)) → Joinable w o b c
 joinable w o b c p h =
-    record { holds = p .holds; rest = p .rest; first = p .first; second = p .second; firstIn = p .firstIn; secondIn = p .secondIn; resultIn = h }
+    record { holds = p .holds; rest = p .rest; narrow = p .narrow; first = p .first; second = p .second; firstIn = p .firstIn; secondIn = p .secondIn; resultIn = h }

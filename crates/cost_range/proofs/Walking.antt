@@ -1,4 +1,4 @@
--- The walk over pairs of targets of a table: both ended, down to the feature that is tested, one value on, two branches, the whole. Assumes nothing.
+-- The walk over pairs of targets of a table: down to the feature that is tested, one value on, two branches, the whole. Assumes nothing.
 use mathlib.Core.Bool.{Bool, true, false}
 use mathlib.Core.Path.{_≡_, sym, ap, ap₂, subst, _∙_}
 use mathlib.Core.List.{List}
@@ -8,22 +8,18 @@ use native.Mathlib.Omega.{arith}
 use lib.IntN.{ℤ, pos, _+ℤ_}
 use lib.ListN.{drop}
 use Rattle.theory.specs.Costs.{Cost, amount, costs}
-use Rattle.theory.specs.Diagrams.{Branch, Target, leaf, value}
+use Rattle.theory.specs.Diagrams.{Branch, value}
 use Rattle.theory.specs.Functions.{Agree, held, lift}
 use Rattle.theory.specs.Settings.{zeros}
 use Rattle.theory.proofs.Values.{value-next}
-use Rattle.cost_laws.specs.Extremes.{extreme}
 use Rattle.cost_laws.specs.Integers.{int}
 use Rattle.cost_laws.specs.Relative.{bare, branchAt}
 use Rattle.cost_laws.proofs.Adding.{Splits, add-splits, subtract-splits, splits-zero, joined-split, pair-wait}
-use Rattle.cost_laws.proofs.Extremes.{extreme-taken}
-use Rattle.cost_laws.proofs.Relative.{from-end, from-zeros}
+use Rattle.cost_laws.proofs.Relative.{from-zeros}
 use Rattle.words.specs.Words.{features, size, sizes, count}
-use Rattle.cost_words.specs.Sums.{Stands, sideOf}
+use Rattle.cost_words.specs.Sums.{Stands}
 use Rattle.cost_words.specs.Words.{target, branch, nodes}
-use Rattle.cost_words.proofs.Packing.{target-end, int-zero}
-use Rattle.cost_words.proofs.Summing.{way}
-use Rattle.cost_nodes.specs.Nodes.{Holds, Good, top, Place}
+use Rattle.cost_nodes.specs.Nodes.{Holds, top, Place}
 use Rattle.cost_nodes.proofs.Stepping.{good-small, good-top, top-good, top-below, place-next}
 use Rattle.cost_nodes.proofs.Reading.{pos-from, sizes-from}
 use Rattle.cost_range.specs.Ends.{tieOf, Spans, Reaches, Pair, ofTargets, ofBranches, Folded, Right}
@@ -49,16 +45,12 @@ module _ (w : List ℕ) (k x y : ℕ) (p : Pair w k x y) where
   pair-step v xa a yb b hk ea eb =
       let f = place-next w k x v xa a first-place hk ea in
       let g = place-next w k y v yb b second-place hk eb in
-      record { holds = p .holds; upTo = f .upTo; first = f .good; second = g .good }
+      record { holds = p .holds; narrow = p .narrow; upTo = f .upTo; first = f .good; second = g .good }
 
   -- the lowest feature j that one of the two tests
   module _ (j : ℕ) (hx : j ≤ top w x) (hy : j ≤ top w y) where
-    pub pair-left : (x + y ≡ 0 → ⊥) → j < features w
-    pair-left n = go x y (p .first) (p .second) hx hy n
-      where
-        go : (x y : ℕ) → Good w k x → Good w k y → j ≤ top w x → j ≤ top w y → (x + y ≡ 0 → ⊥) → j < features w
-        go zero y g h a b n = omega (arith, top-below w k y (p .holds) h (omega (arith, n)))
-        go (suc x) y g h a b n = omega (arith, top-below w k (suc x) (p .holds) g (omega arith))
+    pub pair-left : (x ≡ 0 → ⊥) → j < features w
+    pair-left n = omega (arith, top-below w k x (p .holds) (p .first) (omega (arith, n)))
 
     pub pair-from : ((z : ℕ) → z ≤ top w x → z ≤ top w y → z ≤ j) → k ≤ j
     pair-from m = m k (good-top w k x (p .first) (p .upTo)) (good-top w k y (p .second) (p .upTo))
@@ -67,30 +59,13 @@ module _ (w : List ℕ) (k x y : ℕ) (p : Pair w k x y) where
     pair-jump h =
         record {
           holds = p .holds;
+          narrow = p .narrow;
           upTo = omega arith;
           first = top-good w j x (good-small w k x (p .first)) hx;
           second = top-good w j y (good-small w k y (p .second)) hy;
         }
 
   module _ (minus : Bool) where
-    -- ---- both have ended
-    ended-none : x + y ≡ 0 → (s : List ℕ) → ofTargets minus w k x y s .off ≡ pos 0
-    ended-none e s =
-        let ex : target x ≡ leaf tt = target-end x (omega arith) in
-        let ey : target y ≡ leaf tt = target-end y (omega arith) in
-        ap₂ (λ (t u : Target costs). ofTwo t u) ex ey ∙ (λ i. tieOf minus (from-end (nodes w) k s i .off) (from-end (nodes w) k s i .off)) ∙ splits-zero (tieOf minus) (tie-splits minus)
-      where
-        ofTwo : Target costs → Target costs → ℤ
-        ofTwo t u = tieOf minus (value (nodes w) k (bare t) s .off) (value (nodes w) k (bare u) s .off)
-
-    pub ended : x + y ≡ 0 → Reaches (drop k (sizes w)) (ofTargets minus w k x y) (Are 2147483648 2147483648)
-    ended e = record { lowest = at false; highest = at true }
-      where
-        at : (up : Bool) → int 2147483648 ≡ extreme (sideOf up) (drop k (sizes w)) (ofTargets minus w k x y)
-        at up =
-            let t = extreme-taken (way up) (drop k (sizes w)) (pos-from w k (p .holds)) (ofTargets minus w k x y) in
-            int-zero ∙ sym (t .takes ∙ ended-none e (t .setting))
-
     -- ---- one feature of which the pair looks at none or at one
     module _ (hk : k < features w) where
       pub all-folded : (v l h : ℕ) → v ≡ size w k → Folded false (drop (k + 1) (sizes w)) (ofTargets minus w k x y) v l → Folded true (drop (k + 1) (sizes w)) (ofTargets minus w k x y) v h →

@@ -1,5 +1,5 @@
 -- The lowest and the highest amount of a sum or a difference of two costs, as a walk over pairs of targets finds them. Assumes nothing.
-use mathlib.Core.Bool.{Bool, true, false}
+use mathlib.Core.Bool.{Bool, true, false, not}
 use mathlib.Core.Path.{_≡_}
 use mathlib.Core.List.{List}
 use Prim.Native.Nat.{ℕ, _+_, _≤_, _<_}
@@ -8,15 +8,16 @@ use lib.ListN.{drop}
 use Rattle.theory.specs.Costs.{Cost}
 use Rattle.theory.specs.Diagrams.{value}
 use Rattle.theory.specs.Functions.{held}
-use Rattle.cost_laws.specs.Extremes.{across, extreme, lowestOf, highestOf}
-use Rattle.cost_laws.specs.Integers.{int}
-use Rattle.cost_laws.specs.Narrow.{Spread}
+use Rattle.cost_laws.specs.Extremes.{across, extreme, keptAt, lowestOf, highestOf}
+use Rattle.cost_laws.specs.Integers.{Fit, int}
+use Rattle.cost_laws.specs.Narrow.{Narrow, Spread}
 use Rattle.cost_laws.specs.Operations.{joined}
 use Rattle.cost_laws.specs.Range.{Within, addMost}
 use Rattle.cost_laws.specs.Relative.{pairFrom}
 use Rattle.words.specs.Words.{features, sizes}
 use Rattle.cost_memory.specs.Memory as M
 use Rattle.cost_notes.specs.Noted as N
+use Rattle.cost_words.specs.Kept.{kept}
 use Rattle.cost_words.specs.Sums.{sideOf}
 use Rattle.cost_words.specs.Words.{target, branch, nodes}
 use Rattle.cost_nodes.specs.Nodes.{Holds, Good}
@@ -28,7 +29,17 @@ abbrev pub tieOf : Bool → ℤ → ℤ → ℤ
 tieOf true x y = x -ℤ y
 tieOf false x y = x +ℤ y
 
+-- which side of the second cost meets a side of the first: in a difference the other one
+abbrev pub facing : Bool → Bool → Bool
+facing true up = not up
+facing false up = up
+
 -- ---- the ends of a cost
+-- of two words the higher end's if `up`, else the lower's
+abbrev pub endOf : Bool → ℕ → ℕ → ℕ
+endOf true l h = h
+endOf false l h = l
+
 -- l and h stand for its lowest and its highest amount
 pub record Spans (ns : List ℕ) (f : Cost) (l h : ℕ) : Type 0 where
   pub lowest : int l ≡ lowestOf ns f
@@ -39,9 +50,29 @@ abbrev pub Reaches : List ℕ → Cost → Ends → Type 0
 Reaches ns f (Are l h) = Spans ns f l h
 Reaches ns f Lost = Spread addMost ns f → Within addMost ns f → ⊥
 
+-- where both ends lie in the range of costs
+abbrev pub Inside : Ends → Type 0
+Inside (Are l h) = (1147483648 ≤ l) × (h ≤ 3147483648)
+Inside Lost = ⊥
+
+-- ---- two costs by their ends alone, l and h of the first, x and y of the second
+-- what the ends give on a side
+abbrev pub meeting : Bool → Bool → ℕ → ℕ → ℕ → ℕ → ℤ
+meeting minus up l h x y = tieOf minus (int (endOf up l h)) (int (endOf (facing minus up) x y))
+
+-- the words of both; lost where one lies outside ±2,000,000,000
+abbrev pub Meeting : Bool → ℕ → ℕ → ℕ → ℕ → Ends → Type 0
+Meeting minus l h x y (Are u v) = (up : Bool) → int (endOf up u v) ≡ meeting minus up l h x y
+Meeting minus l h x y Lost = ((up : Bool) → Fit addMost (meeting minus up l h x y)) → ⊥
+
 -- ---- of two target words of the table w, where features k and up are left
+-- l and h are kept for the target word x
+pub record Keeps (w : List ℕ) (x l h : ℕ) : Type 0 where
+  pub keeps : (up : Bool) → int (endOf up l h) ≡ keptAt (kept up w) (target x)
+
 pub record Pair (w : List ℕ) (k x y : ℕ) : Type 0 where
   pub holds : Holds w
+  pub narrow : Narrow addMost (sizes w) (nodes w)
   pub upTo : k ≤ features w
   pub first : Good w k x
   pub second : Good w k y

@@ -5,7 +5,8 @@ use Rattle.theory.specs.Costs.{costs}
 use Rattle.theory.specs.Diagrams.{Branch, meaning}
 use Rattle.theory.specs.WellFormed.{Ok}
 use Rattle.cost_laws.specs.Integers.{Fit, int}
-use Rattle.cost_laws.specs.Range.{Within, costMost}
+use Rattle.cost_laws.specs.Range.{Within, costMost, addMost}
+use Rattle.cost_laws.specs.Narrow.{Narrow}
 use Rattle.words.specs.Words.{sizes}
 use Rattle.notes.specs.Plain.{Resting}
 use Rattle.cost_words.specs.Words.{nodes}
@@ -25,17 +26,17 @@ Factored (Scale c) = Fit costMost (int c)
 pub record Operable (w : List ℕ) (o : Operator) (b c : Branch costs) : Type 0 where
   pub holds : Holds w
   pub rest : Resting w
+  pub narrow : Narrow addMost (sizes w) (nodes w)
   pub first : Ok (nodes w) 0 b
   pub second : Ok (nodes w) 0 c
   pub firstIn : Within costMost (sizes w) (meaning (nodes w) b)
   pub secondIn : Within costMost (sizes w) (meaning (nodes w) c)
   pub factorIn : Factored o
 
--- ---- scale
--- one branch, and the word of a factor
-pub record Scalable (w : List ℕ) (b : Branch costs) (c : ℕ) : Type 0 where
+-- one of the branches
+pub record Operand (w : List ℕ) (b : Branch costs) : Type 0 where
   pub holds : Holds w
   pub rest : Resting w
-  pub first : Ok (nodes w) 0 b
-  pub firstIn : Within costMost (sizes w) (meaning (nodes w) b)
-  pub factorIn : Fit costMost (int c)
+  pub narrow : Narrow addMost (sizes w) (nodes w)
+  pub ok : Ok (nodes w) 0 b
+  pub within : Within costMost (sizes w) (meaning (nodes w) b)

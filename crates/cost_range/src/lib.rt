@@ -1,15 +1,19 @@
-// Whether the result of an operation on costs stays in its range, found by reading: for add and subtract, and for scale on one cost,
-// a walk over pairs of targets gives the lowest and the highest amount below them, with remembered results in lent scratch words or in the far records.
+// Whether the result of an operation on costs stays in its range, found by reading: scale by the lowest and the highest amount of its cost, which its
+// root keeps. A sum or a difference stays there at once where these allow it; else a walk over pairs of targets gives its own lowest and highest
+// amount, with remembered results in lent scratch words or in the far records. It stops where one side has ended.
 use cost_engine::Operator;
 use cost_memory::Memo;
 use cost_nodes::Arm;
 use cost_notes::arm_in;
+use cost_notes::kept_in;
 use cost_notes::lowest;
 use cost_notes::recall_in;
 use cost_notes::remember_in;
 use cost_words::difference_or_lost;
 use cost_words::further;
+use cost_words::kept_word;
 use cost_words::sum_or_lost;
+use cost_words::sum_word;
 use notes::clear;
 use notes::clear_far;
 use words::head_word;
@@ -23,14 +27,15 @@ ghost use Rattle.theory.specs.Diagrams.{meaning};
 ghost use Rattle.cost_laws.specs.Integers.{rise, fall, Fit, int};
 ghost use Rattle.cost_laws.specs.Operations.{scaled};
 ghost use Rattle.cost_laws.specs.Range.{Within, costMost};
-ghost use Rattle.words.specs.Words.{features, sizes};
+ghost use Rattle.words.specs.Words.{count, features, sizes};
+ghost use Rattle.records.specs.Laid.{Laid};
 ghost use Rattle.notes.specs.Plain.{Resting, plain};
 ghost use Rattle.settings.specs.Tells.{Tells};
 ghost use Rattle.cost_words.specs.Sums.{Stands};
 ghost use Rattle.cost_words.specs.Words.{branch, nodes};
 ghost use Rattle.cost_engine.specs.Joint.{together};
-ghost use Rattle.cost_range.specs.Ends.{tieOf, Reaches, Pair, ofTargets, ofBranches, Noted, Furthest};
-ghost use Rattle.cost_range.specs.Operable.{Operable, Scalable};
+ghost use Rattle.cost_range.specs.Ends.{tieOf, endOf, Spans, Reaches, Inside, meeting, Meeting, Keeps, Pair, ofTargets, ofBranches, Noted, Furthest};
+ghost use Rattle.cost_range.specs.Operable.{Operable, Operand};
 
 // The words of the lowest and of the highest amount, or that no base brings all amounts into range.
 enum Ends {
@@ -48,6 +53,68 @@ fn tied_word(minus: bool, a: u32, b: u32) -> u32
     sum_or_lost(a, b)
 }
 
+// The words of a lowest and of a highest amount.
+struct Span {
+    low: u32,
+    high: u32,
+}
+
+// The word of one end.
+fn end_of(up: bool, a: Span) -> u32
+    ensures { λ r. ⌜ r ≡ endOf up (a .low) (a .high) ⌝ }
+{
+    if up { a.high } else { a.low }
+}
+
+// What the ends of two costs give on one side: the lowest and the lowest of a sum, the lowest and the highest of a difference.
+fn met_word(minus: bool, up: bool, a: Span, b: Span) -> u32
+    ensures { λ r. ⌜ Stands (meeting minus up (a .low) (a .high) (b .low) (b .high)) r ⌝ }
+{
+    if minus {
+        return tied_word(true, end_of(up, a), end_of(!up, b));
+    }
+    tied_word(false, end_of(up, a), end_of(up, b))
+}
+
+// The same on both sides. No amount of the two together lies further out.
+fn met_ends(minus: bool, a: Span, b: Span) -> Ends
+    ensures { λ r. ⌜ Meeting minus (a .low) (a .high) (b .low) (b .high) r ⌝ }
+{
+    let low = met_word(minus, false, a, b);
+    if low == 0 {
+        return Ends::Lost;
+    }
+    let high = met_word(minus, true, a, b);
+    if high == 0 {
+        return Ends::Lost;
+    }
+    Ends::Are(low, high)
+}
+
+// Whether both ends lie in the range of costs.
+fn ends_inside(e: Ends) -> bool
+    ensures { λ r. ⌜ Tells r (Inside e) ⌝ }
+{
+    let Ends::Are(l, h) = e else {
+        return false;
+    };
+    if l < 1147483648 {
+        return false;
+    }
+    h <= 3147483648
+}
+
+// What is kept for a target.
+fn kept_span(t: &[u32], x: u32) -> Span
+    requires { ⌜ (Laid (plain (now t))) × (x ≤ count (plain (now t))) ⌝ }
+    ensures { λ r. ⌜ Keeps (plain (now (t .entry))) x (r .low) (r .high) ⌝ }
+{
+    Span {
+        low: kept_in(t, x, false),
+        high: kept_in(t, x, true),
+    }
+}
+
 // The further of what the first v values gave and of one more; after none, the one more.
 fn furthest(up: bool, v: usize, a: u32, b: u32) -> u32
     ensures { λ r. ⌜ Furthest up v a b r ⌝ }
@@ -63,8 +130,11 @@ fn rest_ends(t: &mut [u32], s: &mut [u32], minus: bool, k: usize, x: u32, y: u32
     requires { ⌜ (Pair (plain (now t)) k x y) × (Noted minus (now t) (now s)) ⌝ }
     ensures { λ r. ⌜ (Reaches (drop k (sizes (plain (now (t .entry))))) (ofTargets minus (plain (now (t .entry))) k x y) r) × (plain (now (t .exit)) ≡ plain (now (t .entry))) × (Noted minus (now (t .exit)) (now (s .exit))) ⌝ }
 {
-    if x + y == 0 {
-        return Ends::Are(2147483648, 2147483648);
+    if x == 0 {
+        return met_ends(minus, kept_span(t, x), kept_span(t, y));
+    }
+    if y == 0 {
+        return met_ends(minus, kept_span(t, x), kept_span(t, y));
     }
     let j = lowest(t, x, y);
     let tag = narrow(j + 1);
@@ -135,18 +205,26 @@ fn whole_ends(t: &mut [u32], s: &mut [u32], minus: bool, a: Arm, b: Arm) -> Ends
     r
 }
 
-// Whether the sum, or the difference, of two branches lies in the range of costs.
+// The lowest and the highest amount of a branch whose cost lies in range.
+fn span_of(t: &[u32], a: Arm) -> Span
+    requires { ⌜ Operand (now t) (branch (a .to) (a .adds)) ⌝ }
+    ensures { λ r. ⌜ Spans (sizes (now (t .entry))) (meaning (nodes (now (t .entry))) (branch (a .to) (a .adds))) (r .low) (r .high) ⌝ }
+{
+    Span {
+        low: sum_word(a.adds, kept_word(t, a.to, false)),
+        high: sum_word(a.adds, kept_word(t, a.to, true)),
+    }
+}
+
+// Whether the sum, or the difference, of two branches lies in the range of costs: by their ends, or by its own.
 fn tied_ok(t: &mut [u32], s: &mut [u32], minus: bool, a: Arm, b: Arm) -> bool
-    requires { ⌜ (Pair (now t) 0 (a .to) (b .to)) × (Resting (now t)) ⌝ }
+    requires { ⌜ (Operand (now t) (branch (a .to) (a .adds))) × (Operand (now t) (branch (b .to) (b .adds))) ⌝ }
     ensures { λ r. ⌜ (now (t .exit) ≡ now (t .entry)) × (Tells r (Within costMost (sizes (now (t .entry))) (ofBranches minus (now (t .entry)) 0 (a .to) (a .adds) (b .to) (b .adds)))) ⌝ }
 {
-    let Ends::Are(l, h) = whole_ends(t, s, minus, a, b) else {
-        return false;
-    };
-    if l < 1147483648 {
-        return false;
+    if ends_inside(met_ends(minus, span_of(t, a), span_of(t, b))) {
+        return true;
     }
-    h <= 3147483648
+    ends_inside(whole_ends(t, s, minus, a, b))
 }
 
 // How far the integer of a word lies from 0.
@@ -169,21 +247,15 @@ fn product_ok(a: u32, c: u32) -> bool
 }
 
 // Whether a cost in range stays there when it is scaled: by its lowest and its highest amount.
-fn scaled_ok(t: &mut [u32], s: &mut [u32], a: Arm, c: u32) -> bool
-    requires { ⌜ Scalable (now t) (branch (a .to) (a .adds)) c ⌝ }
-    ensures { λ r. ⌜ (now (t .exit) ≡ now (t .entry)) × (Tells r (Within costMost (sizes (now (t .entry))) (scaled (int c) (meaning (nodes (now (t .entry))) (branch (a .to) (a .adds)))))) ⌝ }
+fn scaled_ok(t: &[u32], a: Arm, c: u32) -> bool
+    requires { ⌜ (Operand (now t) (branch (a .to) (a .adds))) × (Fit costMost (int c)) ⌝ }
+    ensures { λ r. ⌜ Tells r (Within costMost (sizes (now (t .entry))) (scaled (int c) (meaning (nodes (now (t .entry))) (branch (a .to) (a .adds))))) ⌝ }
 {
-    let none = Arm {
-        to: 0,
-        adds: 2147483648,
-    };
-    let Ends::Are(l, h) = whole_ends(t, s, false, a, none) else {
-        return false;
-    };
-    if !product_ok(l, c) {
+    let e = span_of(t, a);
+    if !product_ok(e.low, c) {
         return false;
     }
-    product_ok(h, c)
+    product_ok(e.high, c)
 }
 
 // Whether the result of an operation on two costs lies in the range of costs at every setting.
@@ -196,6 +268,6 @@ pub fn in_range(t: &mut [u32], s: &mut [u32], o: Operator, a: Arm, b: Arm) -> bo
         Operator::Subtract => tied_ok(t, s, true, a, b),
         Operator::Smaller => true,
         Operator::Larger => true,
-        Operator::Scale(c) => scaled_ok(t, s, a, c),
+        Operator::Scale(c) => scaled_ok(t, a, c),
     }
 }

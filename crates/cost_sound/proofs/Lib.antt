@@ -3,4 +3,5 @@ pub mod Walking
 pub mod Reading
 pub mod Ranging
 pub mod Pictures
+pub mod Changing
 pub mod Unique

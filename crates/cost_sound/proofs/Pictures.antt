@@ -31,6 +31,7 @@ use Rattle.cost_words.specs.Words.{targetWord, branch, added, Padded, nodes, ro
 use Rattle.cost_words.specs.Picture.{goesOf, addedOf, bodyOf, Pictures, Proper, IsTable}
 use Rattle.cost_words.proofs.Packing.{int-zero, word-branch, packed-goes, packed-added}
 use Rattle.cost_words.proofs.Reading.{length-nodes, at-nodes, branch-at, at-costs}
+use Rattle.cost_words.proofs.Pairing.{spared-pairs}
 use Rattle.cost_words.proofs.Showing.{Small, body-says, root-shows, base-shows, added-past}
 use Rattle.checks.proofs.Pictures as C
 use Rattle.checks.proofs.Pictures.{Tested}
@@ -40,7 +41,7 @@ use Rattle.cost_sound.proofs.Reading.{reading, read, sound-shaped, shap
 
 -- ---- a sound table is tested, and a tested table of costs in range is sound
 pub sound-tested : {w : List ℕ} → Sound w → Tested reading w
-sound-tested s = shaped-tested (sound-shaped s)
+sound-tested s = shaped-tested (sound-shaped s) (s .paired)
 
 -- the integers that the branches of a narrow node list add
 adds-fit : (S : List ℕ) (N : List (Node costs)) → Pos S → WF S N → Narrow addMost S N → (i v : ℕ) → i < length N → v < length (at N i .branches) → Fit addMost (getD (at N i .branches) v blank .adds)
@@ -60,12 +61,12 @@ tested-sound {w} t r =
           adds = record { level = zero-added i h; fits = fits i h };
           differ = λ a. n .differ (λ v hv. ap₂ branch (a .targets v hv) (a .addeds v hv ∙ sym (zero-added i h)));
           padded = n .padded;
-          spare = t .spare i h;
         };
       };
       chained = t .chained;
       roots-ok = record { rooted = t .roots-ok };
       in-order = t .in-order;
+      paired = spared-pairs w (sizes-pos (t .header)) (C.tested-wf read t) (ranged-narrow t r) (t .spared);
       ranged = r;
     }
   where

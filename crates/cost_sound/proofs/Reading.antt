@@ -18,10 +18,14 @@ use Rattle.words.proofs.Words.{pos-sizes}
 use Rattle.cost_words.specs.Words.{targetWord, nodes, root, base, rootAt, roots, costsOf}
 use Rattle.cost_words.specs.Picture.{rootOf, drawing}
 use Rattle.cost_words.proofs.Packing.{target-word, word-int, faithful}
+use Rattle.cost_words.specs.Kept.{Pairs}
+use Rattle.cost_words.proofs.Pairing.{pairs-spared}
 use Rattle.cost_words.proofs.Reading.{length-roots, at-roots, length-costs, at-costs}
 use Rattle.cost_words.proofs.Showing.{body-shows, root-shows, base-shows}
 use Rattle.checks.specs.Header.{Header}
 use Rattle.checks.proofs.Pictures.{Reading, Read, Tested, tested-table}
+use Rattle.checks.proofs.Sitting.{nodes-wf}
+use Rattle.theory.specs.WellFormed.{WF}
 use Rattle.cost_sound.specs.Sound.{Ranged, Sound}
 use Rattle.cost_sound.specs.Walk.{going}
 use Rattle.cost_sound.specs.Sides.{Shaped}
@@ -51,6 +55,7 @@ read =
       at-roots = at-roots;
       length-said = length-costs;
       at-said = at-costs;
+      spare-shows = λ S N i j. refl;
       body-shows = body-shows;
       root-shows = places-show;
     }
@@ -58,19 +63,22 @@ read =
 pub sound-shaped : {w : List ℕ} → Sound w → Shaped w
 sound-shaped s = record { header = s .header; nodes-ok = s .nodes-ok; chained = s .chained; roots-ok = s .roots-ok; in-order = s .in-order }
 
-pub shaped-tested : {w : List ℕ} → Shaped w → Tested reading w
-shaped-tested s =
+pub sizes-pos : {w : List ℕ} → Header 2 w → Pos (sizes w)
+sizes-pos {w} h = pos-sizes w (λ k l. omega (arith, h .fit .large k l .0))
+
+pub shaped-wf : {w : List ℕ} → Shaped w → WF (sizes w) (nodes w)
+shaped-wf {w} s = nodes-wf goes-on faithful w (s .header .fit) (node-fits (record { header = s .header; nodes-ok = s .nodes-ok; chained = s .chained })) (s .chained)
+
+pub shaped-tested : {w : List ℕ} → Shaped w → Pairs w → Tested reading w
+shaped-tested {w} s q =
     record {
       header = s .header;
       nodes-ok = node-fits (record { header = s .header; nodes-ok = s .nodes-ok; chained = s .chained });
-      spare = λ i h. s .nodes-ok .each i h .spare;
+      spared = pairs-spared w q;
       chained = s .chained;
       roots-ok = s .roots-ok .rooted;
       in-order = s .in-order;
     }
-
-pub sizes-pos : {w : List ℕ} → Header 2 w → Pos (sizes w)
-sizes-pos {w} h = pos-sizes w (λ k l. omega (arith, h .fit .large k l .0))
 
 -- costs in range: the sums below every node lie within ±2,000,000,000 of each other
 pub ranged-narrow : {w : List ℕ} → Tested reading w → Ranged w → Narrow addMost (sizes w) (nodes w)

@@ -2,11 +2,12 @@
 use mathlib.Core.Path.{_≡_}
 use mathlib.Core.List.{List}
 use mathlib.Core.Option.{some}
-use Prim.Native.Nat.{ℕ, _+_, _*_, _<_}
+use Prim.Native.Nat.{ℕ, _+_, _<_}
 use Rattle.theory.specs.Walk.{scan, scans}
 use Rattle.cost_laws.specs.Integers.{Fit, bias, int}
 use Rattle.cost_laws.specs.Range.{Within, addMost, costMost}
-use Rattle.words.specs.Words.{features, size, count, sizes, feature, body, Zeros}
+use Rattle.words.specs.Words.{features, size, count, sizes, feature, body}
+use Rattle.cost_words.specs.Kept.{Pairs}
 use Rattle.cost_words.specs.Words.{goes, added, Padded, nodes, root, roots, costOf}
 use Rattle.checks.specs.Header.{Header}
 use Rattle.checks.specs.Chained.{Chained}
@@ -30,14 +31,13 @@ pub record Alike (w : List ℕ) (i : ℕ) : Type 0 where
   pub targets : (v : ℕ) → v < size w (feature w i) → goes (body w i) v ≡ goes (body w i) 0
   pub addeds : (v : ℕ) → v < size w (feature w i) → added (body w i) v ≡ bias
 
--- node i by itself: its feature, its branches, and 0 in the words that they leave
+-- node i by itself: its feature, its branches, and 0 in the body words that they leave
 pub record NodeOk (w : List ℕ) (i : ℕ) : Type 0 where
   pub known : feature w i < features w
   pub lower : Lower w i
   pub adds : Adds w i
   pub differ : Alike w i → ⊥
   pub padded : Padded (size w (feature w i)) (body w i)
-  pub spare : Zeros w (8192 + 16 * i + 14) (8192 + 16 * i + 16)
 
 -- each node in use
 pub record Nodes (w : List ℕ) : Type 0 where
@@ -51,11 +51,12 @@ pub record Rooted (w : List ℕ) : Type 0 where
 pub record Ranged (w : List ℕ) : Type 0 where
   pub ranged : (p : ℕ) → p < 16 → Within costMost (sizes w) (costOf w p)
 
--- SOUND: the header, the nodes, their chains (so no twins), the roots; the walk from the roots in turn meets every node, each in its turn; the range
+-- SOUND: the header, the nodes, their chains (so no twins), the roots; the walk from the roots in turn meets every node, each in its turn; the pair of each node; the range
 pub record Sound (w : List ℕ) : Type 0 where
   pub header : Header 2 w
   pub nodes-ok : Nodes w
   pub chained : Chained w
   pub roots-ok : Rooted w
   pub in-order : scans (scan (nodes w) 0 (sizes w)) (roots w) 0 ≡ some (count w)
+  pub paired : Pairs w
   pub ranged : Ranged w

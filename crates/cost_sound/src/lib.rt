@@ -1,5 +1,5 @@
 // The soundness test of a cost table. It reads any slice, and writes nothing.
-mod range; // range.rt: the costs in their range
+mod range; // range.rt: the pairs kept for the nodes, and the costs in their range
 
 ghost use mathlib.Core.Path.{_≡_};
 ghost use mathlib.Core.Option.{some};
@@ -14,11 +14,11 @@ ghost use Rattle.cost_sound.specs.Walk.{Ordered, Visits, VisitsAll};
 use checks::chains_ok;
 use checks::header_ok;
 use checks::sits;
-use checks::zeros;
 use cost_words::adds_at;
 use cost_words::goes_to;
 use cost_words::root_word;
-use range::range_ok;
+use range::pairs_ok;
+use range::places_ok;
 use words::head_word;
 use words::record_word;
 use words::wide;
@@ -119,11 +119,7 @@ fn node_ok(t: &[u32], i: usize) -> bool
     if alike(t, i) {
         return false;
     }
-    if !padded_ok(t, i, wide(head_word(t, 3 + k))) {
-        return false;
-    }
-    let base = 8192 + 16 * i;
-    zeros(t, base + 14, base + 16)
+    padded_ok(t, i, wide(head_word(t, 3 + k)))
 }
 
 // Whether each node in use is one.
@@ -231,5 +227,11 @@ pub fn sound(t: &[u32]) -> bool
     if !order_ok(t) {
         return false;
     }
-    range_ok(t)
+    if !pairs_ok(t) {
+        return false;
+    }
+    if !places_ok(t, false) {
+        return false;
+    }
+    places_ok(t, true)
 }

@@ -1,18 +1,22 @@
 -- Targets and integers in words, and two targets in a word: read back. Assumes nothing.
 use mathlib.Core.Path.{_≡_, refl, sym, ap, ap₂, _∙_}
 use mathlib.Core.Logic.{⊎-elim}
+use mathlib.Core.List.{List}
 use Prim.Native.Nat.{ℕ, zero, suc, _+_, _*_, _-_, _/_, _%_, _≤_, _<_}
 use native.Mathlib.Omega.{arith}
 use borrow.Author.Tests.{eq-eqb, ne-eqb, lt-ltb, le-ltb}
 use lib.IntN.{pos}
 use Rattle.theory.specs.Costs.{costs}
-use Rattle.theory.specs.Diagrams.{Branch, Target, leaf, node}
+use Rattle.theory.specs.Copying.{Twin}
+use Rattle.theory.specs.Diagrams.{Branch, Node, Target, leaf, node}
 use Rattle.cost_laws.specs.Integers.{fall, bias, int, wordFor}
+use Rattle.cost_laws.specs.Operations.{smallerOf, largerOf}
+use Rattle.cost_laws.proofs.Growing.{sum-copied}
 use Rattle.cost_laws.proofs.Integers.{ℕ-eq, minus-fall}
 use Rattle.cost_laws.proofs.Words.{int-ℕ, int-one, int-word, signed-word}
 use Rattle.words.specs.Coding.{Faithful}
 use Rattle.words.proofs.Tab.{split, same}
-use Rattle.cost_words.specs.Words.{target, targetWord, branch, half, goes, added, Padded, code, packed}
+use Rattle.cost_words.specs.Words.{target, targetWord, branch, half, goes, added, Padded, code, packed, pairWord}
 
 -- ---- targets
 pub target-end : (x : ℕ) → x ≡ 0 → target x ≡ leaf tt
@@ -139,6 +143,12 @@ module _ (m : ℕ) (f g : ℕ → ℕ) (e : (v : ℕ) → v < m → code .arm f 
 goes-same : (f g : ℕ → ℕ) → ((u : ℕ) → u < 12 → f u ≡ g u) → (v : ℕ) → v < 8 → goes f v ≡ goes g v
 goes-same f g e v h = ap (λ (y : ℕ). half y v) (e (v / 2) (omega arith))
 
+-- nodes that mean the same have the same pair
+pair-twin : (S : List ℕ) (N M : List (Node costs)) (i n j : ℕ) → Twin S N M i n → pairWord S N i j ≡ pairWord S M n j
+unfolding pairWord
+pair-twin S N M i n zero t = ap wordFor (sum-copied smallerOf S N M i n (sym (t .alike)) (λ s x. sym (t .mean .says s x)))
+pair-twin S N M i n (suc j) t = ap wordFor (sum-copied largerOf S N M i n (sym (t .alike)) (λ s x. sym (t .mean .says s x)))
+
 pub faithful : Faithful code
 faithful =
     record {
@@ -148,4 +158,5 @@ faithful =
         addeds = λ v l h. sym (e (4 + v) (omega arith)) ∙ p .addeds v l h;
       };
       told = λ m f g l e p q. body-told m f g e p q;
+      spared = pair-twin;
     }

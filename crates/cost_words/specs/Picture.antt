@@ -9,7 +9,7 @@ use Rattle.cost_laws.specs.Integers.{Fit, wordFor}
 use Rattle.cost_laws.specs.Range.{costMost}
 use Rattle.words.specs.Words.{pick}
 use Rattle.words.specs.Picture as P
-use Rattle.cost_words.specs.Words.{targetWord, packed, costsOf}
+use Rattle.cost_words.specs.Words.{targetWord, packed, pairWord, costsOf}
 
 -- the target word and the added word of value v of a node, 0 past its size
 abbrev pub goesOf : Node costs → ℕ → ℕ
@@ -28,7 +28,7 @@ rootOf R p = pick (ltb p 16) (targetWord (getD R p blank .to)) (wordFor (getD R 
 
 -- kind word 2, 16 places, each cost from −1,000,000,000 to 1,000,000,000 at every setting
 abbrev pub drawing : P.Drawing costs
-drawing = record { number = 2; places = 16; bodyOf = bodyOf; rootOf = rootOf; InRange = λ x. Fit costMost (x .off); said = costsOf }
+drawing = record { number = 2; places = 16; bodyOf = bodyOf; rootOf = rootOf; spareOf = pairWord; InRange = λ x. Fit costMost (x .off); said = costsOf }
 
 abbrev pub nodeHash : List (Node costs) → ℕ → ℕ
 nodeHash N i = P.nodeHash drawing N i

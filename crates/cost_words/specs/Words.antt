@@ -5,7 +5,9 @@ use Prim.Native.Nat.{ℕ, zero, suc, _+_, _*_, _-_, _/_, _%_, _≤_, _<_}
 use lib.Dec.{eqb, ltb}
 use Rattle.theory.specs.Costs.{costs, Cost}
 use Rattle.theory.specs.Diagrams.{Branch, Node, Target, leaf, node, meaning}
-use Rattle.cost_laws.specs.Integers.{int}
+use Rattle.cost_laws.specs.Integers.{int, wordFor}
+use Rattle.cost_laws.specs.Operations.{smallerOf, largerOf}
+use Rattle.cost_laws.specs.Below.{sumBelow}
 use Rattle.words.specs.Tab.{tab}
 use Rattle.words.specs.Words.{head, pick}
 use Rattle.words.specs.Coding as C
@@ -44,8 +46,13 @@ pub record Padded (m : ℕ) (f : ℕ → ℕ) : Type 0 where
   pub targets : (v : ℕ) → m ≤ v → v < 8 → goes f v ≡ 0
   pub addeds : (v : ℕ) → m ≤ v → v < 8 → added f v ≡ 0
 
+-- spare word j of node i: the word of the lowest sum below it, then that of the highest
+unfoldable pub pairWord : List ℕ → List (Node costs) → ℕ → ℕ → ℕ
+pairWord S N i zero = wordFor (sumBelow smallerOf S N i)
+pairWord S N i (suc j) = wordFor (sumBelow largerOf S N i)
+
 abbrev pub code : C.Code costs
-code = record { arm = λ f v. branch (goes f v) (added f v); Padded = Padded }
+code = record { arm = λ f v. branch (goes f v) (added f v); Padded = Padded; spareOf = pairWord }
 
 -- body word v of the targets x and the added words a
 unfoldable pub packed : (ℕ → ℕ) → (ℕ → ℕ) → ℕ → ℕ

@@ -1,6 +1,9 @@
 // What the words of a cost table say: targets in half words, added integers, roots and bases.
+mod sides; // sides.rt: the lowest and the highest sum kept for each node
 mod sums; // sums.rt: sums that may have no word
 
+pub use sides::kept_word;
+pub use sides::side_of;
 pub use sums::difference_or_lost;
 pub use sums::further;
 pub use sums::sum_or_lost;

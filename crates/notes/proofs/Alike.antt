@@ -2,7 +2,7 @@
 use mathlib.Core.Path.{_≡_, sym, ap, _∙_}
 use mathlib.Core.Logic.{⊎-elim}
 use mathlib.Core.List.{List}
-use Prim.Native.Nat.{ℕ, _+_, _*_, _≤_, _<_}
+use Prim.Native.Nat.{ℕ, _+_, _*_, _<_}
 use native.Mathlib.Omega.{arith}
 use lib.ListN.{length, getD}
 use Rattle.theory.specs.Diagrams.{Node}
@@ -13,6 +13,7 @@ use Rattle.words.specs.Holding as H
 use Rattle.words.specs.Words.{head, word, capacity, features, size, sizes, count, bound, feature, body, hashAt, lastOf, Kept}
 use Rattle.words.proofs.Chains.{last-ext}
 use Rattle.words.proofs.Coding.{node-is}
+use Rattle.words.proofs.Sparing.{spared-same}
 use Rattle.words.proofs.Tab.{split, tab-ext}
 use Rattle.words.proofs.Words.{hashAt-ext}
 use Rattle.records.specs.Laid.{Laid}
@@ -70,7 +71,6 @@ module _ {w u : List ℕ} (e : Like w u) where
       few = omega (arith, d .few, fts);
       large = λ k h. rw (like-size k (omega (arith, fts))) (d .large k (omega (arith, fts)));
       tests = λ i h. omega (arith, fts, like-record i 0 (omega (arith, cnt)) (omega arith), d .tests i (omega (arith, cnt)));
-      spare = λ i j h a b. like-record i j (omega (arith, cnt)) b ∙ d .spare i j (omega (arith, cnt)) a b;
       links = λ i h.
           let l : i < count w = omega (arith, cnt) in
           like-record i 13 l (omega arith) ∙ d .links i l
@@ -99,6 +99,7 @@ module _ {w u : List ℕ} (e : Like w u) where
               let l : i < count w = omega (arith, cnt) in
               let s : size u (feature u i) ≡ size w (feature w i) = ap (size u) (like-record d i 0 l (omega arith)) ∙ like-size d (feature w i) (d .tests i l) in
               rw s (F .padded (size w (feature w i)) (body w i) (body u i) (λ v b. sym (like-record d i (1 + v) l (omega arith))) (ok .padded i l));
+          spared = spared-same C w u cnt (like-sizes d) (like-nodes d F) (λ i j h g. like-record d i (14 + j) h (omega arith)) (ok .spared);
         }
 
     pub like-holds : H.Holds (layoutOf C) w → H.Holds (layoutOf C) u

@@ -13,18 +13,18 @@ use Rattle.records.specs.Laid.{Laid}
 use Rattle.records.specs.Changes.{Pushed, Popped, RecordIs}
 
 -- the new record is what was asked for
-pub pushed-is : (w w′ : List ℕ) (k : ℕ) (l : List ℕ) → Pushed w w′ k l → RecordIs w′ (count w) k l
+pub pushed-is : (w w′ : List ℕ) (k : ℕ) (l : List ℕ) {x y : ℕ} → Pushed w w′ k l x y → RecordIs w′ (count w) k l
 pushed-is w w′ k l p = record { feature = p .feature; each = p .new }
 
 -- a record of feature k and body l has their hash
 pub hash-is : (w : List ℕ) (i k : ℕ) (l : List ℕ) → RecordIs w i k l → hashAt w i ≡ hashOf k (listed l)
 hash-is w i k l q = ap (λ (x : ℕ). hashOf x (body w i)) (q .feature) ∙ hash-ext k (body w i) (listed l) (q .each)
 
-pub pushed-kept : (w w′ : List ℕ) (k : ℕ) (l : List ℕ) → count w < capacity w → Pushed w w′ k l → Kept w w′
+pub pushed-kept : (w w′ : List ℕ) (k : ℕ) (l : List ℕ) {x y : ℕ} → count w < capacity w → Pushed w w′ k l x y → Kept w w′
 pushed-kept w w′ k l less p =
     record { long = p .long; header = λ j a b. p .header j (omega arith) b (omega arith); past = λ j a. p .after j (omega arith) }
 
-module _ (w w′ : List ℕ) (k : ℕ) (l : List ℕ) (ok : Laid w) (less : count w < capacity w) (hk : k < features w) (p : Pushed w w′ k l) where
+module _ (w w′ : List ℕ) (k : ℕ) (l : List ℕ) {x y : ℕ} (ok : Laid w) (less : count w < capacity w) (hk : k < features w) (p : Pushed w w′ k l x y) where
   kept : Kept w w′
   kept = pushed-kept w w′ k l less p
 
@@ -71,10 +71,6 @@ module _ (w w′ : List ℕ) (k : ℕ) (l : List ℕ) (ok : Laid w) (less : coun
     few = omega (arith, ok .few, fts);
     large = λ j a. rw (kept-size w w′ kept (ok .few) j (omega (arith, fts))) (ok .large j (omega (arith, fts)));
     tests = λ i a. ⊎-elim (λ b. omega (arith, fts, p .old i 0 b (omega arith), ok .tests i b)) (λ e. rw e (omega (arith, fts, p .feature))) (which i a);
-    spare = λ i j a. ⊎-elim
-        (λ b s e. p .old i j b e ∙ ok .spare i j b s e)
-        (λ d. rw d (λ s e. p .after (8192 + 16 * count w + j) (omega arith) ∙ ok .clean (8192 + 16 * count w + j) (omega arith) (omega arith)))
-        (which i a);
     links = λ i a. ⊎-elim (λ b. links-old i b) (λ e. rw e links-new) (which i a);
     heads = heads-now;
     clean = λ j a b. p .after j (omega (arith, p .more)) ∙ ok .clean j (omega (arith, p .more)) (omega (arith, cap));
@@ -108,7 +104,6 @@ module _ (w w′ : List ℕ) (i : ℕ) (ok : Laid w) (n : count w ≡ suc i) (p 
     few = omega (arith, ok .few, fts′);
     large = λ j a. rw (kept-size w w′ popped-kept (ok .few) j (omega (arith, fts′))) (ok .large j (omega (arith, fts′)));
     tests = λ j a. omega (arith, fts′, p .fewer, p .old j 0 (omega (arith, p .fewer)) (omega arith), ok .tests j (omega (arith, p .fewer)));
-    spare = λ j v a s e. p .old j v (omega (arith, p .fewer)) e ∙ ok .spare j v (omega (arith, p .fewer)) s e;
     links = λ j a.
         let b : j < i = omega (arith, p .fewer) in
         p .old j 13 b (omega arith) ∙ ok .links j (omega arith)

@@ -9,23 +9,24 @@ use native.Mathlib.Omega.{arith}
 use lib.ListN.{length, getD, List·getD-eq-default}
 use lib.Seq.{take-all, take-at}
 use Rattle.theory.specs.Kind.{Kind}
-use Rattle.theory.specs.Build.{make}
+use Rattle.theory.specs.Build.{Ext, make}
 use Rattle.theory.specs.Deciding.{Alike}
 use Rattle.theory.specs.Diagrams.{Branch, Node, at, blank}
-use Rattle.theory.specs.WellFormed.{Ok}
+use Rattle.theory.specs.WellFormed.{Ok, WF}
 use Rattle.theory.proofs.Making.{make-alike, make-at, make-last, wf-new}
 use Rattle.theory.proofs.Offsets.{Level, branchTo}
 use Rattle.theory.proofs.WellFormed.{length-snoc}
 use Rattle.words.specs.Coding.{Code, Faithful, branches, nodeAt, nodes}
 use Rattle.words.specs.Holding.{Lawful, Holds, Gives}
 use Rattle.words.specs.Tab.{tab}
-use Rattle.words.specs.Words.{capacity, features, size, sizes, count, feature, body, listed, Kept}
+use Rattle.words.specs.Words.{capacity, features, size, sizes, count, word, feature, body, listed, Kept}
 use Rattle.words.proofs.Coding.{length-nodes, at-nodes, bodies-same, node-is}
 use Rattle.words.proofs.Filling.{grown-refl}
+use Rattle.words.proofs.Sparing.{spare-ext}
 use Rattle.words.proofs.Tab.{split, tab-snoc, tab-ext, length-tab, getD-tab}
 use Rattle.words.proofs.Words.{length-sizes, at-sizes, kept-refl, kept-trans, kept-capacity, kept-size, kept-sizes, pos-sizes}
 use Rattle.records.specs.Changes.{Pushed, RecordIs, Finds}
-use Rattle.records.specs.Nodes.{NodesLaid, layoutOf, Listed, nodeOf, Absent}
+use Rattle.records.specs.Nodes.{NodesLaid, layoutOf, Listed, nodeOf, Behind, Absent}
 use Rattle.records.proofs.Laying.{pushed-kept, pushed-laid}
 
 -- such a table is a lawful holder
@@ -42,7 +43,7 @@ lawful C =
 
 module _ {K : Kind} {C : Code K} (F : Faithful C) where
   -- ---- a record more is a node more
-  module _ (w w′ : List ℕ) (k : ℕ) (l : List ℕ) (ok : NodesLaid C w) (less : count w < capacity w) (hk : k < features w) (p : Pushed w w′ k l) where
+  module _ (w w′ : List ℕ) (k : ℕ) (l : List ℕ) {x y : ℕ} (ok : NodesLaid C w) (less : count w < capacity w) (hk : k < features w) (p : Pushed w w′ k l x y) where
     kept : Kept w w′
     kept = pushed-kept w w′ k l less p
 
@@ -61,18 +62,6 @@ module _ {K : Kind} {C : Code K} (F : Faithful C) where
     size-new : size w′ (feature w′ (count w)) ≡ size w k
     size-new = ap (size w′) (p .feature) ∙ sz k hk
 
-    pub pushed-nodes-laid : C .Padded (size w k) (listed l) → NodesLaid C w′
-    pushed-nodes-laid pad =
-        record {
-          laid = pushed-laid w w′ k l (ok .laid) less hk p;
-          padded = λ i a. ⊎-elim
-              (λ b. rw (size-old i b)
-              (F .padded (size w (feature w i)) (body w i) (body w′ i) (λ v h. sym (p .old i (1 + v) b (omega arith))) (ok .padded i b)))
-              (λ d. subst (λ (j : ℕ). C .Padded (size w′ (feature w′ j)) (body w′ j)) (sym d)
-              (rw size-new (F .padded (size w k) (listed l) (body w′ (count w)) (λ v h. sym (p .new v h)) pad)))
-              (which i a);
-        }
-
     node-old : (i : ℕ) → i < count w → nodeAt C w′ i ≡ nodeAt C w i
     node-old i a =
         let t = ok .laid .tests i a in
@@ -87,6 +76,36 @@ module _ {K : Kind} {C : Code K} (F : Faithful C) where
     pushed-nodes =
         ap (tab (nodeAt C w′)) (p .more ∙ add-one (count w)) ∙ tab-snoc (nodeAt C w′) (count w)
         ∙ ap₂ (λ (a : List (Node K)) (b : Node K). a ++ (b ∷ [])) (tab-ext (nodeAt C w′) (nodeAt C w) (count w) node-old) node-new
+
+    -- the spare words of the old nodes are kept, and are theirs in the longer list
+    longer-by : Ext (nodes C w) (nodes C w′)
+    longer-by = record { more = nodeOf C w k l ∷ []; ends = pushed-nodes }
+
+    sizes-same : sizes w′ ≡ sizes w
+    sizes-same = kept-sizes w w′ kept (ok .laid .few)
+
+    spare-old : WF (sizes w) (nodes C w) → (i j : ℕ) → i < count w → j < 2 → word w′ i (14 + j) ≡ C .spareOf (sizes w′) (nodes C w′) i j
+    spare-old f i j h b =
+        p .old i (14 + j) h (omega arith) ∙ ok .spared i j h b
+        ∙ spare-ext F (sizes w) (nodes C w) (nodes C w′) f longer-by i j (omega (arith, length-nodes C w))
+        ∙ ap (λ (S : List ℕ). C .spareOf S (nodes C w′) i j) (sym sizes-same)
+
+    spare-new : Behind C w k l x y → (j : ℕ) → j < 2 → word w′ (count w) (14 + j) ≡ C .spareOf (sizes w′) (nodes C w′) (count w) j
+    spare-new sp j b = p .spare j b ∙ sp j b ∙ sym (ap₂ (λ (S : List ℕ) (M : List (Node K)). C .spareOf S M (count w) j) sizes-same pushed-nodes)
+
+    -- laid again, where the spare words are those of the new node
+    pub pushed-nodes-laid : WF (sizes w) (nodes C w) → C .Padded (size w k) (listed l) → Behind C w k l x y → NodesLaid C w′
+    pushed-nodes-laid f pad sp =
+        record {
+          laid = pushed-laid w w′ k l (ok .laid) less hk p;
+          padded = λ i a. ⊎-elim
+              (λ b. rw (size-old i b)
+              (F .padded (size w (feature w i)) (body w i) (body w′ i) (λ v h. sym (p .old i (1 + v) b (omega arith))) (ok .padded i b)))
+              (λ d. subst (λ (j : ℕ). C .Padded (size w′ (feature w′ j)) (body w′ j)) (sym d)
+              (rw size-new (F .padded (size w k) (listed l) (body w′ (count w)) (λ v h. sym (p .new v h)) pad)))
+              (which i a);
+          spared = λ i j a b. ⊎-elim (λ q. spare-old f i j q b) (λ d. rw d (spare-new sp j b)) (which i a);
+        }
 
   module _ (w : List ℕ) (k : ℕ) (l : List ℕ) (ok : Holds (layoutOf C) w) (hk : k < features w) (li : Listed C w k l) where
     abbrev bs : List (Branch K)
@@ -152,9 +171,13 @@ module _ {K : Kind} {C : Code K} (F : Faithful C) where
     longer : length (N ++ (nodeOf C w k l ∷ [])) ≡ suc (count w)
     longer = length-snoc N (nodeOf C w k l) ∙ ap suc (length-nodes C w)
 
+    -- the list with the new node is well formed
+    pub new-wf : Level bs → Absent C w k l → WF (sizes w) (N ++ (nodeOf C w k l ∷ []))
+    new-wf z ab = wf-new (sizes w) N (ok .wf) k bs z (omega (arith, length-sizes w)) (length-bs ∙ sym (at-sizes w k hk)) good-bs (ab .varied) (ab .missing)
+
     -- where there is room, it is the last node
-    pub made-new : Level bs → (w′ : List ℕ) → Absent C w k l → count w < capacity w → Pushed w w′ k l → Gives (layoutOf C) w w′ (make k bs N) (some (branchTo (count w)))
-    made-new z w′ ab less p =
+    pub made-new : Level bs → (w′ : List ℕ) {x y : ℕ} → Absent C w k l → count w < capacity w → Behind C w k l x y → Pushed w w′ k l x y → Gives (layoutOf C) w w′ (make k bs N) (some (branchTo (count w)))
+    made-new z w′ ab less sp p =
         let n = longer in
         let q : nodes C w′ ≡ N ++ (nodeOf C w k l ∷ []) = pushed-nodes w w′ k l (ok .laid) less hk p in
         let s : sizes w′ ≡ sizes w = kept-sizes w w′ (pushed-kept w w′ k l less p) (ok .laid .laid .few) in
@@ -163,9 +186,8 @@ module _ {K : Kind} {C : Code K} (F : Faithful C) where
           grown = record {
             kept = pushed-kept w w′ k l less p;
             well = record {
-              laid = pushed-nodes-laid w w′ k l (ok .laid) less hk p (li .pad);
-              wf = rw (q, s)
-                  (wf-new (sizes w) N (ok .wf) k bs z (omega (arith, length-sizes w)) (length-bs ∙ sym (at-sizes w k hk)) good-bs (ab .varied) (ab .missing));
+              laid = pushed-nodes-laid w w′ k l (ok .laid) less hk p (ok .wf) (li .pad) sp;
+              wf = rw (q, s) (new-wf z ab);
             };
             holds = q ∙ sym (take-all (capacity w) (N ++ (nodeOf C w k l ∷ [])) (omega arith));
           };

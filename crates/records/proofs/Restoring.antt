@@ -11,11 +11,12 @@ use Rattle.theory.proofs.Growing.{ext-le}
 use Rattle.theory.proofs.WellFormed.{at-more}
 use Rattle.words.specs.Coding.{Code, Faithful, branches, nodeAt, nodes}
 use Rattle.words.specs.Holding.{Holds, Grown}
-use Rattle.words.specs.Words.{size, count, word, feature, body}
+use Rattle.words.specs.Words.{size, sizes, count, word, feature, body}
 use Rattle.words.proofs.Coding.{length-nodes, at-nodes, bodies-same}
 use Rattle.words.proofs.Filling.{grown-ext}
-use Rattle.words.proofs.Tab.{same}
-use Rattle.words.proofs.Words.{kept-size}
+use Rattle.words.proofs.Sparing.{spare-ext}
+use Rattle.words.proofs.Tab.{same, split}
+use Rattle.words.proofs.Words.{kept-size, kept-sizes}
 use Rattle.records.specs.Changes.{Rolled}
 use Rattle.records.specs.Nodes.{layoutOf}
 use Rattle.records.proofs.Making.{lawful}
@@ -47,11 +48,22 @@ module _ {K : Kind} {C : Code K} (F : Faithful C) (w t : List ℕ) (N : List (No
       (rw (size-kept i h) at (g .well .laid .padded i (omega (arith, undo-asks))))
       (ok .laid .padded i h)
 
+  -- a node's spare words are those that it has in the longer list
+  spare-kept : (i j : ℕ) → i < count w → j < 2 → word t i (14 + j) ≡ word w i (14 + j)
+  spare-kept i j h l =
+      g .well .laid .spared i j (omega (arith, undo-asks)) l
+      ∙ ap (λ (S : List ℕ). C .spareOf S (nodes C t) i j) (kept-sizes w t (g .kept) (ok .laid .laid .few))
+      ∙ sym (spare-ext F (sizes w) (nodes C w) (nodes C t) (ok .wf) x i j (omega (arith, length-nodes C w)))
+      ∙ sym (ok .laid .spared i j h l)
+
   -- equal nodes have equal words
-  words-kept : (i j : ℕ) → i < count w → j < 13 → word t i j ≡ word w i j
-  words-kept i j h l = ⊎-elim
+  words-kept : (i j : ℕ) → i < count w → j < 16 → (j ≡ 13 → ⊥) → word t i j ≡ word w i j
+  words-kept i j h l n = ⊎-elim
       (λ z. rw z (feature-kept i h))
-      (λ z. let q : 1 + (j - 1) ≡ j = omega (arith, z) in rw q at (body-kept i h (j - 1) (omega (arith, z))))
+      (λ z. ⊎-elim
+      (λ s. let q : 1 + (j - 1) ≡ j = omega (arith, z) in rw q at (body-kept i h (j - 1) (omega (arith, z))))
+      (λ s. let q : 14 + (j - 14) ≡ j = omega (arith, n) in rw q at (spare-kept i (j - 14) h (omega arith)))
+      (split j 13))
       (same j 0)
 
   -- THE EXACT UNDO

@@ -28,11 +28,11 @@ roll-more w t t′ m r l p =
       old = λ i j a b. p .old i j (omega (arith, r .fewer)) b ∙ r .old i j (omega arith) b;
     }
 
--- ---- two laid tables with one frame, one count and the same features and bodies are the same words
+-- ---- two laid tables with one frame, one count and the same features, bodies and spare words are the same words
 module _ (w w′ : List ℕ) (a : Laid w) (b : Laid w′) (k : Kept w w′) (n : count w′ ≡ count w)
-    (bodies : (i j : ℕ) → i < count w → j < 13 → word w′ i j ≡ word w i j) where
+    (words : (i j : ℕ) → i < count w → j < 16 → (j ≡ 13 → ⊥) → word w′ i j ≡ word w i j) where
   hash-like : (i : ℕ) → i < count w → hashAt w′ i ≡ hashAt w i
-  hash-like i h = hashAt-ext w w′ i (λ j l. bodies i j h l)
+  hash-like i h = hashAt-ext w w′ i (λ j l. words i j h (omega arith) (omega arith))
 
   link-same : (i : ℕ) → i < count w → link w′ i ≡ link w i
   link-same i h =
@@ -40,13 +40,7 @@ module _ (w w′ : List ℕ) (a : Laid w) (b : Laid w′) (k : Kept w w′) (n :
       ∙ last-ext (hashAt w′) (hashAt w) (hashAt w i) i (λ j l. hash-like j (omega arith)) ∙ sym (a .links i h)
 
   word-same : (i j : ℕ) → i < count w → j < 16 → word w′ i j ≡ word w i j
-  word-same i j h l = ⊎-elim
-      (λ s. bodies i j h s)
-      (λ s. ⊎-elim
-      (λ z. rw z (link-same i h))
-      (λ z. b .spare i j (omega (arith, n)) (omega (arith, z)) l ∙ sym (a .spare i j h (omega (arith, z)) l))
-      (same j 13))
-      (split j 13)
+  word-same i j h l = ⊎-elim (λ z. rw z (link-same i h)) (λ z. words i j h l z) (same j 13)
 
   each-word : (j : ℕ) → getD w′ j 0 ≡ getD w j 0
   unfolding head word
@@ -74,6 +68,6 @@ module _ (w w′ : List ℕ) (a : Laid w) (b : Laid w′) (k : Kept w w′) (n :
   same-words = ext-getD 0 w′ w (k .long) (λ j h. each-word j)
 
 -- THE EXACT UNDO: what a call added to w, rolled back, leaves w word for word
-pub undone : (w t t′ : List ℕ) → Laid w → Kept w t → ((i j : ℕ) → i < count w → j < 13 → word t i j ≡ word w i j) → Rolled t t′ (count w) → t′ ≡ w
+pub undone : (w t t′ : List ℕ) → Laid w → Kept w t → ((i j : ℕ) → i < count w → j < 16 → (j ≡ 13 → ⊥) → word t i j ≡ word w i j) → Rolled t t′ (count w) → t′ ≡ w
 undone w t t′ ok k old r =
-    same-words w t′ ok (r .laid) (kept-trans w t t′ k (r .kept)) (r .fewer) (λ i j h l. r .old i j h (omega arith) ∙ old i j h l)
+    same-words w t′ ok (r .laid) (kept-trans w t t′ k (r .kept)) (r .fewer) (λ i j h l z. r .old i j h l ∙ old i j h l z)

@@ -2,13 +2,13 @@
 use mathlib.Core.Path.{_≡_, ap, _∙_}
 use mathlib.Core.Logic.{⊎-elim}
 use mathlib.Core.List.{List}
-use Prim.Native.Nat.{ℕ, _+_, _*_, _≤_, _<_}
+use Prim.Native.Nat.{ℕ, zero, suc, _+_, _*_, _≤_, _<_}
 use native.Mathlib.Omega.{arith}
 use lib.ListN.{length, getD, set, length-set}
 use lib.Seq.{getD-set-same, getD-set-other}
 use Rattle.words.specs.Words.{word, head, count, listed, hashOf, hashAt}
 use Rattle.words.proofs.Tab.{same}
-use Rattle.records.specs.Changes.{Pushed, Popped}
+use Rattle.records.specs.Changes.{Pushed, Popped, pairOf}
 
 -- one more of a run of stores
 pub run-more : (t l : List ℕ) (b v : ℕ) → b + v < length t
@@ -27,7 +27,7 @@ zero-more t b v fits h j l u = ⊎-elim
     (same j (b + v))
 
 -- ---- push: t is w after the feature's store and the body's run; then the link, the chain head and the count are stored
-module _ (w t l : List ℕ) (k k′ i n′ h nx : ℕ) (ei : i ≡ count w) (en : n′ ≡ i + 1) (ek : k′ ≡ k)
+module _ (w t l : List ℕ) (k k′ i n′ h nx x y : ℕ) (ei : i ≡ count w) (en : n′ ≡ i + 1) (ek : k′ ≡ k)
     (eh : h ≡ hashOf k (listed l)) (hh : h < 4096) (ex : nx ≡ head w (4096 + h))
     (room : 8192 + 16 * i + 16 ≤ length w)
     (len : length t ≡ length (set w (8192 + 16 * i) k′))
@@ -37,8 +37,15 @@ module _ (w t l : List ℕ) (k k′ i n′ h nx : ℕ) (ei : i ≡ count w) (en 
   abbrev t₁ : List ℕ
   t₁ = set t (8192 + 16 * i + 13) nx
 
+  -- the spare words are stored behind the link
+  abbrev s₁ : List ℕ
+  s₁ = set t₁ (8192 + 16 * i + 14) x
+
+  abbrev s₂ : List ℕ
+  s₂ = set s₁ (8192 + 16 * i + 15) y
+
   abbrev t₂ : List ℕ
-  t₂ = set t₁ (4096 + h) n′
+  t₂ = set s₂ (4096 + h) n′
 
   abbrev t₃ : List ℕ
   t₃ = set t₂ 19 n′
@@ -49,37 +56,55 @@ module _ (w t l : List ℕ) (k k′ i n′ h nx : ℕ) (ei : i ≡ count w) (en 
   long₁ : length t₁ ≡ length w
   long₁ = length-set t (8192 + 16 * i + 13) nx ∙ long
 
+  longs₁ : length s₁ ≡ length w
+  longs₁ = length-set t₁ (8192 + 16 * i + 14) x ∙ long₁
+
+  longs₂ : length s₂ ≡ length w
+  longs₂ = length-set s₁ (8192 + 16 * i + 15) y ∙ longs₁
+
   long₂ : length t₂ ≡ length w
-  long₂ = length-set t₁ (4096 + h) n′ ∙ long₁
+  long₂ = length-set s₂ (4096 + h) n′ ∙ longs₂
 
-  thru₂ : (j : ℕ) → (j ≡ 19 → ⊥) → (j ≡ 4096 + h → ⊥) → getD t₃ j 0 ≡ getD t₁ j 0
-  thru₂ j a b = getD-set-other t₂ 19 j n′ 0 a ∙ getD-set-other t₁ (4096 + h) j n′ 0 b
+  thru₃ : (j : ℕ) → (j ≡ 19 → ⊥) → (j ≡ 4096 + h → ⊥) → getD t₃ j 0 ≡ getD s₂ j 0
+  thru₃ j a b = getD-set-other t₂ 19 j n′ 0 a ∙ getD-set-other s₂ (4096 + h) j n′ 0 b
 
-  thru : (j : ℕ) → (j ≡ 19 → ⊥) → (j ≡ 4096 + h → ⊥) → (j ≡ 8192 + 16 * i + 13 → ⊥) → getD t₃ j 0 ≡ getD t j 0
-  thru j a b d = thru₂ j a b ∙ getD-set-other t (8192 + 16 * i + 13) j nx 0 d
+  thru₂ : (j : ℕ) → (j ≡ 19 → ⊥) → (j ≡ 4096 + h → ⊥) → (j ≡ 8192 + 16 * i + 14 → ⊥) → (j ≡ 8192 + 16 * i + 15 → ⊥) → getD t₃ j 0 ≡ getD t₁ j 0
+  thru₂ j a b c d = thru₃ j a b ∙ getD-set-other s₁ (8192 + 16 * i + 15) j y 0 d ∙ getD-set-other t₁ (8192 + 16 * i + 14) j x 0 c
+
+  -- outside the words 13 to 15 of the record
+  thru : (j : ℕ) → (j ≡ 19 → ⊥) → (j ≡ 4096 + h → ⊥) → (8192 + 16 * i + 13 ≤ j → j < 8192 + 16 * i + 16 → ⊥) → getD t₃ j 0 ≡ getD t j 0
+  thru j a b d = thru₂ j a b (λ e. d (omega arith) (omega arith)) (λ e. d (omega arith) (omega arith)) ∙ getD-set-other t (8192 + 16 * i + 13) j nx 0 (λ e. d (omega arith) (omega arith))
+
+  spares : (j : ℕ) → j < 2 → getD t₃ (8192 + 16 * i + (14 + j)) 0 ≡ pairOf x y j
+  spares zero g =
+      thru₃ (8192 + 16 * i + 14) (omega arith) (omega arith) ∙ getD-set-other s₁ (8192 + 16 * i + 15) (8192 + 16 * i + 14) y 0 (omega arith)
+      ∙ getD-set-same t₁ (8192 + 16 * i + 14) x 0 (omega (arith, long₁))
+  spares (suc zero) g = thru₃ (8192 + 16 * i + 15) (omega arith) (omega arith) ∙ getD-set-same s₁ (8192 + 16 * i + 15) y 0 (omega (arith, longs₁))
+  spares (suc (suc j)) g = absurd (omega arith)
 
   before : (j : ℕ) → j < 8192 + 16 * i → (j ≡ 19 → ⊥) → (j ≡ 4096 + h → ⊥) → getD t₃ j 0 ≡ getD w j 0
-  before j l a b = thru j a b (omega arith) ∙ front j (omega arith) ∙ getD-set-other w (8192 + 16 * i) j k′ 0 (omega arith)
+  before j l a b = thru j a b (λ c d. omega arith) ∙ front j (omega arith) ∙ getD-set-other w (8192 + 16 * i) j k′ 0 (omega arith)
 
-  pub pushed : Pushed w t₃ k l
+  pub pushed : Pushed w t₃ k l x y
   unfolding word head
   pushed = record {
     long = length-set t₂ 19 n′ ∙ long₂;
     header = λ j l a b. before j (omega arith) a (λ e. b (e ∙ ap (λ (x : ℕ). 4096 + x) eh));
-    first = rw (← eh) (getD-set-other t₂ 19 (4096 + h) n′ 0 (omega arith) ∙ getD-set-same t₁ (4096 + h) n′ 0 (omega (arith, long₁)) ∙ en ∙ ap (λ (x : ℕ). x + 1) ei);
+    first = rw (← eh) (getD-set-other t₂ 19 (4096 + h) n′ 0 (omega arith) ∙ getD-set-same s₂ (4096 + h) n′ 0 (omega (arith, longs₂)) ∙ en ∙ ap (λ (x : ℕ). x + 1) ei);
     more = getD-set-same t₂ 19 n′ 0 (omega (arith, long₂)) ∙ en ∙ ap (λ (x : ℕ). x + 1) ei;
     old = λ j m l hm. before (8192 + 16 * j + m) (omega arith) (omega arith) (omega arith);
     feature =
         let e : 8192 + 16 * getD w 19 0 + 0 ≡ 8192 + 16 * i = omega arith in
-        rw e (thru (8192 + 16 * i) (omega arith) (omega arith) (omega arith) ∙ front (8192 + 16 * i) (omega arith)
+        rw e (thru (8192 + 16 * i) (omega arith) (omega arith) (λ c d. omega arith) ∙ front (8192 + 16 * i) (omega arith)
         ∙ getD-set-same w (8192 + 16 * i) k′ 0 (omega arith) ∙ ek);
     new = λ v l.
         let e : 8192 + 16 * getD w 19 0 + (1 + v) ≡ 8192 + 16 * i + 1 + v = omega arith in
-        rw e (thru (8192 + 16 * i + 1 + v) (omega arith) (omega arith) (omega arith) ∙ run v l);
+        rw e (thru (8192 + 16 * i + 1 + v) (omega arith) (omega arith) (λ c d. omega arith) ∙ run v l);
     next =
         let e : 8192 + 16 * getD w 19 0 + 13 ≡ 8192 + 16 * i + 13 = omega arith in
-        rw (e, ← eh) (thru₂ (8192 + 16 * i + 13) (omega arith) (omega arith) ∙ getD-set-same t (8192 + 16 * i + 13) nx 0 (omega (arith, long)) ∙ ex);
-    after = λ j l. thru j (omega arith) (omega arith) (omega arith) ∙ rest j (omega arith) ∙ getD-set-other w (8192 + 16 * i) j k′ 0 (omega arith);
+        rw (e, ← eh) (thru₂ (8192 + 16 * i + 13) (omega arith) (omega arith) (omega arith) (omega arith) ∙ getD-set-same t (8192 + 16 * i + 13) nx 0 (omega (arith, long)) ∙ ex);
+    spare = λ j g. let e : 8192 + 16 * getD w 19 0 + (14 + j) ≡ 8192 + 16 * i + (14 + j) = omega arith in rw e (spares j g);
+    after = λ j l. thru j (omega arith) (omega arith) (λ c d. omega arith) ∙ rest j (omega arith) ∙ getD-set-other w (8192 + 16 * i) j k′ 0 (omega arith);
   }
 
 -- ---- pop: t is w after the chain head's store and the run of zeros; then the count is stored

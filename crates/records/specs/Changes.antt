@@ -1,13 +1,18 @@
 -- One record more, one fewer, the records from n on taken away, and a record found. Assumes nothing.
 use mathlib.Core.Path.{_≡_}
 use mathlib.Core.List.{List}
-use Prim.Native.Nat.{ℕ, _+_, _*_, _-_, _≤_, _<_}
+use Prim.Native.Nat.{ℕ, zero, suc, _+_, _*_, _-_, _≤_, _<_}
 use lib.ListN.{length, getD}
 use Rattle.words.specs.Words.{head, word, count, listed, feature, body, link, bucket, hashOf, hashAt, Kept}
 use Rattle.records.specs.Laid.{Laid}
 
--- w′ is w with one record more at the end, of feature k and body l, first of its chain
-pub record Pushed (w w′ : List ℕ) (k : ℕ) (l : List ℕ) : Type 0 where
+-- the first of two, else the second
+abbrev pub pairOf : ℕ → ℕ → ℕ → ℕ
+pairOf x y zero = x
+pairOf x y (suc j) = y
+
+-- w′ is w with one record more at the end, of feature k, body l and spare words x and y, first of its chain
+pub record Pushed (w w′ : List ℕ) (k : ℕ) (l : List ℕ) (x y : ℕ) : Type 0 where
   pub long : length w′ ≡ length w
   pub header : (j : ℕ) → j < 8192 → (j ≡ 19 → ⊥) → (j ≡ 4096 + hashOf k (listed l) → ⊥) → head w′ j ≡ head w j
   pub first : bucket w′ (hashOf k (listed l)) ≡ count w + 1
@@ -16,7 +21,8 @@ pub record Pushed (w w′ : List ℕ) (k : ℕ) (l : List ℕ) : Type 0 where
   pub feature : feature w′ (count w) ≡ k
   pub new : (v : ℕ) → v < 12 → body w′ (count w) v ≡ listed l v
   pub next : link w′ (count w) ≡ bucket w (hashOf k (listed l))
-  pub after : (j : ℕ) → 8192 + 16 * count w + 14 ≤ j → getD w′ j 0 ≡ getD w j 0
+  pub spare : (j : ℕ) → j < 2 → word w′ (count w) (14 + j) ≡ pairOf x y j
+  pub after : (j : ℕ) → 8192 + 16 * count w + 16 ≤ j → getD w′ j 0 ≡ getD w j 0
 
 -- w′ is w with its last record, i, taken away
 pub record Popped (w w′ : List ℕ) (i : ℕ) : Type 0 where

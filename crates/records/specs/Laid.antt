@@ -1,9 +1,9 @@
--- What the words of a table of any kind are: every word but the header's, the bodies and what lies past the near records follows from the records. Assumes nothing.
+-- What the words of a table of any kind are: every word but the header's, the bodies, the spare words and what lies past the near records follows from the records. Assumes nothing.
 use mathlib.Core.Path.{_≡_}
 use mathlib.Core.List.{List}
 use Prim.Native.Nat.{ℕ, _+_, _*_, _≤_, _<_}
 use lib.ListN.{length, getD}
-use Rattle.words.specs.Words.{word, capacity, features, size, count, feature, link, bucket, hashAt, lastOf}
+use Rattle.words.specs.Words.{capacity, features, size, count, feature, link, bucket, hashAt, lastOf}
 
 pub record Laid (w : List ℕ) : Type 0 where
   pub room : 8192 + 16 * capacity w ≤ length w
@@ -11,9 +11,8 @@ pub record Laid (w : List ℕ) : Type 0 where
   pub most : capacity w ≤ 4096
   pub few : features w ≤ 16
   pub large : (k : ℕ) → k < features w → (2 ≤ size w k) × (size w k ≤ 8)
-  -- each record tests a feature, and its spare words are 0
+  -- each record tests a feature
   pub tests : (i : ℕ) → i < count w → feature w i < features w
-  pub spare : (i j : ℕ) → i < count w → 14 ≤ j → j < 16 → word w i j ≡ 0
   -- a link names the last earlier record of the same hash, a chain head the last record of its hash
   pub links : (i : ℕ) → i < count w → link w i ≡ lastOf (hashAt w) (hashAt w i) i
   pub heads : (h : ℕ) → h < 4096 → bucket w h ≡ lastOf (hashAt w) h (count w)

@@ -1,20 +1,23 @@
 -- A table of any kind as the holder of a node list, given how its body words say branches; one node that is asked for. Assumes nothing.
-use mathlib.Core.List.{List}
+use mathlib.Core.Path.{_≡_}
+use mathlib.Core.List.{List, [], _∷_, _++_}
 use Prim.Native.Nat.{ℕ, suc, _<_}
 use Rattle.theory.specs.Kind.{Kind}
 use Rattle.theory.specs.Deciding.{Alike, In}
 use Rattle.theory.specs.Diagrams.{Node, blank, empty}
 use Rattle.theory.specs.WellFormed.{Ok}
-use Rattle.words.specs.Coding.{Code, branches, nodes}
+use Rattle.words.specs.Coding.{Code, Spared, branches, nodes}
 use Rattle.words.specs.Holding.{Layout}
 use Rattle.words.specs.Words.{capacity, size, sizes, count, feature, body, listed, Kept}
+use Rattle.records.specs.Changes.{pairOf}
 use Rattle.records.specs.Laid.{Laid}
 
 module _ {K : Kind} (C : Code K) where
-  -- laid out as every table, and each body says nothing past the values of its feature
+  -- laid out as every table, each body says nothing past the values of its feature, and each spare word is its node's
   pub record NodesLaid (w : List ℕ) : Type 0 where
     pub laid : Laid w
     pub padded : (i : ℕ) → i < count w → C .Padded (size w (feature w i)) (body w i)
+    pub spared : Spared C w
 
   -- how such a table is read
   abbrev pub layoutOf : Layout K
@@ -28,6 +31,10 @@ module _ {K : Kind} (C : Code K) where
   -- the node of feature k with the list's branches
   abbrev pub nodeOf : List ℕ → ℕ → List ℕ → Node K
   nodeOf w k l = record { feature = k; branches = branches C (size w k) (listed l) }
+
+  -- x and y are the spare words of that node, behind the others
+  abbrev pub Behind : List ℕ → ℕ → List ℕ → ℕ → ℕ → Type 0
+  Behind w k l x y = (j : ℕ) → j < 2 → pairOf x y j ≡ C .spareOf (sizes w) (nodes C w ++ (nodeOf w k l ∷ [])) (count w) j
 
   -- nothing has the list's branches at feature k: they differ, and no node has them
   pub record Absent (w : List ℕ) (k : ℕ) (l : List ℕ) : Type 0 where

@@ -1,6 +1,6 @@
 // Adding, taking away and finding records of a table of any kind.
 ghost use mathlib.Core.Path.{_≡_};
-ghost use Prim.Native.Nat.{ℕ, _+_, _*_, _-_, _≤_, _<_};
+ghost use Prim.Native.Nat.{_+_, _*_, _-_, _≤_, _<_};
 ghost use lib.ListN.{length};
 ghost use Rattle.words.specs.Words.{count, capacity};
 ghost use Rattle.settings.specs.Tells.{Tells};
@@ -13,10 +13,10 @@ use words::narrow;
 use words::record_word;
 use words::wide;
 
-// Adds a record of feature k with the list as its body, at the head of its chain; the answer is its index.
-pub fn push(t: &mut [u32], k: usize, list: [u32; 12]) -> usize
+// Adds a record of feature k with the list as its body and two spare words, at the head of its chain; the answer is its index.
+pub fn push(t: &mut [u32], k: usize, list: [u32; 12], x: u32, y: u32) -> usize
     requires { ⌜ (Laid (now t)) × (count (now t) < capacity (now t)) × (k < 16) ⌝ }
-    ensures { λ r. ⌜ (r ≡ count (now (t .entry))) × (Pushed (now (t .entry)) (now (t .exit)) k list) ⌝ }
+    ensures { λ r. ⌜ (r ≡ count (now (t .entry))) × (Pushed (now (t .entry)) (now (t .exit)) k list x y) ⌝ }
 {
     let i = wide(head_word(t, 19));
     let h = hash_of(k, list);
@@ -30,6 +30,8 @@ pub fn push(t: &mut [u32], k: usize, list: [u32; 12]) -> usize
         v += 1;
     }
     t[base + 13] = next;
+    t[base + 14] = x;
+    t[base + 15] = y;
     t[4096 + h] = more;
     t[19] = more;
     i

@@ -24,6 +24,7 @@ regular =
     record {
       faithful = faithful;
       bodies = λ w pad. body-shows w (λ i v h l g. pad i h v l g);
+      spares = λ S N i j. refl;
       places = λ w w′ e p h. ap decode (e p h);
       roots = λ w p h. sym (ap encode (getD-tab (λ q. decode (root w q)) 32 p blank h) ∙ encode-decode (root w p));
       said = λ w. refl;

@@ -55,10 +55,6 @@ lent-end {w} {b} p = ⊎-elim (λ l. l) (λ l. absurd (omega (arith, lent-top p,
 lent-to : {w : List ℕ} {k b j : ℕ} → Lent w k b → j ≤ top w b → Lent w j b
 lent-to {w} {k} {b} {j} p h = record { place = record { holds = p .place .holds; good = top-good w j b (lent-count p) h; upTo = omega (arith, top-most p) } }
 
--- a phrase number may stand wherever another branch word may
-pub lent-any : {w : List ℕ} {k b : ℕ} (x : ℕ) → Lent w k b → x < 65536 → Lent w k x
-lent-any {w} {k} x p h = record { place = record { holds = p .place .holds; good = rw (decode-phrase x h) tt; upTo = p .place .upTo } }
-
 -- ---- what it means
 -- a phrase number gives every setting itself
 pub lent-phrase : (w : List ℕ) (k b : ℕ) (s : List ℕ) → b < 65536 → lent w k b s ≡ says b

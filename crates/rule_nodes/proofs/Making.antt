@@ -2,14 +2,14 @@
 use mathlib.Core.Path.{_≡_, refl, sym, ap, subst, _∙_}
 use mathlib.Core.List.{List}
 use mathlib.Core.Option.{some}
-use Prim.Native.Nat.{ℕ, _+_, _<_}
+use Prim.Native.Nat.{ℕ, zero, suc, _+_, _<_}
 use Rattle.theory.specs.Build.{make}
 use Rattle.theory.specs.Deciding.{Alike}
 use Rattle.theory.specs.Diagrams.{blank}
 use Rattle.theory.specs.Rules.{Branch, Built}
 use Rattle.words.specs.Holding as H
 use Rattle.words.specs.Words.{capacity, features, size, count, listed}
-use Rattle.records.specs.Changes.{Pushed, RecordIs, Finds as FindsRecord}
+use Rattle.records.specs.Changes.{pairOf, Pushed, RecordIs, Finds as FindsRecord}
 use Rattle.records.specs.Nodes.{Absent}
 use Rattle.records.proofs.Making as M
 use Rattle.rule_words.specs.Words.{decode, branches, code, nodes}
@@ -26,6 +26,11 @@ found-at w k l r b e f = subst (λ (x : Found). Finds w k l x) e f
 
 pub found-missing : (w : List ℕ) (k : ℕ) (l : List ℕ) (r : Found) → r ≡ Missing → Finds w k l r → Absent code w k l
 found-missing w k l r e f = subst (λ (x : Found). Finds w k l x) e f
+
+-- a rule record's spare words are 0
+no-spare : (j : ℕ) → pairOf 0 0 j ≡ 0
+no-spare zero = refl
+no-spare (suc j) = refl
 
 module _ (w : List ℕ) (k : ℕ) (l : List ℕ) (ok : Holds w) (hk : k < features w) (li : Listed w k l) where
   abbrev bs : List Branch
@@ -49,10 +54,10 @@ module _ (w : List ℕ) (k : ℕ) (l : List ℕ) (ok : Holds w) (hk : k < featur
   found-none r z n f = M.found-none faithful w k l ok hk li r z (not-alike n) f
 
   -- ---- make
-  pub made-new : (w′ : List ℕ) (r : ℕ) → Absent code w k l → count w < capacity w → r ≡ 65536 + count w → Pushed w w′ k l → Makes w w′ k l (Is r)
+  pub made-new : (w′ : List ℕ) (r : ℕ) → Absent code w k l → count w < capacity w → r ≡ 65536 + count w → Pushed w w′ k l 0 0 → Makes w w′ k l (Is r)
   made-new w′ r ab less e p =
       let g : H.Gives layout w w′ (make k bs (nodes w)) (some (decode r)) =
-      subst (λ (b : Branch). H.Gives layout w w′ (make k bs (nodes w)) (some b)) (sym (decode-index r (count w) e)) (M.made-new faithful w k l ok hk li refl w′ ab less p) in
+      subst (λ (b : Branch). H.Gives layout w w′ (make k bs (nodes w)) (some b)) (sym (decode-index r (count w) e)) (M.made-new faithful w k l ok hk li refl w′ ab less (λ j h. no-spare j) p) in
       record { grown = g .grown; answers = g .answers }
 
   pub made-none : Absent code w k l → (count w < capacity w → ⊥) → Makes w w k l NoRoom

@@ -67,7 +67,7 @@ pub fn make(t: &mut [u32], k: usize, list: [u32; 12]) -> Answer
 {
     let Found::At(b) = find(t, k, list) else {
         if head_word(t, 19) < head_word(t, 1) {
-            let i = narrow(push(t, k, list));
+            let i = narrow(push(t, k, list, 0, 0));
             return Answer::Is(branch_word(Branch::Node(i)));
         }
         return Answer::NoRoom;

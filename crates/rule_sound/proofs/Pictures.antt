@@ -35,6 +35,7 @@ read =
       at-roots = at-roots;
       length-said = length-rules;
       at-said = at-rules;
+      spare-shows = λ S N i j. refl;
       body-shows = λ w pad i v h hv. body-shows w (λ j u l s g. pad j l u s g) i v h hv;
       root-shows = λ w p h. sym (ap encode (at-roots w p h) ∙ encode-decode (root w p));
     }
@@ -44,11 +45,12 @@ pub ordered : {w : List ℕ} → Sound w → Ordered w
 ordered s = record { header = s .header; nodes-ok = s .nodes-ok; chained = s .chained }
 
 pub sound-tested : {w : List ℕ} → Sound w → Tested reading w
+unfolding word
 sound-tested s =
     record {
       header = s .header;
       nodes-ok = node-fits (ordered s);
-      spare = λ i h. s .nodes-ok .each i h .spare;
+      spared = λ i j h g. s .nodes-ok .each i h .spare .zeros (8192 + 16 * i + (14 + j)) (omega arith) (omega arith);
       chained = s .chained;
       roots-ok = s .roots-ok .rooted;
       in-order = s .in-order;
@@ -63,6 +65,15 @@ zeros-past w i pad =
           ap (λ (x : ℕ). getD w x 0) e ∙ pad (j - (8192 + 16 * i + 1)) (omega arith) (omega arith);
     }
 
+zeros-spare : (w : List ℕ) (i : ℕ) → ((j : ℕ) → j < 2 → word w i (14 + j) ≡ 0) → Zeros w (8192 + 16 * i + 14) (8192 + 16 * i + 16)
+unfolding word
+zeros-spare w i z =
+    record {
+      zeros = λ j h g.
+          let e : j ≡ 8192 + 16 * i + (14 + (j - (8192 + 16 * i + 14))) = omega arith in
+          ap (λ (x : ℕ). getD w x 0) e ∙ z (j - (8192 + 16 * i + 14)) (omega arith);
+    }
+
 tested-sound : {w : List ℕ} → Tested reading w → Sound w
 tested-sound {w} t =
     record {
@@ -73,7 +84,7 @@ tested-sound {w} t =
           lower = record { lower = n .lower };
           differ = λ a. n .differ (λ v hv. ap decode (a .alike v hv));
           padded = zeros-past w i (n .padded);
-          spare = t .spare i h;
+          spare = zeros-spare w i (λ j g. t .spared i j h g);
         };
       };
       chained = t .chained;

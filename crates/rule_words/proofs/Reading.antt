@@ -1,5 +1,5 @@
 -- Branch words decoded, and the node list, the roots and the rules by index. Assumes nothing.
-use mathlib.Core.Path.{_≡_, sym, ap, subst, _∙_}
+use mathlib.Core.Path.{_≡_, refl, sym, ap, subst, _∙_}
 use mathlib.Core.Logic.{⊎-elim}
 use mathlib.Core.List.{List}
 use Prim.Native.Nat.{ℕ, _+_, _-_, _≤_, _<_}
@@ -61,6 +61,7 @@ faithful =
       reads = λ f g v h e. ap decode (e v (omega arith));
       padded = λ m f g e p v l h. sym (e v h) ∙ p v l h;
       told = λ m f g l e p q v h. ⊎-elim (λ s. decode-inj (f v) (g v) (e v s)) (λ s. p v s h ∙ sym (q v s h)) (split v m);
+      spared = λ S N M i n j t. refl;
     }
 
 -- records with the same words hold the same node

@@ -19,6 +19,7 @@ drawing =
       places = 32;
       bodyOf = bodyOf;
       rootOf = λ R p. encode (getD R p blank);
+      spareOf = λ S N i j. 0;
       InRange = λ x. x .end < 65536;
       said = rulesOf;
     }

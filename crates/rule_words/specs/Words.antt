@@ -30,7 +30,7 @@ branches m f = tab (λ v. decode (f v)) m
 
 -- how a record's body says them: a word for each branch, 0 past them
 abbrev pub code : C.Code rules
-code = record { arm = λ f v. decode (f v); Padded = λ m f. (v : ℕ) → m ≤ v → v < 12 → f v ≡ 0 }
+code = record { arm = λ f v. decode (f v); Padded = λ m f. (v : ℕ) → m ≤ v → v < 12 → f v ≡ 0; spareOf = λ S N i j. 0 }
 
 -- node i, and all nodes
 abbrev pub nodeAt : List ℕ → ℕ → Node

@@ -22,7 +22,7 @@ use Rattle.sweep.proofs.Copying.{done-small}
 use Rattle.sweep.proofs.Framing.{few, size-most, known-copy, steady-trans, same-capacity, same-count, node-same, padded-same, same-sizes, same-nodes, steady-framed, near-flat}
 
 pub untidy-framed : {K : Kind} {F : Form K} {w : List ℕ} → Untidy F w → Framed (F .code) w
-untidy-framed u = record { room = u .room; most = u .most; within = u .within; list = u .list; wf = u .wf }
+untidy-framed u = record { room = u .room; most = u .most; within = u .within; list = u .list; wf = u .wf; spared = u .spared }
 
 pub full-of : {K : Kind} {C : Code K} {w : List ℕ} → Ready C w → Full w
 full-of r = record { room = r .framed .room; most = r .framed .most; within = r .framed .within; fewer = done-small r }
@@ -138,7 +138,8 @@ module _ {K : Kind} {F : Form K} (R : Regular F) where
           padded = λ i h.
               let l : i < done t = omega arith in
               padded-same (R .faithful) t w′ (capacity t + i) i (record-at i 0 l (omega arith)) (size-at i l) (λ v hv. record-at i (1 + v) l (omega arith)) (a .ready .padded i l);
-          spare = λ i j h g k. record-at i j (omega arith) k ∙ a .ready .spare i j (omega arith) g k;
+          spared = λ i j h g. record-at i (14 + j) (omega arith) (omega arith) ∙ a .ready .spared i j (omega arith) g
+              ∙ ap₂ (λ (S : List ℕ) (M : List (Node K)). F .code .spareOf S M i j) (same-sizes (R .faithful) (untidy-framed u) (a .steady)) (sym nodes-back);
           clean = record { zeros = λ j h g. z .zeros j h (omega (arith, cap)) };
           past = λ j h. b .past j (omega (arith, full .within, cap)) ∙ a .steady .past j h;
         }

@@ -2,23 +2,25 @@
 use mathlib.Core.Path.{_≡_, refl, sym, ap, ap₂, subst, _∙_}
 use mathlib.Core.Logic.{⊎-elim}
 use mathlib.Core.List.{List, [], _∷_, _++_}
-use Prim.Native.Nat.{ℕ, zero, suc, _+_, _*_, _≤_, _<_}
+use Prim.Native.Nat.{ℕ, zero, suc, _+_, _≤_, _<_}
 use native.Mathlib.Omega.{arith}
 use lib.ListN.{length, getD}
 use Rattle.theory.specs.Copying.{Copies, Half, Lists, Twin, marked}
 use Rattle.theory.specs.Diagrams.{Branch, Node, at, blank, leaf, node}
 use Rattle.theory.specs.Kind.{Kind}
+use Rattle.theory.proofs.Growing.{ext-append}
 use Rattle.theory.proofs.Copying.{copies-leaf, copies-twin, copies-new, lists-none, lists-more, half-new, marked-le, marked-lt, marked-more}
 use Rattle.words.specs.Coding.{Code, Faithful, branches, nodeAt, nodes}
 use Rattle.words.specs.Tab.{tab}
 use Rattle.words.specs.Words.{word, capacity, size, count, sizes, feature, body, listed}
+use Rattle.words.proofs.Sparing.{spare-ext}
 use Rattle.words.proofs.Coding.{length-nodes, at-nodes, branch-at, node-is}
 use Rattle.words.proofs.Tab.{split, tab-snoc, tab-ext, length-tab}
 use Rattle.sweep.specs.Marks.{done, mark}
 use Rattle.sweep.specs.Sweeping.{Spare, Put}
 use Rattle.sweep.specs.Collecting.{copies, Ready, Steady, Still, Moved, Turning, Moving}
 use Rattle.sweep.proofs.Writing.{put-marks}
-use Rattle.sweep.proofs.Framing.{length-copies, known, known-copy, size-most, size-small, positive, steady-refl, steady-trans, same-count, node-same, padded-same, same-size, steady-framed, arm-kept, still-before, half-back, half-on, copies-back}
+use Rattle.sweep.proofs.Framing.{length-copies, known, known-copy, size-most, size-small, positive, steady-refl, steady-trans, same-count, node-same, padded-same, same-size, same-sizes, steady-framed, arm-kept, still-before, half-back, half-on, copies-back}
 
 module _ {K : Kind} {C : Code K} where
   still-refl : {w : List ℕ} → Ready C w → Still C w w
@@ -188,18 +190,30 @@ module _ {K : Kind} {C : Code K} (F : Faithful C) where
               let e : done t ≡ x = omega (arith, p .more) in
               subst (λ (n : ℕ). C .Padded (size t′ (feature t′ (capacity t′ + n))) (body t′ (capacity t′ + n))) e new-padded
 
-      now-spare : (x j : ℕ) → x < done t′ → 13 ≤ j → j < 16 → word t′ (capacity t′ + x) j ≡ 0
-      unfolding word
-      now-spare x j hx hj g = ap (λ (n : ℕ). word t′ (n + x) j) room-same ∙ ⊎-elim old fresh (split x (done t))
+      -- an old copy's spare words are those that it has in the longer list, the new one's are those of its node
+      now-spared : (x j : ℕ) → x < done t′ → j < 2 → word t′ (capacity t′ + x) (14 + j) ≡ C .spareOf (sizes t′) (copies C t′) x j
+      now-spared x j hx g = ⊎-elim old fresh (split x (done t))
         where
-          old : x < done t → word t′ (capacity t + x) j ≡ 0
-          old l = p .old x j l g ∙ then .spare x j l hj g
+          old : x < done t → word t′ (capacity t′ + x) (14 + j) ≡ C .spareOf (sizes t′) (copies C t′) x j
+          old l =
+              old-word x (14 + j) l (omega arith)
+              ∙ then .spared x j l g
+              ∙ spare-ext F (sizes t) (copies C t) (copies C t ++ (new ∷ [])) (then .half .wf) (ext-append (copies C t) (new ∷ [])) x j (omega (arith, length-copies C t))
+              ∙ sym (ap₂ (λ (S : List ℕ) (M : List (Node K)). C .spareOf S M x j) (same-sizes F (then .framed) steady) copies-put)
 
-          fresh : done t ≤ x → word t′ (capacity t + x) j ≡ 0
+          new-spared : word t′ (capacity t′ + done t) (14 + j) ≡ C .spareOf (sizes t′) (copies C t′) (done t) j
+          new-spared =
+              ap (λ (n : ℕ). word t′ (n + done t) (14 + j)) room-same
+              ∙ p .spare j g
+              ∙ so-far .near i (14 + j) (omega (arith, ready .framed .within)) (omega arith)
+              ∙ ready .framed .spared i j h g
+              ∙ F .spared (sizes w) (nodes C w) (copies C t ++ (new ∷ [])) i (done t) j (now-half .twin i (done t) there (p .noted))
+              ∙ sym (ap₂ (λ (S : List ℕ) (M : List (Node K)). C .spareOf S M (done t) j) (same-sizes F (ready .framed) steady-all) copies-put)
+
+          fresh : done t ≤ x → word t′ (capacity t′ + x) (14 + j) ≡ C .spareOf (sizes t′) (copies C t′) x j
           fresh l =
-              let e : x ≡ done t = omega (arith, p .more) in
-              p .after (8192 + 16 * (capacity t + x) + j) (omega arith)
-              ∙ then .clean .zeros (8192 + 16 * (capacity t + x) + j) (omega arith) (omega (arith, spare-for .free))
+              let e : done t ≡ x = omega (arith, p .more) in
+              subst (λ (n : ℕ). word t′ (capacity t′ + n) (14 + j) ≡ C .spareOf (sizes t′) (copies C t′) n j) e new-spared
 
       now-ready : Ready C t′
       now-ready =
@@ -213,7 +227,7 @@ module _ {K : Kind} {C : Code K} (F : Faithful C) where
                 ∙ sym (marked-more (mark t) (mark t′) (count t) i (done t) here unmarked (p .noted) (λ x hx q. others x (omega (arith, same-count so-far)) q))
                 ∙ ap (marked (mark t′)) (sym (same-count steady));
             padded = now-padded;
-            spare = now-spare;
+            spared = now-spared;
             clean = record { zeros = λ j hj g. p .after j (omega (arith, p .more)) ∙ then .clean .zeros j (omega (arith, p .more)) (omega arith) };
           }
 

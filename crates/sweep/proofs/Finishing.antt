@@ -65,6 +65,7 @@ module _ {K : Kind} {F : Form K} (R : Regular F) {w w′ : List ℕ} {p : ℕ} {
         middle = record { zeros = λ j l g. s .replaced .rest j l ∙ u .middle .zeros j l g };
         clean = record { zeros = λ j l g. s .replaced .rest j (omega arith) ∙ u .clean .zeros j (omega arith) (omega arith) };
         wf = k .wf;
+        spared = k .spared;
         rooted = λ q h. subst (λ (N : List (Node K)). Ok N 0 (F .rootAt w′ q)) (sym nodes-same) (each-place (Ok (nodes (F .code) w) 0) ok (u .rooted) q h);
       }
 

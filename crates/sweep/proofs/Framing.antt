@@ -14,6 +14,7 @@ use Rattle.words.specs.Coding.{Code, Faithful, nodeAt, nodes}
 use Rattle.words.specs.Tab.{tab}
 use Rattle.words.specs.Words.{word, capacity, features, size, count, sizes, feature, body}
 use Rattle.words.proofs.Coding.{length-nodes, at-nodes, branch-at, node-is}
+use Rattle.words.proofs.Sparing.{spared-same}
 use Rattle.words.proofs.Tab.{length-tab, getD-tab, tab-ext}
 use Rattle.words.proofs.Words.{length-sizes, at-sizes}
 use Rattle.sweep.specs.Marks.{done}
@@ -140,6 +141,7 @@ module _ {K : Kind} {C : Code K} (F : Faithful C) {w w′ : List ℕ} (f : Frame
         within = omega (arith, f .within);
         list = subst FeatureList (sym same-sizes) (f .list);
         wf = subst (λ (S : List ℕ). WF S (nodes C w′)) (sym same-sizes) (subst (WF (sizes w)) (sym same-nodes) (f .wf));
+        spared = spared-same C w w′ (same-count k) same-sizes same-nodes (λ i j h g. k .near i (14 + j) (omega (arith, f .within)) (omega arith)) (f .spared);
       }
 
   -- branch v of node i is as it was, so it may be copied

@@ -20,7 +20,7 @@ use Rattle.words.proofs.Tab.{tab-none, tab-snoc, tab-ext}
 use Rattle.sweep.specs.Marks.{done, mark}
 use Rattle.sweep.specs.Form.{Form, Regular, funAt}
 use Rattle.sweep.specs.Collecting.{copies, Loose, Ready, Steady, Moved, Rooted}
-use Rattle.sweep.proofs.Framing.{known-copy, size-most, steady-refl, steady-trans, node-same, padded-same, same-size, same-nodes, steady-framed, half-on, copies-back}
+use Rattle.sweep.proofs.Framing.{known-copy, size-most, steady-refl, steady-trans, node-same, padded-same, same-size, same-sizes, same-nodes, steady-framed, half-on, copies-back}
 
 -- w′ is w but for the words of the places
 pub record Replaced (w w′ : List ℕ) : Type 0 where
@@ -79,7 +79,8 @@ module _ {w w′ : List ℕ} (c : Replaced w w′) where
           padded = λ x hx.
               let l : x < done w = omega arith in
               padded-same F w w′ (capacity w + x) (capacity w′ + x) (far-word x 0) (far-size x l) (λ v hv. far-word x (1 + v)) (r .padded x l);
-          spare = λ x j hx hj g. far-word x j ∙ r .spare x j (omega arith) hj g;
+          spared = λ x j hx g. far-word x (14 + j) ∙ r .spared x j (omega arith) g
+              ∙ sym (ap₂ (λ (S : List ℕ) (M : List (Node K)). C .spareOf S M x j) (same-sizes F (r .framed) replaced-steady) replaced-copies);
           clean = record { zeros = λ j h g. c .rest j (omega arith) ∙ r .clean .zeros j (omega arith) (omega arith) };
         }
 
@@ -105,7 +106,7 @@ module _ {K : Kind} {F : Form K} where
         half = rw (no-copies l) (half-none (λ i h. l .unmarked i (omega (arith, length-nodes (F .code) w))));
         tallied = l .nothing ∙ sym (marked-none (mark w) (count w) (l .unmarked));
         padded = λ i h. absurd (omega arith);
-        spare = λ i j h. absurd (omega arith);
+        spared = λ i j h. absurd (omega arith);
         clean = record { zeros = λ j h g. l .clean .zeros j (omega (arith, l .framed .within)) g };
       }
 

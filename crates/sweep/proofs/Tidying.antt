@@ -92,7 +92,7 @@ module _ {K : Kind} {F : Form K} (R : Regular F) where
             links = λ i h.
                 let l : i < count t = omega arith in
                 r .links i l ∙ ap (λ (x : ℕ). lastOf (hashAt t) x i) (tested i l) ∙ last-ext (hashAt t) hash (hash i) i (λ j g. tested j (omega arith));
-            spare = λ i j h g k. let l : i < count t = omega arith in r .words i j l k (omega arith) ∙ c .spare i j l (omega arith) k;
+            spare = λ i j h g. let l : i < count t = omega arith in r .words i (14 + j) l (omega arith) (omega arith) ∙ c .spared i j l g ∙ R .spares (sizes w) N i j;
             clean = record { zeros = λ j h g. r .after j (omega arith) ∙ c .clean .zeros j (omega arith) g };
           }
 

@@ -9,7 +9,7 @@ use Rattle.theory.specs.Diagrams.{Branch, Node, Target}
 use Rattle.theory.specs.Kind.{Kind}
 use Rattle.theory.specs.Settings.{FeatureList}
 use Rattle.theory.specs.WellFormed.{Ok, Under, WF}
-use Rattle.words.specs.Coding.{Code, branches, nodeAt, nodes}
+use Rattle.words.specs.Coding.{Code, Spared, branches, nodeAt, nodes}
 use Rattle.words.specs.Tab.{tab}
 use Rattle.words.specs.Words.{head, word, capacity, size, count, sizes, bound, feature, body, listed, Zeros}
 use Rattle.sweep.specs.Marks.{done, mark}
@@ -28,25 +28,26 @@ module _ {K : Kind} (C : Code K) where
   unfoldable pub copies : List ℕ → List (Node K)
   copies w = tab (λ i. nodeAt C w (capacity w + i)) (done w)
 
-  -- the header's numbers, and a well-formed node list
+  -- the header's numbers, and a well-formed node list with its spare words
   pub record Framed (w : List ℕ) : Type 0 where
     pub room : bound (capacity w) ≤ length w
     pub most : capacity w ≤ 4096
     pub within : count w ≤ capacity w
     pub list : FeatureList (sizes w)
     pub wf : WF (sizes w) (nodes C w)
+    pub spared : Spared C w
 
   -- a root may go there
   abbrev pub Good : List ℕ → Target K → Type 0
   Good w t = Under (nodes C w) (length (nodes C w)) 0 t
 
-  -- the far records hold copies of the marked nodes, 0 past each body and past the last
+  -- the far records hold copies of the marked nodes with their spare words, 0 past each body and past the last
   pub record Ready (w : List ℕ) : Type 0 where
     pub framed : Framed w
     pub half : Half (sizes w) (nodes C w) (copies w) (mark w)
     pub tallied : done w ≡ marked (mark w) (count w)
     pub padded : (i : ℕ) → i < done w → C .Padded (size w (feature w (capacity w + i))) (body w (capacity w + i))
-    pub spare : (i j : ℕ) → i < done w → 13 ≤ j → j < 16 → word w (capacity w + i) j ≡ 0
+    pub spared : (i j : ℕ) → i < done w → j < 2 → word w (capacity w + i) (14 + j) ≡ C .spareOf (sizes w) (copies w) i j
     pub clean : Zeros w (8192 + 16 * (capacity w + done w)) (bound (capacity w))
 
   -- more may be copied, and the places are as they were
@@ -96,6 +97,6 @@ module _ {K : Kind} (F : Form K) where
     pub holds : table (sizes w) (funsOf F w) ≡ (rootsOf F w′, nodes (F .code) w′)
     pub fewer : count w′ ≤ count w
     pub padded : (i : ℕ) → i < count w′ → F .code .Padded (size w′ (feature w′ i)) (body w′ i)
-    pub spare : (i j : ℕ) → i < count w′ → 13 ≤ j → j < 16 → word w′ i j ≡ 0
+    pub spared : (i j : ℕ) → i < count w′ → j < 2 → word w′ i (14 + j) ≡ F .code .spareOf (sizes w) (nodes (F .code) w′) i j
     pub clean : Zeros w′ (8192 + 16 * count w′) (bound (capacity w))
     pub past : (j : ℕ) → bound (capacity w) ≤ j → getD w′ j 0 ≡ getD w j 0

@@ -3,7 +3,7 @@ use mathlib.Core.Path.{_≡_}
 use mathlib.Core.List.{List}
 use Prim.Native.Nat.{ℕ, _+_, _<_}
 use Rattle.theory.specs.Kind.{Kind}
-use Rattle.theory.specs.Diagrams.{Branch, at, meaning}
+use Rattle.theory.specs.Diagrams.{Branch, Node, at, meaning}
 use Rattle.theory.specs.Functions.{Fun}
 use Rattle.words.specs.Coding.{Code, Faithful, nodes}
 use Rattle.words.specs.Picture.{Drawing}
@@ -32,6 +32,7 @@ pub record Regular {K : Kind} (F : Form K) : Type 0 where
   pub faithful : Faithful (F .code)
   pub bodies : (w : List ℕ) → ((i : ℕ) → i < count w → F .code .Padded (size w (feature w i)) (body w i))
       → (i v : ℕ) → i < count w → v < 12 → body w i v ≡ F .drawing .bodyOf (at (nodes (F .code) w) i) v
+  pub spares : (S : List ℕ) (N : List (Node K)) (i j : ℕ) → F .code .spareOf S N i j ≡ F .drawing .spareOf S N i j
   pub places : (w w′ : List ℕ) → ((p : ℕ) → p < 32 → head w′ (32 + p) ≡ head w (32 + p)) → (p : ℕ) → p < F .drawing .places → F .rootAt w′ p ≡ F .rootAt w p
   pub roots : (w : List ℕ) (p : ℕ) → p < 32 → head w (32 + p) ≡ F .drawing .rootOf (rootsOf F w) p
   pub said : (w : List ℕ) → F .drawing .said w ≡ funsOf F w

@@ -21,7 +21,7 @@ pub record Spare (w : List ℕ) (i : ℕ) : Type 0 where
   pub there : i < capacity w
   pub free : done w < capacity w
 
--- one copy more, of node i, with the list as its body; the near records are kept
+-- one copy more, of node i, with the list as its body and node i's spare words; the near records are kept
 pub record Put (w w′ : List ℕ) (i : ℕ) (l : List ℕ) : Type 0 where
   pub long : length w′ ≡ length w
   pub low : (j : ℕ) → j < 8192 → (j ≡ 31 → ⊥) → (j ≡ 4096 + i → ⊥) → head w′ j ≡ head w j
@@ -31,7 +31,8 @@ pub record Put (w w′ : List ℕ) (i : ℕ) (l : List ℕ) : Type 0 where
   pub old : (n j : ℕ) → n < done w → j < 16 → word w′ (capacity w + n) j ≡ word w (capacity w + n) j
   pub feature : word w′ (capacity w + done w) 0 ≡ word w i 0
   pub new : (v : ℕ) → v < 12 → body w′ (capacity w + done w) v ≡ listed l v
-  pub after : (j : ℕ) → 8192 + 16 * (capacity w + done w) + 13 ≤ j → getD w′ j 0 ≡ getD w j 0
+  pub spare : (j : ℕ) → j < 2 → word w′ (capacity w + done w) (14 + j) ≡ word w i (14 + j)
+  pub after : (j : ℕ) → 8192 + 16 * (capacity w + done w) + 16 ≤ j → getD w′ j 0 ≡ getD w j 0
 
 -- ---- the way back
 -- no more copies than nodes

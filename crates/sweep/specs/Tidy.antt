@@ -6,7 +6,7 @@ use lib.ListN.{length, getD}
 use Rattle.theory.specs.Kind.{Kind}
 use Rattle.theory.specs.Settings.{FeatureList}
 use Rattle.theory.specs.WellFormed.{Ok, WF}
-use Rattle.words.specs.Coding.{nodes}
+use Rattle.words.specs.Coding.{Spared, nodes}
 use Rattle.words.specs.Picture.{Pictures, Proper}
 use Rattle.words.specs.Words.{kind, capacity, features, count, sizes, bound, Zeros}
 use Rattle.sweep.specs.Form.{Form}
@@ -25,6 +25,7 @@ module _ {K : Kind} (F : Form K) where
     pub middle : Zeros w 64 4096
     pub clean : Zeros w (8192 + 16 * count w) (bound (capacity w))
     pub wf : WF (sizes w) (nodes (F .code) w)
+    pub spared : Spared (F .code) w
     pub rooted : (p : ℕ) → p < F .drawing .places → Ok (nodes (F .code) w) 0 (F .rootAt w p)
 
   -- w′ is the picture of the functions that w holds; the words past the table are kept

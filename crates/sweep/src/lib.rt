@@ -22,19 +22,23 @@ pub fn clear_heads(t: &mut [u32])
     }
 }
 
-// Writes the next far record: the feature of node i, with the list as its body. Answers its number, and marks node i with 1 more.
+// Writes the next far record: the feature and the spare words of node i, with the list as its body. Answers its number, and marks node i with 1 more.
 pub fn add_copy(t: &mut [u32], i: usize, list: [u32; 12]) -> usize
     requires { ⌜ Spare (now t) i ⌝ }
     ensures { λ r. ⌜ (r ≡ done (now (t .entry))) × (Put (now (t .entry)) (now (t .exit)) i list) ⌝ }
 {
     let m = wide(head_word(t, 31));
     let base = 8192 + 16 * (wide(head_word(t, 1)) + m);
+    let x = record_word(t, i, 14);
+    let y = record_word(t, i, 15);
     t[base] = record_word(t, i, 0);
     let mut v: usize = 0;
     while v < 12 {
         t[base + 1 + v] = list[v];
         v += 1;
     }
+    t[base + 14] = x;
+    t[base + 15] = y;
     t[4096 + i] = narrow(m + 1);
     t[31] = narrow(m + 1);
     m

@@ -3,4 +3,5 @@ pub mod Words
 pub mod Chains
 pub mod Filling
 pub mod Coding
+pub mod Sparing
 pub mod Picture

@@ -29,7 +29,9 @@ module _ {K : Kind} {D : Drawing K} {cap : ℕ} {S : List ℕ} {R : List (Branch
       ap (word w i) q ∙ a .bodies i (r - 1) h (omega (arith, e)) ∙ sym (b .bodies i (r - 1) h (omega (arith, e))) ∙ ap (word w′ i) (sym q))
       (λ l. ⊎-elim
       (λ q. rw q (a .links i h ∙ sym (b .links i h)))
-      (λ q. a .spare i r h (omega (arith, q)) hr ∙ sym (b .spare i r h (omega (arith, q)) hr))
+      (λ q.
+      let z : r ≡ 14 + (r - 14) = omega (arith, q) in
+      ap (word w i) z ∙ a .spare i (r - 14) h (omega arith) ∙ sym (b .spare i (r - 14) h (omega arith)) ∙ ap (word w′ i) (sym z))
       (same r 13))
       (split r 13))
       (same r 0)
@@ -94,6 +96,6 @@ shows-ext f l e a =
       tests = λ i h. e (8192 + 16 * i + 0) (omega arith) ∙ a .tests i h;
       bodies = λ i v h g. e (8192 + 16 * i + (1 + v)) (omega arith) ∙ a .bodies i v h g;
       links = λ i h. e (8192 + 16 * i + 13) (omega arith) ∙ a .links i h;
-      spare = λ i j h g k. e (8192 + 16 * i + j) (omega arith) ∙ a .spare i j h g k;
+      spare = λ i j h g. e (8192 + 16 * i + (14 + j)) (omega arith) ∙ a .spare i j h g;
       clean = record { zeros = λ j h g. e j g ∙ a .clean .zeros j h g };
     }

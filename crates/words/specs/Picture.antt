@@ -18,6 +18,8 @@ pub record Drawing (K : Kind) : Type 1 where
   -- body word v of a node, and word p of the 32 that say the roots
   pub bodyOf : Node K → ℕ → ℕ
   pub rootOf : List (Branch K) → ℕ → ℕ
+  -- spare word j of node i, of the sizes and the node list
+  pub spareOf : List ℕ → List (Node K) → ℕ → ℕ → ℕ
   -- what a place may give a setting
   pub InRange : Amount K → Type 0
   -- the functions that the words of a table say
@@ -42,7 +44,7 @@ module _ {K : Kind} (D : Drawing K) where
     pub tests : (i : ℕ) → i < length N → feature w i ≡ at N i .feature
     pub bodies : (i v : ℕ) → i < length N → v < 12 → body w i v ≡ D .bodyOf (at N i) v
     pub links : (i : ℕ) → i < length N → link w i ≡ lastOf (nodeHash N) (nodeHash N i) i
-    pub spare : (i j : ℕ) → i < length N → 14 ≤ j → j < 16 → word w i j ≡ 0
+    pub spare : (i j : ℕ) → i < length N → j < 2 → word w i (14 + j) ≡ D .spareOf S N i j
     pub clean : Zeros w (8192 + 16 * length N) (bound cap)
 
   -- the picture of the functions gs: the nodes are those that building them in turn gives

@@ -42,7 +42,7 @@ sizes w = tab (size w) (features w)
 abbrev pub bound : ℕ → ℕ
 bound cap = 8192 + 32 * cap
 
--- ---- a record: its feature, 12 body words, its chain link, 2 spare words
+-- ---- a record: its feature, 12 body words, its chain link, 2 spare words (the kind says what they hold)
 abbrev pub feature : List ℕ → ℕ → ℕ
 feature w i = word w i 0
 

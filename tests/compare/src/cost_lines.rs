@@ -5,8 +5,27 @@ use crate::junk::COST_JUNK;
 use crate::kind::Kind::{Costs, Rules};
 use crate::kind::MOST_COST;
 use crate::model::Cost;
-use crate::picture::ROOTS;
+use crate::picture::{RECORD, RECORDS, ROOTS};
+use crate::rng::Rng;
 use crate::script::Maker;
+use crate::shape::Shape;
+use crate::side::BUFFER;
+
+/// What takes amounts just to an end of the range, or past it by so much; no more than a price may be.
+fn to_an_end(rng: &mut Rng, amounts: &[i64], past: i64) -> i64 {
+    let low = amounts.iter().copied().min().unwrap_or(0);
+    let high = amounts.iter().copied().max().unwrap_or(0);
+    let (down, up) = (-MOST_COST - low - past, MOST_COST - high + past);
+    let shift = if down < -MOST_COST || up <= MOST_COST && rng.once_in(2) { up } else { down };
+    shift.clamp(-MOST_COST, MOST_COST)
+}
+
+/// What takes a cost to an end of the range for each value of feature k, for one of them past it by so much.
+fn to_the_ends(rng: &mut Rng, shape: &Shape, cost: &Cost, k: usize, past: i64) -> Vec<i64> {
+    let beyond = rng.below(shape.sizes[k]);
+    let amounts = |v: usize| -> Cost { (0..cost.len()).filter(|&i| shape.value(i, k) == v).map(|i| cost[i]).collect() };
+    (0..shape.sizes[k]).map(|v| to_an_end(rng, &amounts(v), if v == beyond { past } else { 0 })).collect()
+}
 
 impl Maker {
     /// The cost of a place, if there is one.
@@ -19,16 +38,44 @@ impl Maker {
         self.cost(p).and_then(|c| c.iter().map(|x| x.abs()).max()).unwrap_or(1)
     }
 
-    /// A constant is put into a place that with the cost of place a just stays in range or just leaves it, added by a
-    /// sign of 1 or subtracted by -1.
-    fn edge(&mut self, a: i64, sign: i64) -> i64 {
-        let p = self.poor(Costs);
-        let cost = self.cost(a);
-        let low = cost.and_then(|c| c.iter().min().copied()).unwrap_or(0);
-        let high = cost.and_then(|c| c.iter().max().copied()).unwrap_or(0);
-        let past = self.args.rng.below(2) as i64;
-        let shift = if self.args.rng.once_in(2) { MOST_COST - high + past } else { -MOST_COST - low - past };
-        self.say(line("cconstant", &[p, sign * shift]));
+    /// The amounts of two places together, added by a sign of 1 or subtracted by -1.
+    fn together(&self, a: i64, b: i64, sign: i64) -> Option<Cost> {
+        Some(self.cost(a)?.iter().zip(self.cost(b)?).map(|(x, y)| x + sign * y).collect())
+    }
+
+    /// A constant or a price list is put into place p that takes a cost just to an end of the range or just past it,
+    /// added by a sign of 1 or subtracted by -1. The highest of the cost and of the list need not meet, nor the lowest.
+    fn edge(&mut self, p: i64, cost: &Cost, sign: i64) {
+        let shape = match self.desk.costs.table() {
+            Some(table) => table.shape.clone(),
+            None => return,
+        };
+        let rng = &mut self.args.rng;
+        let past = rng.below(2) as i64;
+        let text = if rng.once_in(4) {
+            line("cconstant", &[p, sign * to_an_end(rng, cost, past)])
+        } else {
+            let k = rng.below(shape.features());
+            let prices = to_the_ends(rng, &shape, cost, k, past).into_iter().map(|x| sign * x);
+            line("price", &[p, k as i64].into_iter().chain(prices).collect::<Vec<i64>>())
+        };
+        self.say(text);
+    }
+
+    /// A place that with place a is at an end of the range or just past it: with another cost in it, or without.
+    fn at_the_edge(&mut self, a: i64, sign: i64) -> i64 {
+        let first = self.poor(Costs);
+        // most often not place a itself
+        let p = if first == a { self.poor(Costs) } else { first };
+        if self.args.rng.once_in(3) {
+            let c = self.rich(Costs);
+            if let Some(cost) = self.together(a, c, sign) {
+                self.edge(p, &cost, sign);
+                self.say(line("add", &[p, p, c]));
+            }
+        } else if let Some(cost) = self.cost(a).cloned() {
+            self.edge(p, &cost, sign);
+        }
         p
     }
 
@@ -36,7 +83,7 @@ impl Maker {
     fn sum(&mut self, name: &str) -> String {
         let a = self.rich(Costs);
         let sign = if name == "add" { 1 } else { -1 };
-        let b = if self.args.rng.once_in(6) { self.edge(a, sign) } else { self.rich(Costs) };
+        let b = if self.args.rng.once_in(3) { self.at_the_edge(a, sign) } else { self.rich(Costs) };
         line(name, &[self.poor(Costs), a, b])
     }
 
@@ -66,14 +113,24 @@ impl Maker {
         }
     }
 
-    /// The words that say the cost of a place: root, base, and some of the records.
+    /// The words that say the cost of a place: root, base, one of the pair of its node or another.
     fn peek(&mut self, p: i64) {
         if (0..Costs.places() as i64).contains(&p) {
-            let root = ROOTS as i64 + p;
-            self.say(line("cword", &[root]));
-            self.say(line("cword", &[root + 16]));
+            let root = ROOTS + p as usize;
+            self.say(format!("cword {root}"));
+            self.say(format!("cword {}", root + 16));
+            if self.args.rng.once_in(2) {
+                return self.peek_pair(root);
+            }
         }
         self.handle(Costs, "word", false);
+    }
+
+    /// A word of the pair of the node that a root word goes to; one before all records where it goes to the end.
+    fn peek_pair(&mut self, root: usize) {
+        let past = RECORDS + RECORD * self.desk.words(Costs)[root] as usize;
+        let i = past - self.args.rng.within(1, 2);
+        self.say(format!("cword {}", i.min(BUFFER - 1)));
     }
 
     /// A call that only reads.
@@ -82,7 +139,11 @@ impl Maker {
         let text = match name {
             "clook" => line(name, &[vec![p], self.args.setting(Costs)].concat()),
             "csame" => line(name, &[p, self.args.place(Costs)]),
-            "lowest" => line(name, &[self.rich(Costs), self.rich(Rules)]),
+            "lowest" => {
+                // constants and literals too, which are a number other than 0 on large parts
+                let rule = if self.args.rng.once_in(2) { self.rich(Rules) } else { self.args.place(Rules) };
+                line(name, &[self.rich(Costs), rule])
+            }
             _ => name.to_string(),
         };
         self.say(text);

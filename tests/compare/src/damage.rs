@@ -1,10 +1,10 @@
 //! Damage: every change of one word of a small sound table is either refused as DAMAGED by every call, or gives another
 //! sound table with the rules or costs that its words say.
 
-use crate::kind::{Kind, Number, MOST_COST};
+use crate::kind::{biased, unbiased, Kind, Number, MOST_ADDED, MOST_COST};
 use crate::model::{Costs, Rules, Table};
 use crate::parts::Parts;
-use crate::picture::{self, HEADS, RECORDS, ROOTS};
+use crate::picture::{self, COUNT, HEADS, PAIR, RECORD, RECORDS, ROOTS};
 use crate::scope::Scope;
 use crate::shape::Shape;
 use crate::side::BUFFER;
@@ -68,10 +68,24 @@ fn changes(kind: Kind, i: usize, old: u32) -> Vec<u32> {
         let most = MOST_COST as u32;
         new.extend([zero - most - 1, zero - most, zero + most, zero + most + 1]);
     }
-    new.sort_unstable();
-    new.dedup();
-    new.retain(|&x| x != old);
-    new
+    others(new, old)
+}
+
+/// More of them for a word of a pair: each bit, the other word of the pair, 0 and the same on the other side of 0, and
+/// the ends of what a cost may be and of what a branch may add, with those next to them.
+fn pair_changes(old: u32, other: u32) -> Vec<u32> {
+    let bits = (0..32).map(|b| old ^ 1 << b);
+    let far = [MOST_COST, MOST_ADDED].iter().flat_map(|&most| [most - 1, most, most + 1]);
+    let ends = far.flat_map(|z| [biased(z), biased(-z)]);
+    bits.chain(ends).chain([other, biased(0), biased(-unbiased(old))]).collect()
+}
+
+/// Each of the words once, without the old one.
+fn others(mut words: Vec<u32>, old: u32) -> Vec<u32> {
+    words.sort_unstable();
+    words.dedup();
+    words.retain(|&x| x != old);
+    words
 }
 
 fn fresh<N: Number>(capacity: usize) -> Table<N> {
@@ -102,6 +116,16 @@ fn small_costs() -> [Costs; 3] {
         && three.add(2, 0, 1).is_ok();
     assert!(made, "the small tables have room");
     [three, one, two]
+}
+
+/// Costs with the widest pairs that there are, and one to both sides of 0.
+fn wide_costs() -> Costs {
+    let mut wide = fresh(3);
+    let made = wide.price(0, 0, &[-MOST_COST, MOST_COST]).is_ok()
+        && wide.price(1, 0, &[MOST_COST, -MOST_COST]).is_ok()
+        && wide.price(2, 1, &[0, MOST_COST, -MOST_COST]).is_ok();
+    assert!(made, "the wide table has room");
+    wide
 }
 
 /// Calls in turn that find damage.
@@ -150,11 +174,27 @@ impl<N: Number> Damage<N> {
         }
     }
 
+    /// The words of the pairs of the nodes in use.
+    fn pairs(&self) -> Vec<usize> {
+        let record = |i: usize| RECORDS + RECORD * i;
+        (0..self.words[COUNT] as usize).flat_map(|i| record(i) + PAIR..record(i) + RECORD).collect()
+    }
+
+    /// The changes of word i.
+    fn changes(&self, i: usize) -> Vec<u32> {
+        let old = self.words[i];
+        let mut new = changes(N::KIND, i, old);
+        if self.pairs().contains(&i) {
+            new.extend(pair_changes(old, self.words[i ^ 1]));
+        }
+        others(new, old)
+    }
+
     /// Every change of each of the words.
     fn all(mut self, indices: impl Iterator<Item = usize>) -> Vec<Vec<String>> {
         let mut turn = 0;
         for i in indices {
-            for new in changes(N::KIND, i, self.words[i]) {
+            for new in self.changes(i) {
                 self.change(i, new, turn);
                 turn += 1;
             }
@@ -183,6 +223,9 @@ pub fn scripts(scope: Scope) -> Vec<Vec<String>> {
     let mut scripts = scripts_of(small_rules(), scope);
     if scope != Scope::Rules {
         scripts.extend(scripts_of(small_costs(), scope));
+        let wide = Damage::new(wide_costs(), scope);
+        let pairs = wide.pairs();
+        scripts.extend(wide.all(pairs.into_iter()));
     }
     scripts
 }
@@ -197,6 +240,35 @@ mod tests {
         assert_eq!(changes(Kind::Rules, 50, 1), [0, 2, 65537, u32::MAX]);
         assert_eq!(changes(Kind::Costs, 5000, 0), [1, 65536, u32::MAX]);
         assert_eq!(changes(Kind::Costs, 50, 1 << 31).len(), 9);
+    }
+
+    #[test]
+    fn changes_of_a_word_of_a_pair() {
+        let new = pair_changes(1 << 31, 2147483642);
+        for word in [0, 2147483649, 2147483642, 3147483648, 1147483648, 4147483648, 147483648, 147483647, 4147483649] {
+            assert!(new.contains(&word), "{word}");
+        }
+        assert!((0..32).all(|b| new.contains(&(1 << 31 ^ 1 << b))));
+    }
+
+    /// Of a table the words of pairs, and how many changes of any of them alone leave it sound.
+    fn changed_pairs<N: Number>(table: Table<N>) -> (usize, usize) {
+        let damage = Damage::new(table, Scope::All);
+        let pairs = damage.pairs();
+        let changes = pairs.iter().flat_map(|&i| damage.changes(i).into_iter().map(move |new| (i, new)));
+        let is_sound = |&(i, new): &(usize, u32)| {
+            let mut words = damage.words.clone();
+            words[i] = new;
+            sound::read::<N>(&words).is_some()
+        };
+        (pairs.len(), changes.filter(is_sound).count())
+    }
+
+    #[test]
+    fn no_change_of_a_pair_is_sound() {
+        assert_eq!(small_rules().map(changed_pairs), [(6, 0), (2, 0), (2, 0)]);
+        assert_eq!(small_costs().map(changed_pairs), [(6, 0), (2, 0), (2, 0)]);
+        assert_eq!(changed_pairs(wide_costs()), (6, 0));
     }
 
     #[test]

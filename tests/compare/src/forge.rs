@@ -1,8 +1,10 @@
-//! Forged tables: a diagram with one fault in its nodes, but laid out and chained as it should be, so that nothing but
-//! the fault can give it away. Some faults leave a sound table, and then every answer is that of its rules or costs.
+//! Forged tables: a diagram with one fault in its nodes or in a pair, but laid out, chained and paired as it should be,
+//! so that nothing but the fault can give it away. Some faults leave a sound table, and then every answer is that of its
+//! rules or costs.
 
 use crate::desk::{Desk, OnDesk};
 use crate::kind::{Branch, Kind, Number, To, MOST_ADDED, MOST_COST};
+use crate::pairs::{self, Hold};
 use crate::parts::poked;
 use crate::picture::{self, Diagram, Node};
 use crate::rng::Rng;
@@ -12,7 +14,7 @@ use crate::shape::Shape;
 
 const CAPACITY: usize = 14;
 /// Forged tables in a script, so that it stays within what `shelf` reads.
-const IN_A_SCRIPT: usize = 40;
+const IN_A_SCRIPT: usize = 32;
 const LISTS: [&[usize]; 5] = [&[2, 3], &[2, 2, 2], &[3, 2, 2], &[8], &[2, 2, 3, 2]];
 
 /// What a branch of a forged cost adds: within ±2,000,000,000 and just outside.
@@ -115,6 +117,10 @@ fn forged<N: OnDesk>(rng: &mut Rng, shape: &Shape) -> Vec<u32> {
         diagram.roots[last] = Branch { adds: 0, to: To::End(0) };
     }
     let n = diagram.nodes.len();
+    if n > 0 && rng.once_in(5) {
+        let pairs = pairs::faulty(rng, N::KIND, shape, &mut diagram);
+        return picture::lay_out::<N>(shape, CAPACITY, &diagram, &pairs);
+    }
     match rng.below(5) {
         0 if N::KIND == Kind::Costs => move_base(rng, shape, &mut diagram),
         1..=2 if n > 0 => {
@@ -123,7 +129,8 @@ fn forged<N: OnDesk>(rng: &mut Rng, shape: &Shape) -> Vec<u32> {
         }
         _ => fault_around::<N>(rng, shape, &mut diagram),
     }
-    picture::lay_out::<N>(shape, CAPACITY, &diagram)
+    let pairs = pairs::right(N::KIND, shape, &diagram, pairs::wrapped);
+    picture::lay_out::<N>(shape, CAPACITY, &diagram, &pairs)
 }
 
 /// Calls that must find the fault, or tell the numbers of a sound table and leave it sound.
@@ -156,10 +163,12 @@ fn script_of<N: OnDesk>(seed: u64) -> Vec<String> {
 }
 
 /// A diagram over sixteen features of size 2, each root in the place of its index.
-fn sixteen<N: Number>(nodes: Vec<Node>, mut roots: Vec<Branch>) -> Vec<String> {
+fn sixteen<N: Number>(nodes: Vec<Node>, mut roots: Vec<Branch>, hold: Hold) -> Vec<String> {
     let shape = Shape { sizes: vec![2; 16] };
     roots.resize(N::KIND.places(), Branch { adds: 0, to: To::End(0) });
-    let words = picture::lay_out::<N>(&shape, 2 * CAPACITY, &Diagram { nodes, roots });
+    let diagram = Diagram { nodes, roots };
+    let pairs = pairs::right(N::KIND, &shape, &diagram, hold);
+    let words = picture::lay_out::<N>(&shape, 2 * CAPACITY, &diagram, &pairs);
     let mut script = poked(&mut Desk::new(), N::KIND, &shape, &words);
     script.push(N::KIND.command("tally"));
     script
@@ -170,18 +179,46 @@ fn seventeenth<N: Number>() -> Vec<String> {
     let ends: Vec<Branch> = (0..2).filter_map(N::of).map(N::end).collect();
     let leaf = |feature| Node { feature, branches: ends.clone() };
     let to = |i| Branch { adds: 0, to: To::Node(i) };
-    sixteen::<N>(vec![leaf(15), leaf(16)], vec![to(0), to(1)])
+    sixteen::<N>(vec![leaf(15), leaf(16)], vec![to(0), to(1)], pairs::wrapped)
 }
 
-/// A chain of nodes over all sixteen features whose branches add so much in turn: their sums leave 32 bits, some wrapped
-/// around would be in range.
-fn steep(adds: [i64; 2], base: i64) -> Vec<String> {
+/// A chain of nodes over all sixteen features whose branches add so much in turn. Most sums leave their range; pairs
+/// that hold them wrapped around or stopped at the most would be in range, some of them.
+fn steep(adds: [i64; 2], base: i64, hold: Hold) -> Vec<String> {
     let below = |i: usize| if i == 0 { To::End(0) } else { To::Node(i - 1) };
     let node = |i: usize| {
         let branch = |adds| Branch { adds, to: below(i) };
         Node { feature: 15 - i, branches: vec![branch(0), branch(adds[i % 2])] }
     };
-    sixteen::<i64>((0..16).map(node).collect(), vec![Branch { adds: base, to: To::Node(15) }])
+    sixteen::<i64>((0..16).map(node).collect(), vec![Branch { adds: base, to: To::Node(15) }], hold)
+}
+
+/// Chains whose sums leave 32 bits, leave the range within 32 bits, and just stay in range, above 0 and below.
+fn steep_scripts() -> Vec<Vec<String>> {
+    let mut scripts = Vec::new();
+    for hold in [pairs::wrapped as Hold, pairs::stopped] {
+        for sign in [1, -1] {
+            for most in [MOST_ADDED, MOST_COST, 1 << 28, MOST_ADDED / 16 + 1] {
+                scripts.push(steep([sign * most; 2], -sign * MOST_COST, hold));
+            }
+            scripts.push(steep([sign * MOST_ADDED; 2], 0, hold));
+        }
+        scripts.push(steep([MOST_COST, -MOST_COST], 0, hold));
+    }
+    for sign in [1, -1] {
+        scripts.push(steep([sign * MOST_ADDED / 16; 2], -sign * MOST_COST, pairs::wrapped));
+        scripts.push(steep([1, -1], sign * MOST_COST, pairs::wrapped));
+        scripts.push(steep([1, -1], sign * (MOST_COST - 8), pairs::wrapped));
+    }
+    scripts
+}
+
+/// A cost that reaches from -2,000,000,000 to 2,000,000,000 around a base far outside the range: both ends wrapped
+/// around would be in range.
+fn far_base(base: i64) -> Vec<String> {
+    let node = |feature, adds, to| Node { feature, branches: vec![Branch { adds: 0, to }, Branch { adds, to }] };
+    let nodes = vec![node(15, MOST_ADDED, To::End(0)), node(0, -MOST_ADDED, To::Node(0))];
+    sixteen::<i64>(nodes, vec![Branch { adds: base, to: To::Node(1) }], pairs::wrapped)
 }
 
 /// A table of one kind in the buffer of the other: as it is, and under the other's number.
@@ -207,8 +244,58 @@ pub fn scripts(seed: u64, count: u64, scope: Scope) -> Vec<Vec<String>> {
     if scope != Scope::Rules {
         scripts.extend((seed..seed + count).map(script_of::<i64>));
         scripts.extend([seventeenth::<i64>(), strangers()]);
-        scripts.extend([steep([MOST_ADDED; 2], 0), steep([-MOST_ADDED; 2], 0), steep([1 << 28; 2], 0)]);
-        scripts.extend([steep([MOST_COST, -MOST_COST], 0), steep([1, -1], MOST_COST), steep([1, -1], MOST_COST - 8)]);
+        scripts.extend(steep_scripts());
+        scripts.extend([i64::from(i32::MAX), i64::from(i32::MIN), MOST_ADDED, -MOST_ADDED].map(far_base));
     }
     scripts
+}
+
+#[cfg(test)]
+mod tests {
+    use super::*;
+    use crate::shelf::MOST_BYTES;
+    use crate::sound;
+
+    #[test]
+    fn no_script_is_longer_than_shelf_reads() {
+        for script in scripts(1000, 6, Scope::All) {
+            let bytes: usize = script.iter().map(|line| line.len() + 1).sum();
+            assert!(bytes <= MOST_BYTES, "{bytes}");
+        }
+    }
+
+    fn sound_ones<N: OnDesk>() -> usize {
+        let mut rng = Rng::new(1);
+        let mut is_sound = || {
+            let shape = Shape { sizes: rng.pick(&LISTS).to_vec() };
+            sound::read::<N>(&forged::<N>(&mut rng, &shape)).is_some()
+        };
+        (0..200).filter(|_| is_sound()).count()
+    }
+
+    #[test]
+    fn some_forged_tables_are_sound() {
+        let found = [sound_ones::<u16>(), sound_ones::<i64>()];
+        assert!(found.iter().all(|n| (20..120).contains(n)), "{found:?}");
+    }
+
+    /// Whether the table that a script pokes is found sound at its end.
+    fn ends_sound(script: &[String]) -> bool {
+        let mut desk = Desk::new();
+        script.iter().for_each(|line| {
+            desk.answer(line);
+        });
+        desk.is_sound(Kind::Costs)
+    }
+
+    #[test]
+    fn chains_at_and_past_the_end_of_the_range() {
+        for sign in [1, -1] {
+            assert!(ends_sound(&steep([sign * MOST_ADDED / 16; 2], -sign * MOST_COST, pairs::wrapped)));
+            assert!(!ends_sound(&steep([sign * (MOST_ADDED / 16 + 1); 2], -sign * MOST_COST, pairs::wrapped)));
+            assert!(ends_sound(&steep([1, -1], sign * (MOST_COST - 8), pairs::wrapped)));
+            assert!(!ends_sound(&steep([1, -1], sign * (MOST_COST - 7), pairs::wrapped)));
+            assert!(!ends_sound(&far_base(sign * MOST_ADDED)));
+        }
+    }
 }

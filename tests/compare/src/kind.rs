@@ -15,6 +15,19 @@ const BIAS: i64 = 1 << 31;
 /// A rule's branch word from here on says a node: this number and its index.
 const NODE: u32 = 65536;
 
+/// The last two words of a record: of a cost the lowest and the highest amount of the node's rest, of a rule 0.
+pub type Pair = [u32; 2];
+
+/// The word that an integer stands as, wrapped around where 32 bits do not hold it.
+pub fn biased(z: i64) -> u32 {
+    (z + BIAS) as u32
+}
+
+/// The integer that a word stands for.
+pub fn unbiased(word: u32) -> i64 {
+    i64::from(word) - BIAS
+}
+
 #[derive(Clone, Copy, PartialEq, Eq, Hash, Debug)]
 pub enum Kind {
     Rules,
@@ -69,6 +82,9 @@ pub trait Number: Copy + Eq + Hash {
     /// What remains of a function as a rest: a cost without its amount where all remaining features are 0.
     fn rest(function: &[Self]) -> Cow<'_, [Self]>;
 
+    /// The pair of the node of a rest.
+    fn pair(rest: &[Self]) -> Pair;
+
     /// The branch to the end that gives this number.
     fn end(self) -> Branch;
 
@@ -111,6 +127,10 @@ impl Number for u16 {
         Cow::Borrowed(function)
     }
 
+    fn pair(_: &[u16]) -> Pair {
+        [0, 0]
+    }
+
     fn end(self) -> Branch {
         Branch { adds: 0, to: To::End(self) }
     }
@@ -143,13 +163,9 @@ fn target_word(branch: &Branch) -> u32 {
     }
 }
 
-fn added_word(branch: &Branch) -> u32 {
-    (branch.adds + BIAS) as u32
-}
-
 fn cost_branch(target: u32, added: u32) -> Branch {
     let to = if target == 0 { To::End(0) } else { To::Node(target as usize - 1) };
-    Branch { adds: i64::from(added) - BIAS, to }
+    Branch { adds: unbiased(added), to }
 }
 
 /// An amount.
@@ -171,6 +187,13 @@ impl Number for i64 {
         function.iter().map(|x| x - function[0]).collect()
     }
 
+    /// A rest is 0 where all its features are 0, so 0 is among its amounts.
+    fn pair(rest: &[i64]) -> Pair {
+        let lowest = rest.iter().fold(0, |low, &x| x.min(low));
+        let highest = rest.iter().fold(0, |high, &x| x.max(high));
+        [biased(lowest), biased(highest)]
+    }
+
     fn end(self) -> Branch {
         Branch { adds: self, to: To::End(0) }
     }
@@ -180,7 +203,7 @@ impl Number for i64 {
         let mut body = [0; BODY];
         for (v, branch) in branches.iter().enumerate() {
             body[v / 2] += target_word(branch) << (16 * (v % 2));
-            body[4 + v] = added_word(branch);
+            body[4 + v] = biased(branch.adds);
         }
         body
     }
@@ -195,7 +218,7 @@ impl Number for i64 {
         let mut words = [0; ROOT_WORDS];
         for (p, root) in roots.iter().enumerate() {
             words[p] = target_word(root);
-            words[16 + p] = added_word(root);
+            words[16 + p] = biased(root.adds);
         }
         words
     }
@@ -235,5 +258,20 @@ mod tests {
     fn a_rest_has_0_where_all_is_0() {
         assert_eq!(i64::rest(&[10, 15, 7]).as_ref(), [0, 5, -3]);
         assert_eq!(u16::rest(&[10, 15, 7]).as_ref(), [10, 15, 7]);
+    }
+
+    #[test]
+    fn a_pair_by_hand() {
+        assert_eq!(i64::pair(&[0, 5, -3]), [2147483645, 2147483653]);
+        assert_eq!(i64::pair(&[0, 2_000_000_000]), [2147483648, 4147483648]);
+        assert_eq!(i64::pair(&[0, -2_000_000_000]), [147483648, 2147483648]);
+        assert_eq!(u16::pair(&[0, 5, 3]), [0, 0]);
+    }
+
+    #[test]
+    fn integers_as_words() {
+        assert_eq!((biased(-(1 << 31)), biased(0), biased((1 << 31) - 1)), (0, 1 << 31, u32::MAX));
+        assert_eq!((biased(1 << 31), biased(1 << 32)), (0, 1 << 31), "wrapped around");
+        assert_eq!((unbiased(0), unbiased(1 << 31), unbiased(u32::MAX)), (-(1 << 31), 0, (1 << 31) - 1));
     }
 }

@@ -19,6 +19,7 @@ mod hex;
 mod junk;
 mod kind;
 mod model;
+mod pairs;
 mod parts;
 mod picture;
 mod rests;
@@ -45,7 +46,7 @@ use std::process::ExitCode;
 const SEED: u64 = 1000;
 /// Random scripts, of which half are on rules alone; scripts of forged tables, of each kind; of sheets.
 const SCRIPTS: u64 = 320;
-const FORGED: u64 = 12;
+const FORGED: u64 = 15;
 const EXCHANGES: u64 = 20;
 
 /// Runs a script; where it fails, prints the shortest script that still does.

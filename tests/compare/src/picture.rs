@@ -1,7 +1,7 @@
 //! The words of a table, laid out from its rules or costs alone: one node for each rest, as a walk from the roots in turn
 //! finishes them, branch 0 first. A sound table has just these words, so `word` and `sum` lines can be foretold.
 
-use crate::kind::{Branch, Number, To, ROOT_WORDS};
+use crate::kind::{Branch, Number, Pair, To, ROOT_WORDS};
 use crate::model::Table;
 use crate::shape::Shape;
 use std::collections::HashMap;
@@ -12,6 +12,7 @@ pub const RECORDS: usize = 8192;
 pub const RECORD: usize = 16;
 pub const BODY: usize = 12;
 pub const LINK: usize = 13;
+pub const PAIR: usize = 14;
 pub const COUNT: usize = 19;
 pub const SIZES: usize = 3;
 
@@ -72,6 +73,13 @@ impl Diagram {
         }
     }
 
+    /// What node i gives the settings of its feature and those after it, in order. Branches go to higher features.
+    pub fn amounts(&self, shape: &Shape, i: usize) -> Vec<i64> {
+        let mut numbers = Vec::new();
+        self.tell(shape, self.nodes[i].feature, Branch { adds: 0, to: To::Node(i) }, &mut numbers);
+        numbers
+    }
+
     /// The functions of the roots, if they are in range at every setting. Branches go to higher features.
     pub fn functions<N: Number>(&self, shape: &Shape) -> Option<Vec<Vec<N>>> {
         let function = |&root: &Branch| {
@@ -86,6 +94,8 @@ impl Diagram {
 struct Layout<'a, N> {
     shape: &'a Shape,
     nodes: Vec<Node>,
+    /// The pair of each node, from all amounts of its rest.
+    pairs: Vec<Pair>,
     /// For each feature the nodes of the rests so far.
     known: Vec<HashMap<Vec<N>, usize>>,
 }
@@ -112,32 +122,40 @@ impl<N: Number> Layout<'_, N> {
         let part = self.shape.span(k + 1);
         let branches = rest.chunks(part).map(|p| self.branch(k + 1, p)).collect();
         self.nodes.push(Node { feature: k, branches });
+        self.pairs.push(N::pair(rest));
         let i = self.nodes.len() - 1;
         self.known[k].insert(rest.to_vec(), i);
         i
     }
 }
 
-/// Lays record i, and links it before the chain of its hash.
-fn lay<N: Number>(words: &mut [u32], i: usize, node: &Node) {
+/// Lays record i, and links it before the chain of its hash, in which the pair has no part.
+fn lay<N: Number>(words: &mut [u32], i: usize, node: &Node, pair: Pair) {
     let at = RECORDS + RECORD * i;
     words[at] = node.feature as u32;
     words[at + 1..at + 1 + BODY].copy_from_slice(&N::body(&node.branches));
     let h = hash(words[at], &words[at + 1..at + 1 + BODY]);
     words[at + LINK] = words[HEADS + h];
     words[HEADS + h] = i as u32 + 1;
+    words[at + PAIR..at + RECORD].copy_from_slice(&pair);
+}
+
+/// The diagram of the functions, and the pair of each node.
+pub fn paired<N: Number>(shape: &Shape, functions: &[Vec<N>]) -> (Diagram, Vec<Pair>) {
+    let known = vec![HashMap::new(); shape.features()];
+    let mut layout = Layout { shape, nodes: Vec::new(), pairs: Vec::new(), known };
+    let roots = functions.iter().map(|f| layout.branch(0, f)).collect();
+    (Diagram { nodes: layout.nodes, roots }, layout.pairs)
 }
 
 /// The diagram of the functions.
 pub fn diagram<N: Number>(shape: &Shape, functions: &[Vec<N>]) -> Diagram {
-    let known = vec![HashMap::new(); shape.features()];
-    let mut layout = Layout { shape, nodes: Vec::new(), known };
-    let roots = functions.iter().map(|f| layout.branch(0, f)).collect();
-    Diagram { nodes: layout.nodes, roots }
+    paired(shape, functions).0
 }
 
-/// The words of a diagram, its chains with it, up to the capacity's bound.
-pub fn lay_out<N: Number>(shape: &Shape, capacity: usize, diagram: &Diagram) -> Vec<u32> {
+/// The words of a diagram with these pairs, its chains with it, up to the capacity's bound.
+pub fn lay_out<N: Number>(shape: &Shape, capacity: usize, diagram: &Diagram, pairs: &[Pair]) -> Vec<u32> {
+    assert_eq!(pairs.len(), diagram.nodes.len(), "a pair for each node");
     let mut words = vec![0; bound(capacity)];
     words[0] = N::KIND.word();
     words[1] = capacity as u32;
@@ -147,13 +165,14 @@ pub fn lay_out<N: Number>(shape: &Shape, capacity: usize, diagram: &Diagram) -> 
     }
     words[COUNT] = diagram.nodes.len() as u32;
     words[ROOTS..ROOTS + ROOT_WORDS].copy_from_slice(&N::root_words(&diagram.roots));
-    for (i, node) in diagram.nodes.iter().enumerate() {
-        lay::<N>(&mut words, i, node);
+    for (i, (node, &pair)) in diagram.nodes.iter().zip(pairs).enumerate() {
+        lay::<N>(&mut words, i, node, pair);
     }
     words
 }
 
 /// The words of the table, up to its bound.
 pub fn words<N: Number>(table: &Table<N>) -> Vec<u32> {
-    lay_out::<N>(&table.shape, table.capacity, &diagram(&table.shape, &table.places))
+    let (diagram, pairs) = paired(&table.shape, &table.places);
+    lay_out::<N>(&table.shape, table.capacity, &diagram, &pairs)
 }

@@ -226,6 +226,7 @@ pub fn script(seed: u64, scope: Scope) -> Vec<String> {
 mod tests {
     use super::*;
     use crate::kind::MOST_COST;
+    use crate::model::Cost;
     use std::collections::HashMap;
 
     /// What commands on costs may be answered: taken, and every refusal that document 01 has for them.
@@ -277,25 +278,69 @@ mod tests {
         }
     }
 
-    /// The sum of two places at the first setting, where the line adds them.
-    fn first_sum(desk: &Desk, line: &str) -> Option<i64> {
-        let numbers: Vec<usize> = line.strip_prefix("add ")?.split(' ').filter_map(|n| n.parse().ok()).collect();
-        let first = |i: usize| desk.costs.table()?.places.get(*numbers.get(i)?).map(|cost| cost[0]);
-        Some(first(1)? + first(2)?)
+    /// The two costs whose sum a line asks for.
+    fn operands(desk: &Desk, line: &str) -> Option<[Cost; 2]> {
+        let (name, rest) = line.split_once(' ')?;
+        let sign = match name {
+            "add" => 1,
+            "subtract" => -1,
+            _ => return None,
+        };
+        let numbers: Vec<usize> = rest.split(' ').filter_map(|n| n.parse().ok()).collect();
+        let cost = |i: usize| desk.costs.table()?.places.get(*numbers.get(i)?);
+        Some([cost(1)?.clone(), cost(2)?.iter().map(|x| sign * x).collect()])
+    }
+
+    /// The lowest and the highest.
+    fn ends(cost: impl Iterator<Item = i64> + Clone) -> [i64; 2] {
+        [cost.clone().min().unwrap_or(0), cost.max().unwrap_or(0)]
+    }
+
+    fn is_in_range(ends: [i64; 2]) -> bool {
+        -MOST_COST <= ends[0] && ends[1] <= MOST_COST
+    }
+
+    /// Of sums of two costs that are no constants, how many end in which way.
+    #[derive(Default, Debug)]
+    struct Sums {
+        /// Refused, and in range where all features are 0.
+        inner: usize,
+        /// In range, though the lowest or highest of both together are not.
+        misleading: usize,
+        /// At an end of the range, and past it by one.
+        at_the_end: usize,
+        past_by_one: usize,
+    }
+
+    impl Sums {
+        fn add(&mut self, [x, y]: [Cost; 2]) {
+            let sum = x.iter().zip(&y).map(|(a, b)| a + b);
+            let [a, b, ends] = [ends(x.iter().copied()), ends(y.iter().copied()), ends(sum)];
+            if a[0] == a[1] || b[0] == b[1] {
+                return;
+            }
+            let taken = is_in_range(ends);
+            self.inner += usize::from(!taken && (x[0] + y[0]).abs() <= MOST_COST);
+            self.misleading += usize::from(taken && !is_in_range([a[0] + b[0], a[1] + b[1]]));
+            self.at_the_end += usize::from(taken && (ends[0] == -MOST_COST || ends[1] == MOST_COST));
+            self.past_by_one += usize::from(!taken && is_in_range([ends[0] + 1, ends[1] - 1]));
+        }
     }
 
     #[test]
-    fn sums_leave_the_range_at_inner_settings_only() {
-        let mut inner = 0;
+    fn sums_are_often_at_the_ends_of_the_range() {
+        let mut sums = Sums::default();
         for seed in seeds(160) {
             let mut desk = Desk::new();
             for line in script(seed, Scope::All) {
-                let first = first_sum(&desk, &line);
-                let refused = ending(&mut desk, &line) == "8";
-                inner += usize::from(refused && first.map_or(false, |sum| sum.abs() <= MOST_COST));
+                if let Some(both) = operands(&desk, &line) {
+                    sums.add(both);
+                }
+                desk.answer(&line);
             }
         }
-        assert!(inner > 30, "{inner}");
+        let least = [sums.inner, sums.misleading, sums.at_the_end, sums.past_by_one].into_iter().min();
+        assert!(least > Some(30), "{sums:?}");
     }
 
     #[test]

@@ -1,9 +1,9 @@
 //! Whether words are a sound table of a kind, condition by condition as docs/SOUND.md defines it, and the rules or costs
 //! that they then say.
 
-use crate::kind::{Branch, Number, To, MOST_ADDED, ROOT_WORDS};
+use crate::kind::{unbiased, Branch, Kind, Number, To, MOST_ADDED, ROOT_WORDS};
 use crate::model::Table;
-use crate::picture::{bound, hash, Diagram, Node, BODY, COUNT, HEADS, LINK, RECORD, RECORDS, ROOTS, SIZES};
+use crate::picture::{bound, hash, Diagram, Node, BODY, COUNT, HEADS, LINK, PAIR, RECORD, RECORDS, ROOTS, SIZES};
 use crate::shape::Shape;
 use std::marker::PhantomData;
 
@@ -86,14 +86,12 @@ impl<N: Number> Words<'_, N> {
             return false;
         }
         let branches = self.branches(i);
-        let at = RECORDS + RECORD * i;
         branches.iter().all(|b| self.sits(i, k + 1, b))
             && branches[0].adds == 0
             && branches.iter().all(|b| (-MOST_ADDED..=MOST_ADDED).contains(&b.adds))
             && branches.iter().any(|b| b != &branches[0])
             // the words past its size are 0
             && N::body(&branches) == self.body(i)
-            && self.zeros(at + LINK + 1, at + RECORD)
     }
 
     /// Each node links to the last before it of its hash, each head is the last node of its hash, no node has a twin.
@@ -121,7 +119,7 @@ impl<N: Number> Words<'_, N> {
         Some(met + 1).filter(|_| met == i)
     }
 
-    /// All but the range.
+    /// All but the pairs and the range.
     fn shaped(&self) -> bool {
         self.header()
             && (0..self.count()).all(|i| self.node(i))
@@ -134,6 +132,19 @@ impl<N: Number> Words<'_, N> {
         let node = |i| Node { feature: self.feature(i), branches: self.branches(i) };
         Diagram { nodes: (0..self.count()).map(node).collect(), roots: self.roots() }
     }
+
+    /// The last two words of record i are 0 in a rule; in a cost they say the lowest and the highest that the node
+    /// gives any setting of its feature and those after it.
+    fn paired(&self, shape: &Shape, diagram: &Diagram, i: usize) -> bool {
+        let pair = [PAIR, PAIR + 1].map(|j| self.record(i, j) as u32);
+        match N::KIND {
+            Kind::Rules => pair == [0, 0],
+            Kind::Costs => {
+                let amounts = diagram.amounts(shape, i);
+                [amounts.iter().min(), amounts.iter().max()] == [Some(&unbiased(pair[0])), Some(&unbiased(pair[1]))]
+            }
+        }
+    }
 }
 
 /// The table that the words say, if they are sound.
@@ -143,7 +154,11 @@ pub fn read<N: Number>(words: &[u32]) -> Option<Table<N>> {
         return None;
     }
     let shape = Shape { sizes: (0..w.features()).map(|k| w.size(k)).collect() };
-    let places = w.diagram().functions(&shape)?;
+    let diagram = w.diagram();
+    if !(0..w.count()).all(|i| w.paired(&shape, &diagram, i)) {
+        return None;
+    }
+    let places = diagram.functions(&shape)?;
     Some(Table { capacity: w.capacity(), places, shape })
 }
 
@@ -193,6 +208,7 @@ mod tests {
         assert_eq!(words[RECORDS..RECORDS + 5], [1, 1, 0, 1, 0]);
         assert_eq!(words[RECORDS + 16..RECORDS + 20], [0, 0, 1, 0]);
         assert_eq!(words[RECORDS + 32..RECORDS + 36], [0, 0, 65536, 0]);
+        (0..3).for_each(|i| assert_eq!(words[RECORDS + 16 * i + 14..RECORDS + 16 * i + 16], [0, 0]));
     }
 
     #[test]
@@ -207,12 +223,18 @@ mod tests {
         assert_eq!(words[RECORDS..RECORDS + 8], [0, 0, 0, 0, 0, zero, zero - 6, 0]);
         assert_eq!(words[RECORDS + 16..RECORDS + 25], [1, 0, 0, 0, 0, zero, zero + 5, zero - 3, 0]);
         assert_eq!(words[RECORDS + 32..RECORDS + 40], [0, 2 + (2 << 16), 0, 0, 0, zero, zero - 6, 0]);
+        // P: from -6 to 0; Q: from -3 to 5; the sum: from -6 - 3 to 5
+        assert_eq!(words[RECORDS + 14..RECORDS + 16], [zero - 6, zero]);
+        assert_eq!(words[RECORDS + 30..RECORDS + 32], [zero - 3, zero + 5]);
+        assert_eq!(words[RECORDS + 46..RECORDS + 48], [zero - 9, zero + 5]);
+        assert_eq!(words[RECORDS + 62..RECORDS + 64], [0, 0], "not in use");
     }
 
     #[test]
     fn one_word_off_is_not_sound() {
         let (r, c) = (picture::words(&rules()), picture::words(&costs()));
-        for i in [0, 3, 5, 18, 19, 20, 31, 64, 4095, 4096, 8192, 8193, 8205, 8207, 8240, 8255, 8319] {
+        let pairs = [8206, 8207, 8222, 8223, 8238, 8239, 8254];
+        for i in [&[0, 3, 5, 18, 19, 20, 31, 64, 4095, 4096, 8192, 8193, 8205, 8240, 8255, 8319][..], &pairs].concat() {
             let (mut r, mut c) = (r.clone(), c.clone());
             r[i] ^= 0x10000;
             c[i] ^= 0x10000;
@@ -220,6 +242,33 @@ mod tests {
         }
         assert_eq!(read::<u16>(&r[..r.len() - 1]), None);
         assert_eq!(read::<i64>(&c[..c.len() - 1]), None);
+    }
+
+    /// The pair of P and of the sum false by one, turned around, as in a rule, and the other's.
+    #[test]
+    fn a_false_pair_is_not_sound() {
+        let good = picture::words(&costs());
+        let zero = 1 << 31;
+        for at in [RECORDS + 14, RECORDS + 46] {
+            let [low, high] = [good[at], good[at + 1]];
+            let others = [[low - 1, high], [low + 1, high], [low, high - 1], [low, high + 1], [high, low]];
+            let wrong = [[low, low], [high, high], [0, 0], [zero, zero], [zero - 3, zero + 5], [low + 10, high + 10]];
+            for pair in others.iter().chain(&wrong) {
+                let mut words = good.clone();
+                words[at..at + 2].copy_from_slice(pair);
+                assert_eq!(read::<i64>(&words), None, "{pair:?} at {at}");
+            }
+        }
+    }
+
+    /// Pairs as costs have them are none of a rule's.
+    #[test]
+    fn a_rule_has_no_pair() {
+        let mut words = picture::words(&rules());
+        words[RECORDS + 14..RECORDS + 16].fill(1 << 31);
+        assert_eq!(read::<u16>(&words), None);
+        words[RECORDS + 14..RECORDS + 16].fill(0);
+        assert_eq!(read(&words), Some(rules()));
     }
 
     /// The base of the sum's place up to where its highest amount, 5 above, is the most, and one more.

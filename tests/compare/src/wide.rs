@@ -22,10 +22,13 @@ fn lines(scope: Scope) -> Vec<String> {
         lines.extend(["literal 0 15 2", "literal 1 0 1", "apply 2 2 0 1"].map(String::from));
         lines.extend(["choose 7 2 1 3", "less 3 1 0", "lowest 1 2", "lowest 7 3", "lowest 2 31"].map(String::from));
     }
+    // to both sides of 0: with its opposite the highest of both together leave the range, and the sum is 0 everywhere
+    lines.extend(["cconstant 8 32775", "subtract 8 1 8", "scale 8 8 30000", "scale 9 8 -1"].map(String::from));
+    lines.extend(["add 10 8 9", "csame 10 15", "subtract 10 8 8", "subtract 10 8 9"].map(String::from));
     for p in 1..8 {
         lines.push(format!("clook {p} 1 0 1 1 0 0 1 0 1 1 1 0 1 0 0 1"));
     }
-    lines.extend(["ctally", "tally", "csum", "cword 8192", "cword 8360"].map(String::from));
+    lines.extend(["ctally", "tally", "csum", "cword 8192", "cword 8206", "cword 8207", "cword 8360"].map(String::from));
     lines
 }
 

@@ -15,7 +15,8 @@ use Rattle.notes.proofs.Plain.{length-plain}
 use Rattle.cost_words.specs.Words.{target, nodes}
 use Rattle.cost_nodes.specs.Nodes.{Filling, Result}
 use Rattle.cost_nodes.specs.declared.Answer.the-variants.{Is}
-use Rattle.cost_nodes.proofs.Filling.{gives-is, gives-none, fill-start, fill-more, fill-stop, stop-result, fill-armed, fill-near, fill-make, filled, not-filled, filling-ext}
+use Rattle.cost_nodes.proofs.Reading.{holds-passed}
+use Rattle.cost_nodes.proofs.Filling.{gives-is, gives-none, fill-start, fill-more, fill-stop, stop-result, fill-armed, fill-near, fill-sums, filling-narrow, fill-make, filled, not-filled, filling-ext}
 use Rattle.cost_nodes.proofs.Stepping.{good-small}
 use Rattle.notes.specs.Far.{memory}
 use Rattle.cost_notes.proofs.Remembering.{noted-stored}
@@ -24,6 +25,7 @@ use Rattle.cost_engine.specs.Joint.{jointFrom, Operands}
 use Rattle.cost_engine.specs.Memory.{Noted}
 use Rattle.cost_engine.proofs.Recalling.{recalled-result, result-recalled, right-here, noted-made, still, still-if}
 use Rattle.cost_engine.proofs.Walking.{first-place, second-place, operands-more, operands-end, at-gap, still-left, skip-left, operands-skip, joint-skip, operands-step, joint-held, operands-ext, joint-ends, sum-fits, joint-raised, joint-stopped}
+use native.Mathlib.Nat.{le-refl}
 use borrow.Author.Needs.{needs}
 use borrow.Fn.Kinds.{In}
 use borrow.Fn.PlainCycle.{Measures, is, falls, and}
@@ -171,7 +173,7 @@ fill-branches-arm-in-requires t c κs = let a = (c .before .before .before .befo
     let l = (c .before .before .loop) in
     let fl = l .inv .2 in
     let kp = fl .filled .grown .kept in (
-      first-place _ _ _ _ _ _ (operands-ext (plain (a .args .t .now)) _ (a .args .k) _ _ _ (a .pre .1 .0) _ _ (l .v) (l .goes) (l .adds) fl (a .pre .1 .2)),
+      first-place _ _ _ _ _ _ (operands-ext (plain (a .args .t .now)) _ (a .args .k) _ _ _ (a .pre .1 .0) _ (l .v) (l .goes) (l .adds) fl (a .pre .1 .2) (omega (arith, l .inv .0, l .inv .1))),
       omega (arith, kept-features _ _ kp, a .pre .1 .2),
       omega (arith, kept-size _ _ kp (a .pre .1 .0 .holds .laid .laid .few) (a .args .k) (a .pre .1 .2), l .inv .0, (c .before .loop-test)),
     )
@@ -181,7 +183,7 @@ fill-branches-arm-in-requires-2 t c κs = let a = (c .before .before .before .be
     let l = (c .before .before .before .before .loop) in
     let fl = l .inv .2 in
     let kp = fl .filled .grown .kept in (
-      second-place _ _ _ _ _ _ (operands-ext (plain (a .args .t .now)) _ (a .args .k) _ _ _ (a .pre .1 .0) _ _ (l .v) (l .goes) (l .adds) fl (a .pre .1 .2)),
+      second-place _ _ _ _ _ _ (operands-ext (plain (a .args .t .now)) _ (a .args .k) _ _ _ (a .pre .1 .0) _ (l .v) (l .goes) (l .adds) fl (a .pre .1 .2) (omega (arith, l .inv .0, l .inv .1))),
       omega (arith, kept-features _ _ kp, a .pre .1 .2),
       omega (arith, kept-size _ _ kp (a .pre .1 .0 .holds .laid .laid .few) (a .args .k) (a .pre .1 .2), l .inv .0, (c .before .before .before .loop-test)),
     )
@@ -196,7 +198,7 @@ fill-branches-branch-result-requires t c κs = let a = (c .before .before .befor
     let kp = fl .filled .grown .kept in
     let n = kept-features _ _ kp in
     let hk = a .pre .1 .2 in
-    (omega arith, (operands-step _ _ _ _ _ _ (operands-ext (plain (a .args .t .now)) _ (a .args .k) _ _ _ (a .pre .1 .0) _ _ (l .v) (l .goes) (l .adds) fl hk) (l .v) _ _ _ _ (omega arith) (omega (arith, kept-size _ _ kp (a .pre .1 .0 .holds .laid .laid .few) (a .args .k) hk, l .inv .0, (c .before .before .before .before .before .before .loop-test))) ((c .before .before .before .before .arm-in) .ensures) ((c .before .before .arm-in2) .ensures), l .inv .3))
+    (omega arith, (operands-step _ _ _ _ _ _ (operands-ext (plain (a .args .t .now)) _ (a .args .k) _ _ _ (a .pre .1 .0) _ (l .v) (l .goes) (l .adds) fl hk (omega (arith, l .inv .0, l .inv .1))) (l .v) _ _ _ _ (omega arith) (omega (arith, kept-size _ _ kp (a .pre .1 .0 .holds .laid .laid .few) (a .args .k) hk, l .inv .0, (c .before .before .before .before .before .before .loop-test))) ((c .before .before .before .before .arm-in) .ensures) ((c .before .before .arm-in2) .ensures), l .inv .3))
 
 fill-branches-enum-known-z : (t : ℕ) → fill-branches-lts.Need-enum-known-z (fill-branches-claims t) (fill-branches-at t) fill-branches.Post fill-branches-Inv-loop fill-branches-μ-loop
 fill-branches-enum-known-z t c = search needs
@@ -336,7 +338,14 @@ rest-result-make-in-requires t c κs = let a = (c .before .before .before .befor
     let g : Cost = jointFrom (a .args .o) (nodes (plain (a .args .t .now))) (a .args .k) (target (a .args .x)) (target (a .args .y)) (int (a .args .d)) in
     let hk = still-left _ _ _ _ _ _ (a .pre .1 .0) ((c .before .before .before .before .before .before .before .before .before .before .before .before .before .before .before .before .before .before .before .before .if1) .left) in
     let fl = filled _ _ _ g _ _ _ ((c .before .before .before .if3) .taken) ((c .before .before .before .before .before .before .before .before .fill-branches) .ensures .0) in
-    (still-if _ _ _ _ ((c .before .before .before .if3) .taken) ((c .before .before .before .before .before .before .before .before .fill-branches) .ensures .1) .room, fl .filled .grown .well, omega (arith, kept-features _ _ (fl .filled .grown .kept)), fill-armed (plain (a .args .t .now)) (a .args .k) g (a .pre .1 .0 .holds) hk _ _ _ fl (fill-near (plain (a .args .t .now)) (a .args .k) g (a .pre .1 .0 .holds) hk _ _ _ fl (a .pre .1 .0 .bounded .spread)))
+    let nr = filling-narrow (plain (a .args .t .now)) (a .args .k) g (a .pre .1 .0 .holds) hk _ _ _ _ fl (le-refl _) (a .pre .1 .0 .bounded .spread) (a .pre .1 .0 .narrow) in
+    let paired = holds-passed _ (fl .filled .grown .well) nr in (
+      still-if _ _ _ _ ((c .before .before .before .if3) .taken) ((c .before .before .before .before .before .before .before .before .fill-branches) .ensures .1) .room,
+      fl .filled .grown .well,
+      omega (arith, kept-features _ _ (fl .filled .grown .kept)),
+      fill-armed (plain (a .args .t .now)) (a .args .k) g (a .pre .1 .0 .holds) hk _ _ _ fl (fill-near (plain (a .args .t .now)) (a .args .k) g (a .pre .1 .0 .holds) hk _ _ _ fl (a .pre .1 .0 .bounded .spread))
+          (λ up. fill-sums (plain (a .args .t .now)) (a .args .k) g (a .pre .1 .0 .holds) hk _ _ _ fl (a .pre .1 .0 .bounded .spread) up (paired up)) paired,
+    )
 
 rest-result-enum-known-z : (t : ℕ) → rest-result-lts.Need-enum-known-z (rest-result-claims t) (rest-result-at t) rest-result.Post
 rest-result-enum-known-z t c = search needs

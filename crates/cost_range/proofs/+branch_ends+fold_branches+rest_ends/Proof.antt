@@ -1,20 +1,22 @@
 -- `cost_range::rest_ends`, `fold_branches` and `branch_ends` meet their contracts: the remaining features fall; the values passed are folded, and the memory stays right. Assumes nothing.
-use Rattle.cost_range.proofs.Walking.{pair-left, pair-from, pair-jump, ended, all-folded, one-lost, reaches-jump, base-lost, rest-lost, low-lost, high-lost, both-stand, right-here}
-use Rattle.cost_notes.proofs.Remembering.{noted-hit}
-use Rattle.cost_range.proofs.Noting.{noted-more, features-over, first-over, second-over, step-over, branches-over}
-use Rattle.cost_range.proofs.Ending.{ends-are, ends-lost, folded-none, folded-more}
-use Rattle.cost_range.specs.declared.Ends.the-variants.{Are, Lost}
-use Rattle.cost_range.specs.Ends.{ofTargets, Folded, Noted}
-use Rattle.cost_nodes.proofs.Stepping.{good-small}
-use Rattle.cost_notes.proofs.Reading.{plain-head}
-use Rattle.notes.specs.Plain.{plain}
-use Rattle.words.specs.Words.{features, size, sizes}
-use lib.ListN.{length, drop}
-use native.Mathlib.Omega.{arith}
-use Prim.Native.Nat.{ℕ, _+_, _-_, _*_, _≤_, _<_}
-use mathlib.Core.Bool.{true, false}
 use mathlib.Core.Path.{_≡_, refl, sym, _∙_}
+use mathlib.Core.Bool.{true, false}
+use Prim.Native.Nat.{ℕ, _+_, _-_, _*_, _≤_, _<_}
+use native.Mathlib.Omega.{arith}
+use lib.ListN.{length, drop}
+use Rattle.words.specs.Words.{features, size, sizes}
+use Rattle.notes.specs.Plain.{plain}
+use Rattle.cost_notes.proofs.Reading.{plain-head}
+use Rattle.cost_nodes.proofs.Stepping.{good-small}
+use Rattle.cost_range.specs.Ends.{ofTargets, Folded, Noted}
+use Rattle.cost_range.specs.declared.Ends.the-variants.{Are, Lost}
+use Rattle.cost_range.proofs.Ending.{ends-are, ends-lost, folded-none, folded-more}
+use Rattle.cost_range.proofs.Noting.{noted-more, features-over, first-over, second-over, step-over, branches-over}
+use Rattle.cost_notes.proofs.Remembering.{noted-hit}
+use Rattle.cost_range.proofs.Walking.{pair-left, pair-from, pair-jump, all-folded, one-lost, reaches-jump, base-lost, rest-lost, low-lost, high-lost, both-stand, right-here}
+use Rattle.cost_range.proofs.Meeting.{first-ended, second-ended}
 use borrow.Author.Needs.{needs}
+use Prim.Native.Nat.{ℕ, _<_}
 use borrow.Fn.Kinds.{In}
 use borrow.Fn.PlainCycle.{Measures, is, falls, and}
 use Rattle.cost_range.proofs.branch_ends.Reads as branch-ends
@@ -31,6 +33,8 @@ use Rattle.cost_notes.proofs.lowest.Reads as lowest-reads
 use Rattle.cost_notes.proofs.recall_in.Reads as recall-in-reads
 use Rattle.cost_notes.proofs.remember_in.Reads as remember-in-reads
 use Rattle.cost_range.proofs.furthest.Reads as furthest-reads
+use Rattle.cost_range.proofs.kept_span.Reads as kept-span-reads
+use Rattle.cost_range.proofs.met_ends.Reads as met-ends-reads
 use Rattle.cost_range.proofs.tied_word.Reads as tied-word-reads
 use Rattle.cost_words.proofs.sum_or_lost.Reads as sum-or-lost-reads
 use Rattle.words.proofs.head_word.Reads as head-word-reads
@@ -82,7 +86,7 @@ abbrev fold-branches-claims : ℕ → fold-branches-lts.Claims
 fold-branches-claims t = (head-word-reads.Asked, head-word-reads.Learnt, wide-reads.Asked, wide-reads.Learnt, arm-in-reads.Asked, arm-in-reads.Learnt, branch-ends-below t, branch-ends.Post, furthest-reads.Asked, furthest-reads.Learnt)
 
 abbrev rest-ends-claims : ℕ → rest-ends-lts.Claims
-rest-ends-claims t = (lowest-reads.Asked, lowest-reads.Learnt, narrow-reads.Asked, narrow-reads.Learnt, recall-in-reads.Asked, recall-in-reads.Learnt, fold-branches-below t, fold-branches.Post, remember-in-reads.Asked, remember-in-reads.Learnt)
+rest-ends-claims t = (kept-span-reads.Asked, kept-span-reads.Learnt, met-ends-reads.Asked, met-ends-reads.Learnt, lowest-reads.Asked, lowest-reads.Learnt, narrow-reads.Asked, narrow-reads.Learnt, recall-in-reads.Asked, recall-in-reads.Learnt, fold-branches-below t, fold-branches.Post, remember-in-reads.Asked, remember-in-reads.Learnt)
 
 branch-ends-tied-word-requires : (t : ℕ) → branch-ends-lts.Need-tied-word-requires (branch-ends-claims t) (branch-ends-at t) branch-ends.Post
 branch-ends-tied-word-requires t c κs = search needs
@@ -240,44 +244,66 @@ fold-branches-returns-2 : (t : ℕ) → fold-branches-lts.Need-returns-2 (fold-b
 fold-branches-returns-2 t c = let a = (c .before .before .before .before .before .before .before) in let l = (c .before .loop) in
     (all-folded _ _ _ _ (a .pre .1 .0) (a .args .minus) (a .pre .1 .2) (l .v) (l .low) (l .high) (omega (arith, l .inv .0, l .inv .1, (c .loop-test))) (l .inv .2) (l .inv .3), l .inv .4, l .inv .5)
 
-rest-ends-add-if1 : (t : ℕ) → rest-ends-lts.Need-add-if1 (rest-ends-claims t) (rest-ends-at t) rest-ends.Post
-rest-ends-add-if1 t c = let a = (c .before .before) in
-    let d = a .pre .1 .0 .holds .laid .laid in
-    omega (arith, good-small _ _ _ (a .pre .1 .0 .first), good-small _ _ _ (a .pre .1 .0 .second), d .within, d .most)
+rest-ends-kept-span-requires : (t : ℕ) → rest-ends-lts.Need-kept-span-requires (rest-ends-claims t) (rest-ends-at t) rest-ends.Post
+rest-ends-kept-span-requires t c κs = let p = (c .before .before .before .before) .pre .1 .0 in (p .holds .laid .laid, good-small _ _ _ (p .first))
 
-rest-ends-returns : (t : ℕ) → rest-ends-lts.Need-returns (rest-ends-claims t) (rest-ends-at t) rest-ends.Post
-rest-ends-returns t c = let a = (c .before .before .before) in (ended _ _ _ _ (a .pre .1 .0) (a .args .minus) ((c .if1) .taken), refl, a .pre .1 .1)
+rest-ends-kept-span-requires-2 : (t : ℕ) → rest-ends-lts.Need-kept-span-requires-2 (rest-ends-claims t) (rest-ends-at t) rest-ends.Post
+rest-ends-kept-span-requires-2 t c κs = let p = (c .before .before .before .before .before .before) .pre .1 .0 in (p .holds .laid .laid, good-small _ _ _ (p .second))
 
-rest-ends-lowest-requires : (t : ℕ) → rest-ends-lts.Need-lowest-requires (rest-ends-claims t) (rest-ends-at t) rest-ends.Post
-rest-ends-lowest-requires t c κs = let a = (c .before .before .before .before) in (a .pre .1 .0 .holds .laid .laid, good-small _ _ _ (a .pre .1 .0 .first), good-small _ _ _ (a .pre .1 .0 .second))
-
-rest-ends-add-narrow : (t : ℕ) → rest-ends-lts.Need-add-narrow (rest-ends-claims t) (rest-ends-at t) rest-ends.Post
-rest-ends-add-narrow t c = let a = (c .before .before .before .before .before) in let m = (c .lowest) in
-    let hj = pair-left _ _ _ _ (a .pre .1 .0) (m .result) (m .ensures .0) (m .ensures .1) ((c .before .before .if1) .left) in
-    omega (arith, a .pre .1 .0 .holds .laid .laid .few)
-
-rest-ends-narrow-requires : (t : ℕ) → rest-ends-lts.Need-narrow-requires (rest-ends-claims t) (rest-ends-at t) rest-ends.Post
-rest-ends-narrow-requires t c κs = let a = (c .before .before .before .before .before) in let m = (c .lowest) in
-    let hj = pair-left _ _ _ _ (a .pre .1 .0) (m .result) (m .ensures .0) (m .ensures .1) ((c .before .before .if1) .left) in
-    omega (arith, a .pre .1 .0 .holds .laid .laid .few)
-
-rest-ends-recall-in-requires : (t : ℕ) → rest-ends-lts.Need-recall-in-requires (rest-ends-claims t) (rest-ends-at t) rest-ends.Post
-rest-ends-recall-in-requires t c κs = (c .before .before .before .before .before .before .before .before) .pre .1 .1 .room
-
-rest-ends-enum-known-memo : (t : ℕ) → rest-ends-lts.Need-enum-known-memo (rest-ends-claims t) (rest-ends-at t) rest-ends.Post
-rest-ends-enum-known-memo t c = search needs
+rest-ends-met-ends-requires : (t : ℕ) → rest-ends-lts.Need-met-ends-requires (rest-ends-claims t) (rest-ends-at t) rest-ends.Post
+rest-ends-met-ends-requires t c κs = search needs
 
 rest-ends-same-length : (t : ℕ) → rest-ends-lts.Need-same-length (rest-ends-claims t) (rest-ends-at t) rest-ends.Post
 rest-ends-same-length t c = search needs
+
+rest-ends-returns : (t : ℕ) → rest-ends-lts.Need-returns (rest-ends-claims t) (rest-ends-at t) rest-ends.Post
+rest-ends-returns t c = let a = (c .before .before .before .before .before .before .before .before) in (first-ended _ _ _ _ (a .pre .1 .0) (a .args .minus) _ _ _ _ ((c .before .before .before .kept-span) .ensures) ((c .before .kept-span2) .ensures) ((c .before .before .before .before .before .if1) .taken) ((c .met-ends) .result) ((c .met-ends) .ensures), refl, a .pre .1 .1)
+
+rest-ends-kept-span-requires-3 : (t : ℕ) → rest-ends-lts.Need-kept-span-requires-3 (rest-ends-claims t) (rest-ends-at t) rest-ends.Post
+rest-ends-kept-span-requires-3 t c κs = let p = (c .before .before .before .before .before) .pre .1 .0 in (p .holds .laid .laid, good-small _ _ _ (p .first))
+
+rest-ends-kept-span-requires-4 : (t : ℕ) → rest-ends-lts.Need-kept-span-requires-4 (rest-ends-claims t) (rest-ends-at t) rest-ends.Post
+rest-ends-kept-span-requires-4 t c κs = let p = (c .before .before .before .before .before .before .before) .pre .1 .0 in (p .holds .laid .laid, good-small _ _ _ (p .second))
+
+rest-ends-met-ends-requires-2 : (t : ℕ) → rest-ends-lts.Need-met-ends-requires-2 (rest-ends-claims t) (rest-ends-at t) rest-ends.Post
+rest-ends-met-ends-requires-2 t c κs = search needs
 
 rest-ends-same-length-2 : (t : ℕ) → rest-ends-lts.Need-same-length-2 (rest-ends-claims t) (rest-ends-at t) rest-ends.Post
 rest-ends-same-length-2 t c = search needs
 
 rest-ends-returns-2 : (t : ℕ) → rest-ends-lts.Need-returns-2 (rest-ends-claims t) (rest-ends-at t) rest-ends.Post
-rest-ends-returns-2 t c = let a = (c .before .before .before .before .before .before .before .before .before .before .before .before) in let m = (c .before .before .before .before .before .before .before .lowest) in
+rest-ends-returns-2 t c = let a = (c .before .before .before .before .before .before .before .before .before) in (second-ended _ _ _ _ (a .pre .1 .0) (a .args .minus) _ _ _ _ ((c .before .before .before .kept-span3) .ensures) ((c .before .kept-span4) .ensures) ((c .before .before .before .before .before .if2) .taken) ((c .met-ends2) .result) ((c .met-ends2) .ensures), refl, a .pre .1 .1)
+
+rest-ends-lowest-requires : (t : ℕ) → rest-ends-lts.Need-lowest-requires (rest-ends-claims t) (rest-ends-at t) rest-ends.Post
+rest-ends-lowest-requires t c κs = let a = (c .before .before .before .before .before) in (a .pre .1 .0 .holds .laid .laid, good-small _ _ _ (a .pre .1 .0 .first), good-small _ _ _ (a .pre .1 .0 .second))
+
+rest-ends-add-narrow : (t : ℕ) → rest-ends-lts.Need-add-narrow (rest-ends-claims t) (rest-ends-at t) rest-ends.Post
+rest-ends-add-narrow t c = let a = (c .before .before .before .before .before .before) in let m = (c .lowest) in
+    let hj = pair-left _ _ _ _ (a .pre .1 .0) (m .result) (m .ensures .0) (m .ensures .1) ((c .before .before .before .if1) .left) in
+    omega (arith, a .pre .1 .0 .holds .laid .laid .few)
+
+rest-ends-narrow-requires : (t : ℕ) → rest-ends-lts.Need-narrow-requires (rest-ends-claims t) (rest-ends-at t) rest-ends.Post
+rest-ends-narrow-requires t c κs = let a = (c .before .before .before .before .before .before) in let m = (c .lowest) in
+    let hj = pair-left _ _ _ _ (a .pre .1 .0) (m .result) (m .ensures .0) (m .ensures .1) ((c .before .before .before .if1) .left) in
+    omega (arith, a .pre .1 .0 .holds .laid .laid .few)
+
+rest-ends-recall-in-requires : (t : ℕ) → rest-ends-lts.Need-recall-in-requires (rest-ends-claims t) (rest-ends-at t) rest-ends.Post
+rest-ends-recall-in-requires t c κs = (c .before .before .before .before .before .before .before .before .before) .pre .1 .1 .room
+
+rest-ends-enum-known-memo : (t : ℕ) → rest-ends-lts.Need-enum-known-memo (rest-ends-claims t) (rest-ends-at t) rest-ends.Post
+rest-ends-enum-known-memo t c = search needs
+
+rest-ends-same-length-3 : (t : ℕ) → rest-ends-lts.Need-same-length-3 (rest-ends-claims t) (rest-ends-at t) rest-ends.Post
+rest-ends-same-length-3 t c = search needs
+
+rest-ends-same-length-4 : (t : ℕ) → rest-ends-lts.Need-same-length-4 (rest-ends-claims t) (rest-ends-at t) rest-ends.Post
+rest-ends-same-length-4 t c = search needs
+
+rest-ends-returns-3 : (t : ℕ) → rest-ends-lts.Need-returns-3 (rest-ends-claims t) (rest-ends-at t) rest-ends.Post
+rest-ends-returns-3 t c = let a = (c .before .before .before .before .before .before .before .before .before .before .before .before .before) in let m = (c .before .before .before .before .before .before .before .lowest) in
     let p = a .pre .1 .0 in
     let j = m .result in
-    let hj = pair-left _ _ _ _ p j (m .ensures .0) (m .ensures .1) ((c .before .before .before .before .before .before .before .before .before .if1) .left) in
+    let hj = pair-left _ _ _ _ p j (m .ensures .0) (m .ensures .1) ((c .before .before .before .before .before .before .before .before .before .before .if1) .left) in
     let kj = pair-from _ _ _ _ p j (m .ensures .0) (m .ensures .1) (m .ensures .2) in
     let h = noted-hit (a .args .t .now) (a .args .s .now) ((c .before .before .before .before .before .before .narrow) .result) (a .args .x) (a .args .y) 0 _ _ _ (a .pre .1 .1) ((c .before .before .before .recall-in) .ensures) ((c .before .memo) .given .1) (omega (arith, (c .before .before .before .before .before .before .narrow) .ensures)) in
     (reaches-jump _ _ _ _ p (a .args .minus) j (m .ensures .0) (m .ensures .1) kj hj (Are _ _) (h .at j ((c .before .before .before .before .before .before .narrow) .ensures)), refl, a .pre .1 .1)
@@ -286,10 +312,10 @@ rest-ends-enum-told : (t : ℕ) → rest-ends-lts.Need-enum-told (rest-ends-clai
 rest-ends-enum-told t c = search needs
 
 rest-ends-fold-branches-requires : (t : ℕ) → rest-ends-lts.Need-fold-branches-requires (rest-ends-claims t) (rest-ends-at t) rest-ends.Post
-rest-ends-fold-branches-requires t c κs = let a = (c .before .before .before .before .before .before .before .before .before .before .before .before .before) in let m = (c .before .before .before .before .before .before .before .before .lowest) in
+rest-ends-fold-branches-requires t c κs = let a = (c .before .before .before .before .before .before .before .before .before .before .before .before .before .before) in let m = (c .before .before .before .before .before .before .before .before .lowest) in
     let p = a .pre .1 .0 in
     let j = m .result in
-    let hj = pair-left _ _ _ _ p j (m .ensures .0) (m .ensures .1) ((c .before .before .before .before .before .before .before .before .before .before .if1) .left) in
+    let hj = pair-left _ _ _ _ p j (m .ensures .0) (m .ensures .1) ((c .before .before .before .before .before .before .before .before .before .before .before .if1) .left) in
     let kj = pair-from _ _ _ _ p j (m .ensures .0) (m .ensures .1) (m .ensures .2) in
     (omega arith, (pair-jump _ _ _ _ p j (m .ensures .0) (m .ensures .1) hj, a .pre .1 .1, hj))
 
@@ -299,23 +325,6 @@ rest-ends-enum-known-l t c = search needs
 rest-ends-enum-told-2 : (t : ℕ) → rest-ends-lts.Need-enum-told-2 (rest-ends-claims t) (rest-ends-at t) rest-ends.Post
 rest-ends-enum-told-2 t c = search needs
 
-rest-ends-same-length-3 : (t : ℕ) → rest-ends-lts.Need-same-length-3 (rest-ends-claims t) (rest-ends-at t) rest-ends.Post
-rest-ends-same-length-3 t c = search needs
-
-rest-ends-same-length-4 : (t : ℕ) → rest-ends-lts.Need-same-length-4 (rest-ends-claims t) (rest-ends-at t) rest-ends.Post
-rest-ends-same-length-4 t c = search needs
-
-rest-ends-returns-3 : (t : ℕ) → rest-ends-lts.Need-returns-3 (rest-ends-claims t) (rest-ends-at t) rest-ends.Post
-rest-ends-returns-3 t c = let a = (c .before .before .before .before .before .before .before .before .before .before .before .before .before .before .before .before .before .before .before .before) in let m = (c .before .before .before .before .before .before .before .before .before .before .before .before .before .before .before .lowest) in let z = (c .before .before .before .before .before .before .fold-branches) in
-    let p = a .pre .1 .0 in
-    let j = m .result in
-    let hj = pair-left _ _ _ _ p j (m .ensures .0) (m .ensures .1) ((c .before .before .before .before .before .before .before .before .before .before .before .before .before .before .before .before .before .if1) .left) in
-    let kj = pair-from _ _ _ _ p j (m .ensures .0) (m .ensures .1) (m .ensures .2) in
-    (reaches-jump _ _ _ _ p (a .args .minus) j (m .ensures .0) (m .ensures .1) kj hj Lost (ends-lost (z .result) ((c .enum-told2) .given .1) (z .ensures .0)), z .ensures .1, z .ensures .2)
-
-rest-ends-remember-in-requires : (t : ℕ) → rest-ends-lts.Need-remember-in-requires (rest-ends-claims t) (rest-ends-at t) rest-ends.Post
-rest-ends-remember-in-requires t c κs = ((c .before .before .before .before .before .before .before .before .before .fold-branches) .ensures .2 .room, omega (arith, (c .before .before .before .before .before .before .before .before .before .before .before .before .before .before .before .before .before .narrow) .ensures))
-
 rest-ends-same-length-5 : (t : ℕ) → rest-ends-lts.Need-same-length-5 (rest-ends-claims t) (rest-ends-at t) rest-ends.Post
 rest-ends-same-length-5 t c = search needs
 
@@ -323,10 +332,27 @@ rest-ends-same-length-6 : (t : ℕ) → rest-ends-lts.Need-same-length-6 (rest-e
 rest-ends-same-length-6 t c = search needs
 
 rest-ends-returns-4 : (t : ℕ) → rest-ends-lts.Need-returns-4 (rest-ends-claims t) (rest-ends-at t) rest-ends.Post
-rest-ends-returns-4 t c = let a = (c .before .before .before .before .before .before .before .before .before .before .before .before .before .before .before .before .before .before .before .before .before .before .before .before .before .before .before .before) in let m = (c .before .before .before .before .before .before .before .before .before .before .before .before .before .before .before .before .before .before .before .before .before .before .before .lowest) in let z = (c .before .before .before .before .before .before .before .before .before .before .before .before .before .before .fold-branches) in let u = (c .before .before .before .before .remember-in) in
+rest-ends-returns-4 t c = let a = (c .before .before .before .before .before .before .before .before .before .before .before .before .before .before .before .before .before .before .before .before .before) in let m = (c .before .before .before .before .before .before .before .before .before .before .before .before .before .before .before .lowest) in let z = (c .before .before .before .before .before .before .fold-branches) in
     let p = a .pre .1 .0 in
     let j = m .result in
-    let hj = pair-left _ _ _ _ p j (m .ensures .0) (m .ensures .1) ((c .before .before .before .before .before .before .before .before .before .before .before .before .before .before .before .before .before .before .before .before .before .before .before .before .before .if1) .left) in
+    let hj = pair-left _ _ _ _ p j (m .ensures .0) (m .ensures .1) ((c .before .before .before .before .before .before .before .before .before .before .before .before .before .before .before .before .before .before .if1) .left) in
+    let kj = pair-from _ _ _ _ p j (m .ensures .0) (m .ensures .1) (m .ensures .2) in
+    (reaches-jump _ _ _ _ p (a .args .minus) j (m .ensures .0) (m .ensures .1) kj hj Lost (ends-lost (z .result) ((c .enum-told2) .given .1) (z .ensures .0)), z .ensures .1, z .ensures .2)
+
+rest-ends-remember-in-requires : (t : ℕ) → rest-ends-lts.Need-remember-in-requires (rest-ends-claims t) (rest-ends-at t) rest-ends.Post
+rest-ends-remember-in-requires t c κs = ((c .before .before .before .before .before .before .before .before .before .fold-branches) .ensures .2 .room, omega (arith, (c .before .before .before .before .before .before .before .before .before .before .before .before .before .before .before .before .before .narrow) .ensures))
+
+rest-ends-same-length-7 : (t : ℕ) → rest-ends-lts.Need-same-length-7 (rest-ends-claims t) (rest-ends-at t) rest-ends.Post
+rest-ends-same-length-7 t c = search needs
+
+rest-ends-same-length-8 : (t : ℕ) → rest-ends-lts.Need-same-length-8 (rest-ends-claims t) (rest-ends-at t) rest-ends.Post
+rest-ends-same-length-8 t c = search needs
+
+rest-ends-returns-5 : (t : ℕ) → rest-ends-lts.Need-returns-5 (rest-ends-claims t) (rest-ends-at t) rest-ends.Post
+rest-ends-returns-5 t c = let a = (c .before .before .before .before .before .before .before .before .before .before .before .before .before .before .before .before .before .before .before .before .before .before .before .before .before .before .before .before .before) in let m = (c .before .before .before .before .before .before .before .before .before .before .before .before .before .before .before .before .before .before .before .before .before .before .before .lowest) in let z = (c .before .before .before .before .before .before .before .before .before .before .before .before .before .before .fold-branches) in let u = (c .before .before .before .before .remember-in) in
+    let p = a .pre .1 .0 in
+    let j = m .result in
+    let hj = pair-left _ _ _ _ p j (m .ensures .0) (m .ensures .1) ((c .before .before .before .before .before .before .before .before .before .before .before .before .before .before .before .before .before .before .before .before .before .before .before .before .before .before .if1) .left) in
     let kj = pair-from _ _ _ _ p j (m .ensures .0) (m .ensures .1) (m .ensures .2) in
     let q = ends-are (z .result) ((c .before .before .before .before .before .before .before .before .l) .given .1) (z .ensures .0) in (
       reaches-jump _ _ _ _ p (a .args .minus) j (m .ensures .0) (m .ensures .1) kj hj (Are _ _) q,
@@ -387,24 +413,32 @@ pub +branch-ends+fold-branches+rest-ends-spec : {M : Type 1} → statement M
     λ t. rest-ends-lts.spec (rest-ends-claims t)
     (rest-ends-at t)
     rest-ends.Post
-    (rest-ends-add-if1 t)
+    (rest-ends-kept-span-requires t)
+    (rest-ends-kept-span-requires-2 t)
+    (rest-ends-met-ends-requires t)
+    (rest-ends-same-length t)
     (rest-ends-returns t)
+    (rest-ends-kept-span-requires-3 t)
+    (rest-ends-kept-span-requires-4 t)
+    (rest-ends-met-ends-requires-2 t)
+    (rest-ends-same-length-2 t)
+    (rest-ends-returns-2 t)
     (rest-ends-lowest-requires t)
     (rest-ends-add-narrow t)
     (rest-ends-narrow-requires t)
     (rest-ends-recall-in-requires t)
     (rest-ends-enum-known-memo t)
-    (rest-ends-same-length t)
-    (rest-ends-same-length-2 t)
-    (rest-ends-returns-2 t)
+    (rest-ends-same-length-3 t)
+    (rest-ends-same-length-4 t)
+    (rest-ends-returns-3 t)
     (rest-ends-enum-told t)
     (rest-ends-fold-branches-requires t)
     (rest-ends-enum-known-l t)
     (rest-ends-enum-told-2 t)
-    (rest-ends-same-length-3 t)
-    (rest-ends-same-length-4 t)
-    (rest-ends-returns-3 t)
-    (rest-ends-remember-in-requires t)
     (rest-ends-same-length-5 t)
     (rest-ends-same-length-6 t)
     (rest-ends-returns-4 t)
+    (rest-ends-remember-in-requires t)
+    (rest-ends-same-length-7 t)
+    (rest-ends-same-length-8 t)
+    (rest-ends-returns-5 t)

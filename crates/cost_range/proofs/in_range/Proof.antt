@@ -1,10 +1,10 @@
--- `cost_range::in_range` meets its contract, operator by operator. Assumes nothing.
-use Rattle.cost_range.proofs.Ranging.{operable-pair, operable-scale, told}
-use Rattle.cost_laws.proofs.Range.{smaller-within, larger-within}
+-- `cost_range::in_range` meets its contract: each operator in turn. Assumes nothing.
+use mathlib.Core.Path.{refl}
+use mathlib.Core.Bool.{true}
 use Rattle.cost_words.specs.Words.{branch, nodes}
 use Rattle.theory.specs.Diagrams.{meaning}
-use mathlib.Core.Bool.{true}
-use mathlib.Core.Path.{refl}
+use Rattle.cost_laws.proofs.Range.{smaller-within, larger-within}
+use Rattle.cost_range.proofs.Ranging.{first-operand, second-operand, factor-fits, told}
 use borrow.Author.Needs.{needs}
 use Rattle.cost_range.proofs.in_range.Statement.{statement}
 use Rattle.cost_range.proofs.in_range.Tie as tie
@@ -13,13 +13,13 @@ enum-told : tie.Need-enum-told
 enum-told c = search needs
 
 tied-ok-requires : tie.Need-tied-ok-requires
-tied-ok-requires c κs = let a = (c .before .before .before .before .before .before) in (operable-pair _ (a .args .o) _ (a .args .a .adds) _ (a .args .b .adds) (a .pre), a .pre .rest)
+tied-ok-requires c κs = let p = (c .before .before .before .before .before .before) .pre in (first-operand p, second-operand p)
 
 enum-told-2 : tie.Need-enum-told-2
 enum-told-2 c = search needs
 
 tied-ok-requires-2 : tie.Need-tied-ok-requires-2
-tied-ok-requires-2 c κs = let a = (c .before .before .before .before .before .before) in (operable-pair _ (a .args .o) _ (a .args .a .adds) _ (a .args .b .adds) (a .pre), a .pre .rest)
+tied-ok-requires-2 c κs = let p = (c .before .before .before .before .before .before) .pre in (first-operand p, second-operand p)
 
 enum-told-3 : tie.Need-enum-told-3
 enum-told-3 c = search needs
@@ -31,7 +31,7 @@ enum-known-o : tie.Need-enum-known-o
 enum-known-o c = search needs
 
 scaled-ok-requires : tie.Need-scaled-ok-requires
-scaled-ok-requires c κs = let a = (c .before .before .before .before .before .before .before) in operable-scale _ (a .args .o) _ (branch (a .args .b .to) (a .args .b .adds)) _ ((c .before .before .before .o) .given .1) (a .pre)
+scaled-ok-requires c κs = let p = (c .before .before .before .before .before .before) .pre in (first-operand p, factor-fits p _ ((c .before .before .o) .given .1))
 
 same-length : tie.Need-same-length
 same-length c = search needs
@@ -60,11 +60,8 @@ returns-4 c = let a = (c .before .before .before .before) in (refl, told _ _ (me
 same-length-5 : tie.Need-same-length-5
 same-length-5 c = search needs
 
-same-length-6 : tie.Need-same-length-6
-same-length-6 c = search needs
-
 returns-5 : tie.Need-returns-5
-returns-5 c = let a = (c .before .before .before .before .before .before .before .before .before .before .before .before) in let z = (c .before .before .before .before .scaled-ok) in (z .ensures .0, told _ _ (meaning (nodes (a .args .t .now)) (branch (a .args .b .to) (a .args .b .adds))) (a .args .o) _ ((c .before .before .before .before .before .before .before .before .o) .given .1) (z .result) (z .ensures .1))
+returns-5 c = let a = (c .before .before .before .before .before .before .before) in let z = (c .scaled-ok) in (refl, told _ _ (meaning (nodes (a .args .t .now)) (branch (a .args .b .to) (a .args .b .adds))) (a .args .o) _ ((c .before .before .before .o) .given .1) (z .result) (z .ensures))
 
 pub in-range-spec : {M : Type 1} → statement M
 in-range-spec =
@@ -87,5 +84,4 @@ in-range-spec =
     returns-3
     returns-4
     same-length-5
-    same-length-6
     returns-5)

@@ -1,64 +1,59 @@
--- `cost_range::tied_ok` meets its contract: a cost is in range exactly if its ends are. Assumes nothing.
-use Rattle.cost_range.proofs.Ranging.{lost-leaves, low-leaves, ends-tell}
-use Rattle.cost_range.proofs.Ending.{ends-are, ends-lost}
+-- `cost_range::tied_ok` meets its contract: what the ends allow is in range; else the result is exactly if its own ends are. Assumes nothing.
+use mathlib.Core.Path.{refl}
+use Rattle.settings.proofs.Answers.{sure}
 use Rattle.cost_nodes.proofs.Reading.{pos-from}
-use native.Mathlib.Omega.{arith}
+use Rattle.cost_range.proofs.Meeting.{span-side, met-within}
+use Rattle.cost_range.proofs.Ranging.{ends-tell, operand-pair}
 use borrow.Author.Needs.{needs}
 use Rattle.cost_range.proofs.tied_ok.Statement.{statement}
 use Rattle.cost_range.proofs.tied_ok.Tie as tie
 
-whole-ends-requires : tie.Need-whole-ends-requires
-whole-ends-requires c κs = search needs
+span-of-requires : tie.Need-span-of-requires
+span-of-requires c κs = (c .before .before .before) .pre .0
 
-enum-known-l : tie.Need-enum-known-l
-enum-known-l c = search needs
+span-of-requires-2 : tie.Need-span-of-requires-2
+span-of-requires-2 c κs = (c .before .before .before .before .before) .pre .1
 
-enum-told : tie.Need-enum-told
-enum-told c = search needs
+met-ends-requires : tie.Need-met-ends-requires
+met-ends-requires c κs = search needs
+
+ends-inside-requires : tie.Need-ends-inside-requires
+ends-inside-requires c κs = search needs
 
 same-length : tie.Need-same-length
 same-length c = search needs
 
+returns : tie.Need-returns
+returns c = let a = (c .before .before .before .before .before .before .before .before .before) in let p = (c .before .before .before .before .before .span-of) in let q = (c .before .before .before .span-of2) in
+    (refl, met-within (a .args .minus) _ _ _ (p .result .low) (p .result .high) (q .result .low) (q .result .high) (span-side _ _ _ _ (p .ensures)) (span-side _ _ _ _ (q .ensures)) ((c .before .before .met-ends) .result) ((c .before .before .met-ends) .ensures) (sure ((c .if1) .taken) ((c .before .ends-inside) .ensures)))
+
+whole-ends-requires : tie.Need-whole-ends-requires
+whole-ends-requires c κs = let a = (c .before .before .before .before .before .before .before .before .before .before .before) in (operand-pair _ (a .args .a .to) (a .args .a .adds) (a .args .b .to) (a .args .b .adds) (a .pre .0) (a .pre .1), a .pre .0 .rest)
+
+ends-inside-requires-2 : tie.Need-ends-inside-requires-2
+ends-inside-requires-2 c κs = search needs
+
 same-length-2 : tie.Need-same-length-2
 same-length-2 c = search needs
-
-returns : tie.Need-returns
-returns c = let a = (c .before .before .before .before .before .before .before .before .before .before .before) in let z = (c .before .before .before .before .before .before .whole-ends) in
-    (z .ensures .0, λ h. lost-leaves _ (pos-from _ 0 (a .pre .0 .holds)) _ (ends-lost (z .result) ((c .enum-told) .given .1) (z .ensures .1)) h)
 
 same-length-3 : tie.Need-same-length-3
 same-length-3 c = search needs
 
-same-length-4 : tie.Need-same-length-4
-same-length-4 c = search needs
-
 returns-2 : tie.Need-returns-2
-returns-2 c = let a = (c .before .before .before .before .before .before .before .before .before .before .before .before .before) in let z = (c .before .before .before .before .before .before .before .before .whole-ends) in
-    (z .ensures .0, λ h. low-leaves _ (pos-from _ 0 (a .pre .0 .holds)) _ _ _ (ends-are (z .result) ((c .before .before .l) .given .1) (z .ensures .1)) ((c .if1) .taken) h)
-
-same-length-5 : tie.Need-same-length-5
-same-length-5 c = search needs
-
-same-length-6 : tie.Need-same-length-6
-same-length-6 c = search needs
-
-returns-3 : tie.Need-returns-3
-returns-3 c = let a = (c .before .before .before .before .before .before .before .before .before .before .before .before .before) in let z = (c .before .before .before .before .before .before .before .before .whole-ends) in
-    (z .ensures .0, ends-tell _ (pos-from _ 0 (a .pre .0 .holds)) _ _ _ (ends-are (z .result) ((c .before .before .l) .given .1) (z .ensures .1)) (omega (arith, (c .if1) .left)))
+returns-2 c = let a = (c .before .before .before .before .before .before .before .before .before .before .before .before .before .before .before .before .before) in let z = (c .before .before .before .before .before .whole-ends) in (z .ensures .0, ends-tell _ (pos-from _ 0 (a .pre .0 .holds)) _ (z .result) (z .ensures .1) ((c .ends-inside2) .result) ((c .ends-inside2) .ensures))
 
 pub tied-ok-spec : {M : Type 1} → statement M
 tied-ok-spec =
     tie.close
     (tie.spec
-    whole-ends-requires
-    enum-known-l
-    enum-told
+    span-of-requires
+    span-of-requires-2
+    met-ends-requires
+    ends-inside-requires
     same-length
-    same-length-2
     returns
+    whole-ends-requires
+    ends-inside-requires-2
+    same-length-2
     same-length-3
-    same-length-4
-    returns-2
-    same-length-5
-    same-length-6
-    returns-3)
+    returns-2)

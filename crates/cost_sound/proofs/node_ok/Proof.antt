@@ -55,40 +55,19 @@ padded-ok-requires : tie.Need-padded-ok-requires
 padded-ok-requires c κs = let p = (c .before .before .before .before .before .before .before .before .before .before .before .before .before .before) .pre in let f = p .0 .fit .large ((c .before .before .before .before .before .before .before .before .before .before .before .wide) .result) (omega arith) .1 in (p .0, p .1, omega (arith, f))
 
 returns-5 : tie.Need-returns-5
-returns-5 c = let a = (c .before .before .before .before .before .before .before .before .before .before .before .before .before .before .before .before) .args in
-    let e : (c .before .before .wide3) .result ≡ size (a .t .now) (feature (a .t .now) (a .i)) = (c .before .before .wide3) .ensures .0 ∙ (c .before .before .before .head-word2) .ensures ∙ ap (size (a .t .now)) ((c .before .before .before .before .before .before .before .before .before .before .before .before .before .wide) .ensures .0 ∙ (c .before .before .before .before .before .before .before .before .before .before .before .before .before .before .record-word) .ensures) in
-    λ z. denied ((c .before .padded-ok) .result) ((c .if5) .taken) ((c .before .padded-ok) .ensures) (subst (λ (m : ℕ). Padded m (body (a .t .now) (a .i))) (sym e) (z .padded))
-
-mul-base : tie.Need-mul-base
-mul-base c = search needs
-
-add-base : tie.Need-add-base
-add-base c = search needs
-
-add-zeros : tie.Need-add-zeros
-add-zeros c = search needs
-
-add-zeros-2 : tie.Need-add-zeros-2
-add-zeros-2 c = search needs
-
-zeros-requires : tie.Need-zeros-requires
-zeros-requires c κs = search needs
-
-returns-6 : tie.Need-returns-6
-returns-6 c = let a = (c .before .before .before .before .before .before .before .before .before .before .before .before .before .before .before .before .before) .args in
-    let e : (c .before .before .before .wide3) .result ≡ size (a .t .now) (feature (a .t .now) (a .i)) = (c .before .before .before .wide3) .ensures .0 ∙ (c .before .before .before .before .head-word2) .ensures ∙ ap (size (a .t .now)) ((c .before .before .before .before .before .before .before .before .before .before .before .before .before .before .wide) .ensures .0 ∙ (c .before .before .before .before .before .before .before .before .before .before .before .before .before .before .before .record-word) .ensures) in
-    retell ((c .zeros) .result)
+returns-5 c = let a = (c .before .before .before .before .before .before .before .before .before .before .before .before .before .before .before) .args in
+    let e : (c .before .wide3) .result ≡ size (a .t .now) (feature (a .t .now) (a .i)) = (c .before .wide3) .ensures .0 ∙ (c .before .before .head-word2) .ensures ∙ ap (size (a .t .now)) ((c .before .before .before .before .before .before .before .before .before .before .before .before .wide) .ensures .0 ∙ (c .before .before .before .before .before .before .before .before .before .before .before .before .before .record-word) .ensures) in
+    retell ((c .padded-ok) .result)
     (λ q.
     record {
-      known = omega (arith, (c .before .before .before .before .before .before .before .before .before .before .before .if1), (c .before .before .before .before .before .before .before .before .before .before .before .before .before .before .wide) .ensures, (c .before .before .before .before .before .before .before .before .before .before .before .before .before .before .before .record-word) .ensures, (c .before .before .before .before .before .before .before .before .before .before .before .before .wide2) .ensures, (c .before .before .before .before .before .before .before .before .before .before .before .before .before .head-word) .ensures);
-      lower = granted ((c .before .before .before .before .before .before .before .before .before .before .lower) .result) ((c .before .before .before .before .before .before .before .before .before .if2) .left) ((c .before .before .before .before .before .before .before .before .before .before .lower) .ensures);
-      adds = granted ((c .before .before .before .before .before .before .before .before .adds-ok) .result) ((c .before .before .before .before .before .before .before .if3) .left) ((c .before .before .before .before .before .before .before .before .adds-ok) .ensures);
-      differ = sure-not ((c .before .before .before .before .before .if4) .left) ((c .before .before .before .before .before .before .alike) .ensures);
-      padded = subst (λ (m : ℕ). Padded m (body (a .t .now) (a .i))) e (granted ((c .before .before .padded-ok) .result) ((c .before .if5) .left) ((c .before .before .padded-ok) .ensures));
-      spare = q;
+      known = omega (arith, (c .before .before .before .before .before .before .before .before .before .if1), (c .before .before .before .before .before .before .before .before .before .before .before .before .wide) .ensures, (c .before .before .before .before .before .before .before .before .before .before .before .before .before .record-word) .ensures, (c .before .before .before .before .before .before .before .before .before .before .wide2) .ensures, (c .before .before .before .before .before .before .before .before .before .before .before .head-word) .ensures);
+      lower = granted ((c .before .before .before .before .before .before .before .before .lower) .result) ((c .before .before .before .before .before .before .before .if2) .left) ((c .before .before .before .before .before .before .before .before .lower) .ensures);
+      adds = granted ((c .before .before .before .before .before .before .adds-ok) .result) ((c .before .before .before .before .before .if3) .left) ((c .before .before .before .before .before .before .adds-ok) .ensures);
+      differ = sure-not ((c .before .before .before .if4) .left) ((c .before .before .before .before .alike) .ensures);
+      padded = subst (λ (m : ℕ). Padded m (body (a .t .now) (a .i))) e q;
     })
-    (λ z. z .spare)
-    ((c .zeros) .ensures)
+    (λ z. subst (λ (m : ℕ). Padded m (body (a .t .now) (a .i))) (sym e) (z .padded))
+    ((c .padded-ok) .ensures)
 
 pub node-ok-spec : {M : Type 1} → statement M
 node-ok-spec =
@@ -109,10 +88,4 @@ node-ok-spec =
     head-word-requires-2
     wide-requires-3
     padded-ok-requires
-    returns-5
-    mul-base
-    add-base
-    add-zeros
-    add-zeros-2
-    zeros-requires
-    returns-6)
+    returns-5)

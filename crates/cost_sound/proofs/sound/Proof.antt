@@ -1,6 +1,11 @@
 -- `cost_sound::sound` meets its contract: each test is one field of the record, in its order. Assumes nothing.
-use Rattle.checks.proofs.Framing.{framed}
+use mathlib.Core.Bool.{true, false}
+use Rattle.cost_sound.proofs.Ranging.{passes-no, passes-yes, ranged-side, sides-ranged}
+use Rattle.cost_sound.proofs.Reading.{sound-shaped}
+use Rattle.cost_sound.specs.Sides.{Shaped}
+use Rattle.cost_words.specs.Kept.{Pairs}
 use Rattle.settings.proofs.Answers.{granted, denied, retell}
+use Rattle.checks.proofs.Framing.{framed}
 use borrow.Author.Needs.{needs}
 use Rattle.cost_sound.proofs.sound.Statement.{statement}
 use Rattle.cost_sound.proofs.sound.Tie as tie
@@ -30,40 +35,34 @@ returns-4 : tie.Need-returns-4
 returns-4 c = λ z. denied ((c .before .roots-ok) .result) ((c .if4) .taken) ((c .before .roots-ok) .ensures) (z .roots-ok)
 
 order-ok-requires : tie.Need-order-ok-requires
-order-ok-requires c κs = (
-  record {
-    header = granted ((c .before .before .before .before .before .before .before .header-ok) .result) ((c .before .before .before .before .before .before .if1) .left) ((c .before .before .before .before .before .before .before .header-ok) .ensures);
-    nodes-ok = granted ((c .before .before .before .before .before .nodes-ok) .result) ((c .before .before .before .before .if2) .left) ((c .before .before .before .before .before .nodes-ok) .ensures);
-    chained = granted ((c .before .before .before .chains-ok) .result) ((c .before .before .if3) .left) ((c .before .before .before .chains-ok) .ensures);
-  },
-  granted ((c .before .roots-ok) .result) ((c .if4) .left) ((c .before .roots-ok) .ensures),
-)
+order-ok-requires c κs = (record { header = granted ((c .before .before .before .before .before .before .before .header-ok) .result) ((c .before .before .before .before .before .before .if1) .left) ((c .before .before .before .before .before .before .before .header-ok) .ensures); nodes-ok = granted ((c .before .before .before .before .before .nodes-ok) .result) ((c .before .before .before .before .if2) .left) ((c .before .before .before .before .before .nodes-ok) .ensures); chained = granted ((c .before .before .before .chains-ok) .result) ((c .before .before .if3) .left) ((c .before .before .before .chains-ok) .ensures) }, granted ((c .before .roots-ok) .result) ((c .if4) .left) ((c .before .roots-ok) .ensures))
 
 returns-5 : tie.Need-returns-5
 returns-5 c = λ z. denied ((c .before .order-ok) .result) ((c .if5) .taken) ((c .before .order-ok) .ensures) (z .in-order)
 
-range-ok-requires : tie.Need-range-ok-requires
-range-ok-requires c κs = record {
-  header = granted ((c .before .before .before .before .before .before .before .before .before .header-ok) .result) ((c .before .before .before .before .before .before .before .before .if1) .left) ((c .before .before .before .before .before .before .before .before .before .header-ok) .ensures);
-  nodes-ok = granted ((c .before .before .before .before .before .before .before .nodes-ok) .result) ((c .before .before .before .before .before .before .if2) .left) ((c .before .before .before .before .before .before .before .nodes-ok) .ensures);
-  chained = granted ((c .before .before .before .before .before .chains-ok) .result) ((c .before .before .before .before .if3) .left) ((c .before .before .before .before .before .chains-ok) .ensures);
-  roots-ok = granted ((c .before .before .before .roots-ok) .result) ((c .before .before .if4) .left) ((c .before .before .before .roots-ok) .ensures);
-  in-order = granted ((c .before .order-ok) .result) ((c .if5) .left) ((c .before .order-ok) .ensures);
-}
+pairs-ok-requires : tie.Need-pairs-ok-requires
+pairs-ok-requires c κs = record { header = granted ((c .before .before .before .before .before .before .before .before .before .header-ok) .result) ((c .before .before .before .before .before .before .before .before .if1) .left) ((c .before .before .before .before .before .before .before .before .before .header-ok) .ensures); nodes-ok = granted ((c .before .before .before .before .before .before .before .nodes-ok) .result) ((c .before .before .before .before .before .before .if2) .left) ((c .before .before .before .before .before .before .before .nodes-ok) .ensures); chained = granted ((c .before .before .before .before .before .chains-ok) .result) ((c .before .before .before .before .if3) .left) ((c .before .before .before .before .before .chains-ok) .ensures); roots-ok = granted ((c .before .before .before .roots-ok) .result) ((c .before .before .if4) .left) ((c .before .before .before .roots-ok) .ensures); in-order = granted ((c .before .order-ok) .result) ((c .if5) .left) ((c .before .order-ok) .ensures) }
 
 returns-6 : tie.Need-returns-6
-returns-6 c = retell ((c .range-ok) .result)
-    (λ q.
-    record {
-      header = granted ((c .before .before .before .before .before .before .before .before .before .before .header-ok) .result) ((c .before .before .before .before .before .before .before .before .before .if1) .left) ((c .before .before .before .before .before .before .before .before .before .before .header-ok) .ensures);
-      nodes-ok = granted ((c .before .before .before .before .before .before .before .before .nodes-ok) .result) ((c .before .before .before .before .before .before .before .if2) .left) ((c .before .before .before .before .before .before .before .before .nodes-ok) .ensures);
-      chained = granted ((c .before .before .before .before .before .before .chains-ok) .result) ((c .before .before .before .before .before .if3) .left) ((c .before .before .before .before .before .before .chains-ok) .ensures);
-      roots-ok = granted ((c .before .before .before .before .roots-ok) .result) ((c .before .before .before .if4) .left) ((c .before .before .before .before .roots-ok) .ensures);
-      in-order = granted ((c .before .before .order-ok) .result) ((c .before .if5) .left) ((c .before .before .order-ok) .ensures);
-      ranged = q;
-    })
-    (λ z. z .ranged)
-    ((c .range-ok) .ensures)
+returns-6 c = passes-no ((c .before .before .before .before .before .before .before .before .before .before .before .before .before) .args .t .now) (Pairs ((c .before .before .before .before .before .before .before .before .before .before .before .before .before) .args .t .now)) ((c .before .pairs-ok) .result) ((c .if6) .taken) ((c .before .pairs-ok) .ensures)
+
+places-ok-requires : tie.Need-places-ok-requires
+places-ok-requires c κs = let s : Shaped ((c .before .before .before .before .before .before .before .before .before .before .before .before .before) .args .t .now) = record { header = granted ((c .before .before .before .before .before .before .before .before .before .before .before .header-ok) .result) ((c .before .before .before .before .before .before .before .before .before .before .if1) .left) ((c .before .before .before .before .before .before .before .before .before .before .before .header-ok) .ensures); nodes-ok = granted ((c .before .before .before .before .before .before .before .before .before .nodes-ok) .result) ((c .before .before .before .before .before .before .before .before .if2) .left) ((c .before .before .before .before .before .before .before .before .before .nodes-ok) .ensures); chained = granted ((c .before .before .before .before .before .before .before .chains-ok) .result) ((c .before .before .before .before .before .before .if3) .left) ((c .before .before .before .before .before .before .before .chains-ok) .ensures); roots-ok = granted ((c .before .before .before .before .before .roots-ok) .result) ((c .before .before .before .before .if4) .left) ((c .before .before .before .before .before .roots-ok) .ensures); in-order = granted ((c .before .before .before .order-ok) .result) ((c .before .before .if5) .left) ((c .before .before .before .order-ok) .ensures) } in
+    (s, passes-yes ((c .before .before .before .before .before .before .before .before .before .before .before .before .before) .args .t .now) (Pairs ((c .before .before .before .before .before .before .before .before .before .before .before .before .before) .args .t .now)) ((c .before .pairs-ok) .result) ((c .if6) .left) ((c .before .pairs-ok) .ensures))
+
+returns-7 : tie.Need-returns-7
+returns-7 c = λ z. denied ((c .before .places-ok) .result) ((c .if7) .taken) ((c .before .places-ok) .ensures) (ranged-side (sound-shaped z) false (z .ranged))
+
+places-ok-requires-2 : tie.Need-places-ok-requires-2
+places-ok-requires-2 c κs = let s : Shaped ((c .before .before .before .before .before .before .before .before .before .before .before .before .before .before .before) .args .t .now) = record { header = granted ((c .before .before .before .before .before .before .before .before .before .before .before .before .before .header-ok) .result) ((c .before .before .before .before .before .before .before .before .before .before .before .before .if1) .left) ((c .before .before .before .before .before .before .before .before .before .before .before .before .before .header-ok) .ensures); nodes-ok = granted ((c .before .before .before .before .before .before .before .before .before .before .before .nodes-ok) .result) ((c .before .before .before .before .before .before .before .before .before .before .if2) .left) ((c .before .before .before .before .before .before .before .before .before .before .before .nodes-ok) .ensures); chained = granted ((c .before .before .before .before .before .before .before .before .before .chains-ok) .result) ((c .before .before .before .before .before .before .before .before .if3) .left) ((c .before .before .before .before .before .before .before .before .before .chains-ok) .ensures); roots-ok = granted ((c .before .before .before .before .before .before .before .roots-ok) .result) ((c .before .before .before .before .before .before .if4) .left) ((c .before .before .before .before .before .before .before .roots-ok) .ensures); in-order = granted ((c .before .before .before .before .before .order-ok) .result) ((c .before .before .before .before .if5) .left) ((c .before .before .before .before .before .order-ok) .ensures) } in
+    (s, passes-yes ((c .before .before .before .before .before .before .before .before .before .before .before .before .before .before .before) .args .t .now) (Pairs ((c .before .before .before .before .before .before .before .before .before .before .before .before .before .before .before) .args .t .now)) ((c .before .before .before .pairs-ok) .result) ((c .before .before .if6) .left) ((c .before .before .before .pairs-ok) .ensures))
+
+returns-8 : tie.Need-returns-8
+returns-8 c = let s : Shaped ((c .before .before .before .before .before .before .before .before .before .before .before .before .before .before .before .before) .args .t .now) = record { header = granted ((c .before .before .before .before .before .before .before .before .before .before .before .before .before .before .header-ok) .result) ((c .before .before .before .before .before .before .before .before .before .before .before .before .before .if1) .left) ((c .before .before .before .before .before .before .before .before .before .before .before .before .before .before .header-ok) .ensures); nodes-ok = granted ((c .before .before .before .before .before .before .before .before .before .before .before .before .nodes-ok) .result) ((c .before .before .before .before .before .before .before .before .before .before .before .if2) .left) ((c .before .before .before .before .before .before .before .before .before .before .before .before .nodes-ok) .ensures); chained = granted ((c .before .before .before .before .before .before .before .before .before .before .chains-ok) .result) ((c .before .before .before .before .before .before .before .before .before .if3) .left) ((c .before .before .before .before .before .before .before .before .before .before .chains-ok) .ensures); roots-ok = granted ((c .before .before .before .before .before .before .before .before .roots-ok) .result) ((c .before .before .before .before .before .before .before .if4) .left) ((c .before .before .before .before .before .before .before .before .roots-ok) .ensures); in-order = granted ((c .before .before .before .before .before .before .order-ok) .result) ((c .before .before .before .before .before .if5) .left) ((c .before .before .before .before .before .before .order-ok) .ensures) } in
+    retell ((c .places-ok2) .result)
+    (λ q. record { header = s .header; nodes-ok = s .nodes-ok; chained = s .chained; roots-ok = s .roots-ok; in-order = s .in-order; paired = passes-yes ((c .before .before .before .before .before .before .before .before .before .before .before .before .before .before .before .before) .args .t .now) (Pairs ((c .before .before .before .before .before .before .before .before .before .before .before .before .before .before .before .before) .args .t .now)) ((c .before .before .before .before .pairs-ok) .result) ((c .before .before .before .if6) .left) ((c .before .before .before .before .pairs-ok) .ensures); ranged = sides-ranged s (granted ((c .before .before .places-ok) .result) ((c .before .if7) .left) ((c .before .before .places-ok) .ensures)) q })
+    (λ z. ranged-side (sound-shaped z) true (z .ranged))
+    ((c .places-ok2) .ensures)
 
 pub sound-spec : {M : Type 1} → statement M
 sound-spec =
@@ -79,5 +78,9 @@ sound-spec =
     returns-4
     order-ok-requires
     returns-5
-    range-ok-requires
-    returns-6)
+    pairs-ok-requires
+    returns-6
+    places-ok-requires
+    returns-7
+    places-ok-requires-2
+    returns-8)

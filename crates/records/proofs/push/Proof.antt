@@ -11,14 +11,14 @@ use Rattle.records.proofs.push.Statement.{statement}
 use Rattle.records.proofs.push.Tie as tie
 
 abbrev Inv-loop : tie.InvT-loop
-Inv-loop t₀ k list i h next more base v₀ t v =
+Inv-loop t₀ k x y list i h next more base v₀ t v =
     (length t ≡ length t₀) × (v ≤ 12)
     × ((j : ℕ) → j < base + 1 → getD t j 0 ≡ getD t₀ j 0)
     × ((u : ℕ) → u < v → getD t (base + 1 + u) 0 ≡ getD list u 0)
     × ((j : ℕ) → base + 1 + v ≤ j → getD t j 0 ≡ getD t₀ j 0)
 
 abbrev μ-loop : tie.MeasureT-loop
-μ-loop t₀ k list i h next more base v₀ t v = 12 - v
+μ-loop t₀ k x y list i h next more base v₀ t v = 12 - v
 
 head-word-requires : tie.Need-head-word-requires Inv-loop μ-loop
 head-word-requires c κs = search needs
@@ -110,8 +110,26 @@ mul-t-5 c = search needs
 slice-write-t-4 : tie.Need-slice-write-t-4 Inv-loop μ-loop
 slice-write-t-4 c = simp length-set (omega (arith, simp length-set at ((c .before .loop) .inv .0)))
 
+add-t-5 : tie.Need-add-t-5 Inv-loop μ-loop
+add-t-5 c = search needs
+
+mul-t-6 : tie.Need-mul-t-6 Inv-loop μ-loop
+mul-t-6 c = search needs
+
 slice-write-t-5 : tie.Need-slice-write-t-5 Inv-loop μ-loop
 slice-write-t-5 c = simp length-set (omega (arith, simp length-set at ((c .before .loop) .inv .0)))
+
+add-t-6 : tie.Need-add-t-6 Inv-loop μ-loop
+add-t-6 c = search needs
+
+mul-t-7 : tie.Need-mul-t-7 Inv-loop μ-loop
+mul-t-7 c = search needs
+
+slice-write-t-6 : tie.Need-slice-write-t-6 Inv-loop μ-loop
+slice-write-t-6 c = simp length-set (omega (arith, simp length-set at ((c .before .loop) .inv .0)))
+
+slice-write-t-7 : tie.Need-slice-write-t-7 Inv-loop μ-loop
+slice-write-t-7 c = simp length-set (omega (arith, simp length-set at ((c .before .loop) .inv .0)))
 
 same-length : tie.Need-same-length Inv-loop μ-loop
 same-length c = simp length-set (simp length-set at ((c .before .loop) .inv .0))
@@ -120,7 +138,7 @@ returns : tie.Need-returns Inv-loop μ-loop
 returns c = let l = (c .before .loop) in let a = (c .before .before .before .before .before .before .before .before .before .before .before) in
     let e : (c .before .before .before .before .before .before .before .wide) .result ≡ count (a .args .t .now) = (c .before .before .before .before .before .before .before .wide) .ensures .0 ∙ (c .before .before .before .before .before .before .before .before .head-word) .ensures in (
       e,
-      pushed (a .args .t .now) (l .t) (a .args .t3) _ _ _ _ _ _ e ((c .before .before .before .narrow) .ensures) ((c .before .before .narrow2) .ensures)
+      pushed (a .args .t .now) (l .t) (a .args .t3) _ _ _ _ _ _ _ _ e ((c .before .before .before .narrow) .ensures) ((c .before .before .narrow2) .ensures)
           ((c .before .before .before .before .before .before .hash-of) .ensures .0) ((c .before .before .before .before .before .before .hash-of) .ensures .1) ((c .before .before .before .before .head-word2) .ensures) (omega arith) (l .inv .0) (l .inv .2) (λ j h. l .inv .4 j (omega arith)) (λ u h. l .inv .3 u (omega arith)),
     )
 
@@ -158,6 +176,12 @@ push-spec =
     add-t-4
     mul-t-5
     slice-write-t-4
+    add-t-5
+    mul-t-6
     slice-write-t-5
+    add-t-6
+    mul-t-7
+    slice-write-t-6
+    slice-write-t-7
     same-length
     returns)

@@ -10,13 +10,13 @@ use Rattle.sweep.proofs.add_copy.Statement.{statement}
 use Rattle.sweep.proofs.add_copy.Tie as tie
 
 abbrev Inv-loop : tie.InvT-loop
-Inv-loop t₀ i list m base v₀ t v = (length t ≡ length t₀) × (v ≤ 12)
+Inv-loop t₀ i list m base x y v₀ t v = (length t ≡ length t₀) × (v ≤ 12)
     × ((j : ℕ) → j < base + 1 → getD t j 0 ≡ getD t₀ j 0)
     × ((u : ℕ) → u < v → getD t (base + 1 + u) 0 ≡ getD list u 0)
     × ((j : ℕ) → base + 1 + v ≤ j → getD t j 0 ≡ getD t₀ j 0)
 
 abbrev μ-loop : tie.MeasureT-loop
-μ-loop t₀ i list m base v₀ t v = 12 - v
+μ-loop t₀ i list m base x y v₀ t v = 12 - v
 
 head-word-requires : tie.Need-head-word-requires Inv-loop μ-loop
 head-word-requires c κs = search needs
@@ -41,6 +41,12 @@ add-base-2 c = search needs
 
 record-word-requires : tie.Need-record-word-requires Inv-loop μ-loop
 record-word-requires c κs = search needs
+
+record-word-requires-2 : tie.Need-record-word-requires-2 Inv-loop μ-loop
+record-word-requires-2 c κs = search needs
+
+record-word-requires-3 : tie.Need-record-word-requires-3 Inv-loop μ-loop
+record-word-requires-3 c κs = search needs
 
 mul-t : tie.Need-mul-t Inv-loop μ-loop
 mul-t c = search needs
@@ -80,15 +86,9 @@ loop-again c = let l = (c .before .loop) in (
   simp length-set (simp length-set at (l .inv .0)),
   search needs,
   (λ j h. getD-set-other (l .t) _ j _ 0 (omega arith) ∙ l .inv .2 j h),
-  run-more (l .t) ((c .before .before .before .before .before .before .before .before .before .before .before) .args .t3) _ (l .v) (omega (arith, simp length-set at (l .inv .0))) (l .inv .3),
+  run-more (l .t) ((c .before .before .before .before .before .before .before .before .before .before .before .before .before .before .before) .args .t3) _ (l .v) (omega (arith, simp length-set at (l .inv .0))) (l .inv .3),
   (λ j h. getD-set-other (l .t) _ j _ 0 (omega arith) ∙ l .inv .4 j (omega arith)),
 )
-
-add-narrow : tie.Need-add-narrow Inv-loop μ-loop
-add-narrow c = search needs
-
-narrow-requires : tie.Need-narrow-requires Inv-loop μ-loop
-narrow-requires c κs = search needs
 
 add-t-3 : tie.Need-add-t-3 Inv-loop μ-loop
 add-t-3 c = search needs
@@ -97,7 +97,31 @@ mul-t-4 : tie.Need-mul-t-4 Inv-loop μ-loop
 mul-t-4 c = search needs
 
 slice-write-t-3 : tie.Need-slice-write-t-3 Inv-loop μ-loop
-slice-write-t-3 c = omega (arith, simp length-set at ((c .before .before .loop) .inv .0))
+slice-write-t-3 c = omega (arith, simp length-set at ((c .before .loop) .inv .0))
+
+add-t-4 : tie.Need-add-t-4 Inv-loop μ-loop
+add-t-4 c = search needs
+
+mul-t-5 : tie.Need-mul-t-5 Inv-loop μ-loop
+mul-t-5 c = search needs
+
+slice-write-t-4 : tie.Need-slice-write-t-4 Inv-loop μ-loop
+slice-write-t-4 c = simp length-set (omega (arith, simp length-set at ((c .before .loop) .inv .0)))
+
+add-narrow : tie.Need-add-narrow Inv-loop μ-loop
+add-narrow c = search needs
+
+narrow-requires : tie.Need-narrow-requires Inv-loop μ-loop
+narrow-requires c κs = search needs
+
+add-t-5 : tie.Need-add-t-5 Inv-loop μ-loop
+add-t-5 c = search needs
+
+mul-t-6 : tie.Need-mul-t-6 Inv-loop μ-loop
+mul-t-6 c = search needs
+
+slice-write-t-5 : tie.Need-slice-write-t-5 Inv-loop μ-loop
+slice-write-t-5 c = simp length-set (omega (arith, simp length-set at ((c .before .before .loop) .inv .0)))
 
 add-narrow-2 : tie.Need-add-narrow-2 Inv-loop μ-loop
 add-narrow-2 c = search needs
@@ -105,8 +129,8 @@ add-narrow-2 c = search needs
 narrow-requires-2 : tie.Need-narrow-requires-2 Inv-loop μ-loop
 narrow-requires-2 c κs = search needs
 
-slice-write-t-4 : tie.Need-slice-write-t-4 Inv-loop μ-loop
-slice-write-t-4 c = simp length-set (omega (arith, simp length-set at ((c .before .before .before .loop) .inv .0)))
+slice-write-t-6 : tie.Need-slice-write-t-6 Inv-loop μ-loop
+slice-write-t-6 c = simp length-set (omega (arith, simp length-set at ((c .before .before .before .loop) .inv .0)))
 
 same-length : tie.Need-same-length Inv-loop μ-loop
 same-length c = simp length-set (simp length-set at ((c .before .before .before .loop) .inv .0))
@@ -114,7 +138,7 @@ same-length c = simp length-set (simp length-set at ((c .before .before .before 
 returns : tie.Need-returns Inv-loop μ-loop
 returns c = let l = (c .before .before .before .loop) in (
   search needs,
-  put ((c .before .before .before .before .before .before .before .before .before .before .before .before .before) .args .t .now) (l .t) ((c .before .before .before .before .before .before .before .before .before .before .before .before .before) .args .t3) _ _ _ _ _ (omega arith) ((c .before .before .before .before .record-word) .ensures) (omega arith) (omega arith) ((c .before .before .before .before .before .before .before .before .before .before .before .before .before) .pre)
+  put ((c .before .before .before .before .before .before .before .before .before .before .before .before .before .before .before .before .before) .args .t .now) (l .t) ((c .before .before .before .before .before .before .before .before .before .before .before .before .before .before .before .before .before) .args .t3) _ _ _ _ _ _ _ (omega arith) ((c .before .before .before .before .record-word3) .ensures) ((c .before .before .before .before .before .before .before .before .record-word) .ensures) ((c .before .before .before .before .before .before .record-word2) .ensures) (omega arith) (omega arith) ((c .before .before .before .before .before .before .before .before .before .before .before .before .before .before .before .before .before) .pre)
       (l .inv .0) (l .inv .2) (λ u h. l .inv .3 u (omega arith)) (λ j h. l .inv .4 j (omega arith)),
 )
 
@@ -132,6 +156,8 @@ add-copy-spec =
     mul-base
     add-base-2
     record-word-requires
+    record-word-requires-2
+    record-word-requires-3
     mul-t
     slice-write-t
     loop-holds
@@ -144,13 +170,19 @@ add-copy-spec =
     add-v
     loop-less
     loop-again
-    add-narrow
-    narrow-requires
     add-t-3
     mul-t-4
     slice-write-t-3
+    add-t-4
+    mul-t-5
+    slice-write-t-4
+    add-narrow
+    narrow-requires
+    add-t-5
+    mul-t-6
+    slice-write-t-5
     add-narrow-2
     narrow-requires-2
-    slice-write-t-4
+    slice-write-t-6
     same-length
     returns)

@@ -1,6 +1,7 @@
 -- `cost_operations::pricing::put_prices` meets its contract: the prices are the branches of one node, and what was made is settled. Assumes nothing.
 use mathlib.Core.Path.{_∙_}
 use native.Mathlib.Omega.{arith}
+use Rattle.cost_sound.proofs.Pictures.{sound-narrow}
 use borrow.Author.Needs.{needs}
 use Rattle.cost_laws.proofs.Range.{priced-within}
 use Rattle.cost_laws.specs.Operations.{priced}
@@ -21,7 +22,7 @@ words-of-requires c κs = let d = (c .before .before .before .before) .pre .2 in
 
 make-requires : tie.Need-make-requires
 make-requires c κs = let a = (c .before .before .before .before .before .before) in
-    (sound-holds (a .pre .0), a .pre .2 .known, price-armed (a .args .t .now) (a .args .feature) (a .args .prices .now) ((c .before .words-of) .result) (sound-holds (a .pre .0)) (a .pre .2) ((c .before .words-of) .ensures))
+    (sound-holds (a .pre .0), a .pre .2 .known, price-armed (a .args .t .now) (a .args .feature) (a .args .prices .now) ((c .before .words-of) .result) (sound-holds (a .pre .0)) (a .pre .2) ((c .before .words-of) .ensures) (sound-narrow (a .pre .0)))
 
 settle-requires : tie.Need-settle-requires
 settle-requires c κs = let a = (c .before .before .before .before .before .before .before .before .before .before) in

@@ -17,30 +17,32 @@ use Rattle.cost_sound.proofs.range.places_ok.Statement.{statement}
 use Rattle.cost_sound.proofs.range.places_ok.Tie as tie
 
 abbrev Inv-loop : tie.InvT-loop
-Inv-loop t sums up p₀ p = (p ≤ 16) × ((x : ℕ) → x < p → beyond up (extreme (sideOf up) (sizes t) (costOf t x)) ≤ costMost)
+Inv-loop t up p₀ p = (p ≤ 16) × ((x : ℕ) → x < p → beyond up (extreme (sideOf up) (sizes t) (costOf t x)) ≤ costMost)
 
 abbrev μ-loop : tie.MeasureT-loop
-μ-loop t sums up p₀ p = 16 - p
+μ-loop t up p₀ p = 16 - p
 
 loop-holds : tie.Need-loop-holds Inv-loop μ-loop
 loop-holds c = (omega arith, λ x h. absurd (omega arith))
 
 base-word-requires : tie.Need-base-word-requires Inv-loop μ-loop
-base-word-requires c κs = (omega (arith, (c .before .before .before .before) .pre .0 .header .room), omega arith)
+base-word-requires c κs = (omega (arith, (c .before .before .before) .pre .0 .header .room), omega arith)
 
 root-word-requires : tie.Need-root-word-requires Inv-loop μ-loop
-root-word-requires c κs = (omega (arith, (c .before .before .before .before .before) .pre .0 .header .room), omega arith)
+root-word-requires c κs = (omega (arith, (c .before .before .before .before) .pre .0 .header .room), omega arith)
 
 kept-word-requires : tie.Need-kept-word-requires Inv-loop μ-loop
-kept-word-requires c κs = let q = (c .before .before .before .before .before .before) .pre in let h = q .0 .header in ((c .before .before .before .before .before .before) .pre .1 .sized, omega (arith, q .0 .roots-ok .rooted ((c .before .before .before .loop) .p) (omega arith) .below, (c .root-word) .ensures, h .most, h .within))
+kept-word-requires c κs = let q = (c .before .before .before .before .before) .pre in let h = q .0 .header in
+    let y = q .0 .roots-ok .rooted ((c .before .before .before .loop) .p) (omega arith) .below in
+    record { room = omega (arith, y, (c .root-word) .ensures, h .room, h .within); most = omega (arith, y, (c .root-word) .ensures, h .most, h .within) }
 
 beyond-ok-requires : tie.Need-beyond-ok-requires Inv-loop μ-loop
 beyond-ok-requires c κs = search needs
 
 returns : tie.Need-returns Inv-loop μ-loop
-returns c = let q = (c .before .before .before .before .before .before .before .before .before) .pre in let a = (c .before .before .before .before .before .before .before .before .before) .args in let l = (c .before .before .before .before .before .before .loop) in
+returns c = let q = (c .before .before .before .before .before .before .before .before) .pre in let a = (c .before .before .before .before .before .before .before .before) .args in let l = (c .before .before .before .before .before .before .loop) in
     λ z. denied ((c .before .beyond-ok) .result) ((c .if1) .taken) ((c .before .beyond-ok) .ensures)
-    (subst (λ (y : ℤ). beyond (a .up) y ≤ costMost) (sym (place-is (q .0) (a .up) (a .sums .now) (q .1) (l .p) ((c .before .before .before .root-word) .result) ((c .before .before .before .before .base-word) .result) ((c .before .before .kept-word) .result) (omega arith) ((c .before .before .before .root-word) .ensures) ((c .before .before .before .before .base-word) .ensures) ((c .before .before .kept-word) .ensures)))
+    (subst (λ (y : ℤ). beyond (a .up) y ≤ costMost) (sym (place-is (q .0) (a .up) (q .1) (l .p) ((c .before .before .before .root-word) .result) ((c .before .before .before .before .base-word) .result) ((c .before .before .kept-word) .result) (omega arith) ((c .before .before .before .root-word) .ensures) ((c .before .before .before .before .base-word) .ensures) ((c .before .before .kept-word) .ensures)))
     (z .side (l .p) (omega arith)))
 
 add-p : tie.Need-add-p Inv-loop μ-loop
@@ -50,10 +52,10 @@ loop-less : tie.Need-loop-less Inv-loop μ-loop
 loop-less c = search needs
 
 loop-again : tie.Need-loop-again Inv-loop μ-loop
-loop-again c = let q = (c .before .before .before .before .before .before .before .before .before) .pre in let a = (c .before .before .before .before .before .before .before .before .before) .args in let l = (c .before .before .before .before .before .before .loop) in (
+loop-again c = let q = (c .before .before .before .before .before .before .before .before) .pre in let a = (c .before .before .before .before .before .before .before .before) .args in let l = (c .before .before .before .before .before .before .loop) in (
   omega arith,
   below-more (λ x. beyond (a .up) (extreme (sideOf (a .up)) (sizes (a .t .now)) (costOf (a .t .now) x)) ≤ costMost) (l .p) (l .inv .1)
-      (subst (λ (y : ℤ). beyond (a .up) y ≤ costMost) (place-is (q .0) (a .up) (a .sums .now) (q .1) (l .p) ((c .before .before .before .root-word) .result) ((c .before .before .before .before .base-word) .result) ((c .before .before .kept-word) .result) (omega arith) ((c .before .before .before .root-word) .ensures) ((c .before .before .before .before .base-word) .ensures) ((c .before .before .kept-word) .ensures))
+      (subst (λ (y : ℤ). beyond (a .up) y ≤ costMost) (place-is (q .0) (a .up) (q .1) (l .p) ((c .before .before .before .root-word) .result) ((c .before .before .before .before .base-word) .result) ((c .before .before .kept-word) .result) (omega arith) ((c .before .before .before .root-word) .ensures) ((c .before .before .before .before .base-word) .ensures) ((c .before .before .kept-word) .ensures))
       (granted ((c .before .beyond-ok) .result) ((c .if1) .left) ((c .before .beyond-ok) .ensures))),
 )
 

@@ -1,0 +1,76 @@
+-- `cost_sound::range::pairs_ok` meets its contract: what is kept for the nodes passed is their own. Assumes nothing.
+use mathlib.Core.Path.{_≡_, _∙_}
+use mathlib.Core.Bool.{Bool, true, false}
+use Prim.Native.Nat.{_-_, _≤_}
+use native.Mathlib.Omega.{arith}
+use Rattle.words.specs.Words.{count}
+use Rattle.cost_words.specs.Words.{nodes}
+use Rattle.cost_words.specs.Sums.{sideOf}
+use Rattle.cost_words.specs.Kept.{kept}
+use Rattle.cost_laws.specs.Extremes.{Passed}
+use Rattle.cost_sound.specs.Sides.{Owns}
+use Rattle.cost_sound.proofs.Ranging.{passes-no, passes-yes, pairs-none, pairs-more, pairs-all}
+use borrow.Author.Needs.{needs}
+use Rattle.cost_sound.proofs.range.pairs_ok.Statement.{statement}
+use Rattle.cost_sound.proofs.range.pairs_ok.Tie as tie
+
+abbrev Inv-loop : tie.InvT-loop
+Inv-loop t n i₀ i = (n ≡ count t) × (i ≤ n) × ((up : Bool) → Passed (sideOf up) (nodes t) i (kept up t))
+
+abbrev μ-loop : tie.MeasureT-loop
+μ-loop t n i₀ i = n - i
+
+head-word-requires : tie.Need-head-word-requires Inv-loop μ-loop
+head-word-requires c κs = omega (arith, (c .before) .pre .header .room)
+
+wide-requires : tie.Need-wide-requires Inv-loop μ-loop
+wide-requires c κs = search needs
+
+loop-holds : tie.Need-loop-holds Inv-loop μ-loop
+loop-holds c = ((c .wide) .ensures .0 ∙ (c .before .head-word) .ensures, omega arith, pairs-none ((c .before .before .before) .pre))
+
+own-ok-requires : tie.Need-own-ok-requires Inv-loop μ-loop
+own-ok-requires c κs = ((c .before .before .before .before .before) .pre, omega (arith, (c .before .loop) .inv .0))
+
+returns : tie.Need-returns Inv-loop μ-loop
+returns c = let a = (c .before .before .before .before .before .before .before) .args in passes-no (a .t .now) (Owns false (a .t .now) ((c .before .before .before .loop) .i)) ((c .before .own-ok) .result) ((c .if1) .taken) ((c .before .own-ok) .ensures)
+
+own-ok-requires-2 : tie.Need-own-ok-requires-2 Inv-loop μ-loop
+own-ok-requires-2 c κs = ((c .before .before .before .before .before .before .before) .pre, omega (arith, (c .before .before .before .loop) .inv .0))
+
+returns-2 : tie.Need-returns-2 Inv-loop μ-loop
+returns-2 c = let a = (c .before .before .before .before .before .before .before .before .before) .args in passes-no (a .t .now) (Owns true (a .t .now) ((c .before .before .before .before .before .loop) .i)) ((c .before .own-ok2) .result) ((c .if2) .taken) ((c .before .own-ok2) .ensures)
+
+add-i : tie.Need-add-i Inv-loop μ-loop
+add-i c = search needs
+
+loop-less : tie.Need-loop-less Inv-loop μ-loop
+loop-less c = search needs
+
+loop-again : tie.Need-loop-again Inv-loop μ-loop
+loop-again c = let a = (c .before .before .before .before .before .before .before .before .before) .args in let l = (c .before .before .before .before .before .loop) in (
+  l .inv .0,
+  omega arith,
+  pairs-more ((c .before .before .before .before .before .before .before .before .before) .pre) (l .i) (passes-yes (a .t .now) (Owns false (a .t .now) (l .i)) ((c .before .before .before .own-ok) .result) ((c .before .before .if1) .left) ((c .before .before .before .own-ok) .ensures)) (passes-yes (a .t .now) (Owns true (a .t .now) (l .i)) ((c .before .own-ok2) .result) ((c .if2) .left) ((c .before .own-ok2) .ensures)) (l .inv .2),
+)
+
+returns-3 : tie.Need-returns-3 Inv-loop μ-loop
+returns-3 c = pairs-all ((c .before .before .before .before .before) .pre) ((c .before .loop) .i) (omega (arith, (c .before .loop) .inv .0)) ((c .before .loop) .inv .2)
+
+pub pairs-ok-spec : {M : Type 1} → statement M
+pairs-ok-spec =
+    tie.close
+    (tie.spec
+    Inv-loop
+    μ-loop
+    head-word-requires
+    wide-requires
+    loop-holds
+    own-ok-requires
+    returns
+    own-ok-requires-2
+    returns-2
+    add-i
+    loop-less
+    loop-again
+    returns-3)
