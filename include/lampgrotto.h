@@ -137,7 +137,8 @@ uint32_t lampgrotto_step(const uint8_t *features, size_t features_len, const uin
    A table has 16 places, 0 to 15, and each holds a cost. A cost gives each setting an integer from -1,000,000,000 to 1,000,000,000.
    It has as many words as a rule table of its capacity, LAMPGROTTO_WORDS(capacity); no sound rule table is a sound cost table, nor
    the other way round. The calls take t, scratch, place and out as those of a rule table do, and end as they do. A cost is one word
-   of out, to be read as a signed number: (int32_t)out[0]. */
+   of out, to be read as a signed number: (int32_t)out[0]. Each node of a cost table keeps the lowest and the highest sum below it, so a
+   table with nodes that an earlier library left, which did not, is DAMAGED: such tables are not carried over. */
 
 /* Makes a fresh table over 1 to 16 features of 2 to 8 values: all places hold the constant 0. The words may hold anything before.
    Refuses: BAD_OPENING. */

@@ -31,7 +31,7 @@ use Rattle.words.proofs.Tab.{split, length-tab, getD-tab}
 use Rattle.records.specs.Changes.{pairOf, Pushed, RecordIs, Finds as FindsRecord}
 use Rattle.records.specs.Nodes.{Listed, nodeOf, Behind, Absent}
 use Rattle.records.proofs.Making as M
-use Rattle.cost_words.specs.Kept.{kept, armSum, Bodied, Sides}
+use Rattle.cost_words.specs.Kept.{kept, endOf, armSum, Bodied, Sides}
 use Rattle.cost_words.specs.Sums.{sideOf}
 use Rattle.cost_words.specs.Words.{branch, goes, added, code, packed, pairWord, nodes}
 use Rattle.cost_words.proofs.Pairing.{new-pair}
@@ -189,9 +189,9 @@ module _ (w : List ℕ) (k : ℕ) (x a r l : List ℕ) (ok : Holds w) (hk : k < 
       }
 
   -- .. none is lost, ..
-  sides-are : (up : Bool) (r : ℕ) → Sides up w l m r → int r ≡ across (sideOf up) (armSum up w l) m
-  sides-are up zero s = absurd (s .lost refl (λ v h. subst (Fit addMost) (sym (sum-is up v h)) (ar .sums up v h)))
-  sides-are up (suc r) s = s .stands (omega arith)
+  sides-are : (c d : ℕ) → Sides w l m c d → (up : Bool) → int (endOf up c d) ≡ across (sideOf up) (armSum up w l) m
+  sides-are zero d s = absurd (s .lost refl (λ up v h. subst (Fit addMost) (sym (sum-is up v h)) (ar .sums up v h)))
+  sides-are (suc c) d s = s .stands (omega arith)
 
   -- .. and the furthest are the new node's own
   own-is : (up : Bool) → across (sideOf up) (armSum up w l) m ≡ own (sideOf up) (kept up w) (nodeOf code w k l)
@@ -201,24 +201,23 @@ module _ (w : List ℕ) (k : ℕ) (x a r l : List ℕ) (ok : Holds w) (hk : k < 
       ∙ ap (across (sideOf up) (λ v. along (kept up w) (getD (branches code m (listed l)) v blank))) (sym (length-tab (code .arm (listed l)) m))
 
   -- so they are its spare words
-  behind : (c d : ℕ) → Absent code w k l → Sides false w l m c → Sides true w l m d → Behind code w k l c d
-  behind c d ab ec ed = go
+  behind : (c d : ℕ) → Absent code w k l → Sides w l m c d → Behind code w k l c d
+  behind c d ab e = go
     where
       pair : (c ≡ pairWord (sizes w) (nodes w ++ (nodeOf code w k l ∷ [])) (length (nodes w)) 0) × (d ≡ pairWord (sizes w) (nodes w ++ (nodeOf code w k l ∷ [])) (length (nodes w)) 1)
       pair =
-          new-pair (sizes w) (lawful .positive w (ok .laid)) (nodes w) (nodeOf code w k l) (M.new-wf faithful w k l ok hk fits (level-bs w k l ok hk levelled) ab) (λ up. kept up w) (ar .paired) c d (sides-are false c ec ∙ own-is false) (sides-are true d ed ∙ own-is true)
+          new-pair (sizes w) (lawful .positive w (ok .laid)) (nodes w) (nodeOf code w k l) (M.new-wf faithful w k l ok hk fits (level-bs w k l ok hk levelled) ab) (λ up. kept up w) (ar .paired) c d (sides-are c d e false ∙ own-is false) (sides-are c d e true ∙ own-is true)
 
       go : (j : ℕ) → j < 2 → pairOf c d j ≡ pairWord (sizes w) (nodes w ++ (nodeOf code w k l ∷ [])) (count w) j
       go zero h = pair .0 ∙ ap (λ (i : ℕ). pairWord (sizes w) (nodes w ++ (nodeOf code w k l ∷ [])) i 0) (length-nodes code w)
       go (suc zero) h = pair .1 ∙ ap (λ (i : ℕ). pairWord (sizes w) (nodes w ++ (nodeOf code w k l ∷ [])) i 1) (length-nodes code w)
       go (suc (suc j)) h = absurd (omega arith)
 
-  pub made-new : (w′ : List ℕ) (y c d n n′ : ℕ) → Absent code w k l → count w < capacity w → y ≡ suc (count w) → n ≡ m → n′ ≡ m → Sides false w l n c → Sides true w l n′ d → Pushed w w′ k l c d → Makes w w′ k x a (Is y (listed a 0))
-  made-new w′ y c b n n′ ab less d en en′ ec eb p =
+  pub made-new : (w′ : List ℕ) (y c d n : ℕ) → Absent code w k l → count w < capacity w → y ≡ suc (count w) → n ≡ m → Sides w l n c d → Pushed w w′ k l c d → Makes w w′ k x a (Is y (listed a 0))
+  made-new w′ y c d n ab less e en s p =
       answered w′ y
-      (subst (λ (b : Branch costs). H.Gives layout w w′ (make k (branches code m (listed l)) (nodes w)) (some b)) (node-branch y (count w) d)
-      (M.made-new faithful w k l ok hk fits (level-bs w k l ok hk levelled) w′ ab less
-      (behind c b ab (subst (λ (q : ℕ). Sides false w l q c) en ec) (subst (λ (q : ℕ). Sides true w l q b) en′ eb)) p))
+      (subst (λ (b : Branch costs). H.Gives layout w w′ (make k (branches code m (listed l)) (nodes w)) (some b)) (node-branch y (count w) e)
+      (M.made-new faithful w k l ok hk fits (level-bs w k l ok hk levelled) w′ ab less (behind c d ab (subst (λ (q : ℕ). Sides w l q c d) en s)) p))
 
   pub made-none : Absent code w k l → (count w < capacity w → ⊥) → Makes w w k x a NoRoom
   made-none ab full = lifted w none (M.made-none faithful w k l ok hk fits (level-bs w k l ok hk levelled) ab full)

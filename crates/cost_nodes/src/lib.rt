@@ -7,7 +7,7 @@ use cost_words::goes_to;
 use cost_words::half_of;
 use cost_words::pack;
 use cost_words::root_word;
-use cost_words::side_of;
+use cost_words::sides_of;
 use cost_words::target_at;
 use cost_words::target_word;
 use records::find_record;
@@ -100,9 +100,8 @@ pub fn make(t: &mut [u32], k: usize, goes: [u32; 8], adds: [u32; 8]) -> Answer
     let base = adds[0];
     let Found::At(x) = find(t, k, list) else {
         if head_word(t, 19) < head_word(t, 1) {
-            let low = side_of(t, list, m, false);
-            let high = side_of(t, list, m, true);
-            let i = narrow(push(t, k, list, low, high));
+            let pair = sides_of(t, list, m);
+            let i = narrow(push(t, k, list, pair.low, pair.high));
             return Answer::Is(target_word(Target::Node(i)), base);
         }
         return Answer::NoRoom;

@@ -14,7 +14,7 @@ use Rattle.words.specs.Words.{head, features, size, sizes, count, listed}
 use Rattle.records.specs.Laid.{Laid}
 use Rattle.notes.specs.Plain.{plain}
 use Rattle.notes.proofs.Alike.{Like, plain-like, like-head, like-sym, like-size, like-record, like-nodes, like-laid, like-holds, plain-grown}
-use Rattle.cost_words.specs.Kept.{kept}
+use Rattle.cost_words.specs.Kept.{kept, Keeps}
 use Rattle.cost_words.specs.Sums.{sideOf}
 use Rattle.cost_words.specs.Words.{target, nodes}
 use Rattle.cost_words.proofs.Reading.{length-nodes}
@@ -86,8 +86,8 @@ module _ (w : List ℕ) where
   pub noted-place : (k x : ℕ) → Place (plain w) k x → Place w k x
   noted-place k x p = like-place with-notes k x p
 
-  pub noted-kept : Laid (plain w) → (up : Bool) (x : ℕ) → x ≤ count (plain w) → keptAt (kept up w) (target x) ≡ keptAt (kept up (plain w)) (target x)
-  noted-kept d up x h = like-at with-notes d up x h
+  pub noted-keeps : Laid (plain w) → (x a b : ℕ) → x ≤ count (plain w) → Keeps w x a b → Keeps (plain w) x a b
+  noted-keeps d x a b h k = record { keeps = λ up. k .keeps up ∙ like-at with-notes d up x h }
 
   pub noted-nodes : Laid (plain w) → nodes w ≡ nodes (plain w)
   noted-nodes d = like-nodes with-notes d faithful

@@ -8,20 +8,19 @@ use cost_nodes::Arm;
 use cost_nodes::arm_at;
 use cost_nodes::make;
 use cost_nodes::top_of;
-use cost_words::kept_word;
+use cost_words::Span;
+use cost_words::kept_span;
 use words::head_word;
 use words::wide;
 ghost use mathlib.Core.Path.{_≡_};
 ghost use Prim.Native.Nat.{ℕ, _≤_, _<_};
-ghost use Rattle.cost_laws.specs.Extremes.{keptAt};
-ghost use Rattle.cost_laws.specs.Integers.{int};
 ghost use Rattle.cost_laws.specs.Relative.{branchAt};
 ghost use Rattle.words.specs.Words.{features, size, count};
 ghost use Rattle.records.specs.Laid.{Laid};
 ghost use Rattle.notes.specs.Far.{memory, Aside};
 ghost use Rattle.notes.specs.Plain.{Roomy, plain};
 ghost use Rattle.cost_memory.specs.Memory.{Recalls, Stored};
-ghost use Rattle.cost_words.specs.Kept.{kept};
+ghost use Rattle.cost_words.specs.Kept.{Keeps};
 ghost use Rattle.cost_words.specs.Words.{target, branch, nodes};
 ghost use Rattle.cost_nodes.specs.Nodes.{Holds, Armed, Makes, top, Place};
 
@@ -43,12 +42,12 @@ pub fn arm_in(t: &[u32], k: usize, x: u32, v: usize) -> Arm
     arm_at(t, k, x, v)
 }
 
-// The word that the table keeps for a target.
-pub fn kept_in(t: &[u32], x: u32, up: bool) -> u32
+// What the table keeps for a target.
+pub fn kept_in(t: &[u32], x: u32) -> Span
     requires { ⌜ (Laid (plain (now t))) × (x ≤ count (plain (now t))) ⌝ }
-    ensures { λ r. ⌜ int r ≡ keptAt (kept up (plain (now (t .entry)))) (target x) ⌝ }
+    ensures { λ r. ⌜ Keeps (plain (now (t .entry))) x (r .low) (r .high) ⌝ }
 {
-    kept_word(t, x, up)
+    kept_span(t, x)
 }
 
 // The branch that has these branches at feature k; what is remembered stays.

@@ -22,14 +22,14 @@ use Rattle.cost_laws.proofs.Passing.{passed-right, kept-fits}
 use Rattle.cost_laws.proofs.Relative.{offs, from-end}
 use Rattle.cost_laws.proofs.Words.{int-ℕ}
 use Rattle.words.specs.Words.{sizes}
-use Rattle.cost_words.specs.Kept.{kept}
+use Rattle.cost_words.specs.Kept.{kept, endOf, Keeps}
 use Rattle.cost_words.specs.Sums.{Stands, sideOf}
 use Rattle.cost_words.specs.Words.{target, nodes}
 use Rattle.cost_words.proofs.Packing.{target-end}
 use Rattle.cost_words.proofs.Summing.{orderOf, way}
 use Rattle.cost_nodes.specs.Nodes.{Good}
 use Rattle.cost_nodes.proofs.Reading.{pos-from, holds-passed}
-use Rattle.cost_range.specs.Ends.{tieOf, facing, endOf, Spans, Reaches, Inside, meeting, Meeting, Keeps, Pair, ofTargets}
+use Rattle.cost_range.specs.Ends.{tieOf, facing, Spans, Reaches, Inside, meeting, Meeting, Pair, ofTargets}
 use Rattle.cost_range.specs.declared.Ends.{Ends}
 use Rattle.cost_range.specs.declared.Ends.the-variants.{Are, Lost}
 
@@ -62,13 +62,6 @@ module _ (minus up : Bool) (l h x y c d r : ℕ) (ec : c ≡ endOf up l h) where
 pub met-both : (minus : Bool) (l h x y u v : ℕ) → 0 < u → 0 < v → Stands (meeting minus false l h x y) u → Stands (meeting minus true l h x y) v → Meeting minus l h x y (Are u v)
 met-both minus l h x y u v zu zv su sv true = sv .stands zv
 met-both minus l h x y u v zu zv su sv false = su .stands zu
-
-pub keeps-both : (w : List ℕ) (x l h : ℕ) → int l ≡ keptAt (kept false w) (target x) → int h ≡ keptAt (kept true w) (target x) → Keeps w x l h
-keeps-both w x l h a b = record { keeps = go }
-  where
-    go : (up : Bool) → int (endOf up l h) ≡ keptAt (kept up w) (target x)
-    go true = b
-    go false = a
 
 -- ---- any two costs
 -- an end's word, as a side's extreme

@@ -8,7 +8,7 @@ use lib.ListN.{drop}
 use Rattle.theory.specs.Costs.{Cost}
 use Rattle.theory.specs.Diagrams.{value}
 use Rattle.theory.specs.Functions.{held}
-use Rattle.cost_laws.specs.Extremes.{across, extreme, keptAt, lowestOf, highestOf}
+use Rattle.cost_laws.specs.Extremes.{across, extreme, lowestOf, highestOf}
 use Rattle.cost_laws.specs.Integers.{Fit, int}
 use Rattle.cost_laws.specs.Narrow.{Narrow, Spread}
 use Rattle.cost_laws.specs.Operations.{joined}
@@ -17,7 +17,7 @@ use Rattle.cost_laws.specs.Relative.{pairFrom}
 use Rattle.words.specs.Words.{features, sizes}
 use Rattle.cost_memory.specs.Memory as M
 use Rattle.cost_notes.specs.Noted as N
-use Rattle.cost_words.specs.Kept.{kept}
+use Rattle.cost_words.specs.Kept.{endOf}
 use Rattle.cost_words.specs.Sums.{sideOf}
 use Rattle.cost_words.specs.Words.{target, branch, nodes}
 use Rattle.cost_nodes.specs.Nodes.{Holds, Good}
@@ -35,11 +35,6 @@ facing true up = not up
 facing false up = up
 
 -- ---- the ends of a cost
--- of two words the higher end's if `up`, else the lower's
-abbrev pub endOf : Bool → ℕ → ℕ → ℕ
-endOf true l h = h
-endOf false l h = l
-
 -- l and h stand for its lowest and its highest amount
 pub record Spans (ns : List ℕ) (f : Cost) (l h : ℕ) : Type 0 where
   pub lowest : int l ≡ lowestOf ns f
@@ -66,10 +61,6 @@ Meeting minus l h x y (Are u v) = (up : Bool) → int (endOf up u v) ≡ meeting
 Meeting minus l h x y Lost = ((up : Bool) → Fit addMost (meeting minus up l h x y)) → ⊥
 
 -- ---- of two target words of the table w, where features k and up are left
--- l and h are kept for the target word x
-pub record Keeps (w : List ℕ) (x l h : ℕ) : Type 0 where
-  pub keeps : (up : Bool) → int (endOf up l h) ≡ keptAt (kept up w) (target x)
-
 pub record Pair (w : List ℕ) (k x y : ℕ) : Type 0 where
   pub holds : Holds w
   pub narrow : Narrow addMost (sizes w) (nodes w)

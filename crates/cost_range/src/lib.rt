@@ -9,9 +9,10 @@ use cost_notes::kept_in;
 use cost_notes::lowest;
 use cost_notes::recall_in;
 use cost_notes::remember_in;
+use cost_words::Span;
 use cost_words::difference_or_lost;
 use cost_words::further;
-use cost_words::kept_word;
+use cost_words::kept_span;
 use cost_words::sum_or_lost;
 use cost_words::sum_word;
 use notes::clear;
@@ -27,14 +28,14 @@ ghost use Rattle.theory.specs.Diagrams.{meaning};
 ghost use Rattle.cost_laws.specs.Integers.{rise, fall, Fit, int};
 ghost use Rattle.cost_laws.specs.Operations.{scaled};
 ghost use Rattle.cost_laws.specs.Range.{Within, costMost};
-ghost use Rattle.words.specs.Words.{count, features, sizes};
-ghost use Rattle.records.specs.Laid.{Laid};
+ghost use Rattle.words.specs.Words.{features, sizes};
 ghost use Rattle.notes.specs.Plain.{Resting, plain};
 ghost use Rattle.settings.specs.Tells.{Tells};
+ghost use Rattle.cost_words.specs.Kept.{endOf};
 ghost use Rattle.cost_words.specs.Sums.{Stands};
 ghost use Rattle.cost_words.specs.Words.{branch, nodes};
 ghost use Rattle.cost_engine.specs.Joint.{together};
-ghost use Rattle.cost_range.specs.Ends.{tieOf, endOf, Spans, Reaches, Inside, meeting, Meeting, Keeps, Pair, ofTargets, ofBranches, Noted, Furthest};
+ghost use Rattle.cost_range.specs.Ends.{tieOf, Spans, Reaches, Inside, meeting, Meeting, Pair, ofTargets, ofBranches, Noted, Furthest};
 ghost use Rattle.cost_range.specs.Operable.{Operable, Operand};
 
 // The words of the lowest and of the highest amount, or that no base brings all amounts into range.
@@ -51,12 +52,6 @@ fn tied_word(minus: bool, a: u32, b: u32) -> u32
         return difference_or_lost(a, b);
     }
     sum_or_lost(a, b)
-}
-
-// The words of a lowest and of a highest amount.
-struct Span {
-    low: u32,
-    high: u32,
 }
 
 // The word of one end.
@@ -104,17 +99,6 @@ fn ends_inside(e: Ends) -> bool
     h <= 3147483648
 }
 
-// What is kept for a target.
-fn kept_span(t: &[u32], x: u32) -> Span
-    requires { ⌜ (Laid (plain (now t))) × (x ≤ count (plain (now t))) ⌝ }
-    ensures { λ r. ⌜ Keeps (plain (now (t .entry))) x (r .low) (r .high) ⌝ }
-{
-    Span {
-        low: kept_in(t, x, false),
-        high: kept_in(t, x, true),
-    }
-}
-
 // The further of what the first v values gave and of one more; after none, the one more.
 fn furthest(up: bool, v: usize, a: u32, b: u32) -> u32
     ensures { λ r. ⌜ Furthest up v a b r ⌝ }
@@ -131,10 +115,10 @@ fn rest_ends(t: &mut [u32], s: &mut [u32], minus: bool, k: usize, x: u32, y: u32
     ensures { λ r. ⌜ (Reaches (drop k (sizes (plain (now (t .entry))))) (ofTargets minus (plain (now (t .entry))) k x y) r) × (plain (now (t .exit)) ≡ plain (now (t .entry))) × (Noted minus (now (t .exit)) (now (s .exit))) ⌝ }
 {
     if x == 0 {
-        return met_ends(minus, kept_span(t, x), kept_span(t, y));
+        return met_ends(minus, kept_in(t, x), kept_in(t, y));
     }
     if y == 0 {
-        return met_ends(minus, kept_span(t, x), kept_span(t, y));
+        return met_ends(minus, kept_in(t, x), kept_in(t, y));
     }
     let j = lowest(t, x, y);
     let tag = narrow(j + 1);
@@ -210,9 +194,10 @@ fn span_of(t: &[u32], a: Arm) -> Span
     requires { ⌜ Operand (now t) (branch (a .to) (a .adds)) ⌝ }
     ensures { λ r. ⌜ Spans (sizes (now (t .entry))) (meaning (nodes (now (t .entry))) (branch (a .to) (a .adds))) (r .low) (r .high) ⌝ }
 {
+    let below = kept_span(t, a.to);
     Span {
-        low: sum_word(a.adds, kept_word(t, a.to, false)),
-        high: sum_word(a.adds, kept_word(t, a.to, true)),
+        low: sum_word(a.adds, below.low),
+        high: sum_word(a.adds, below.high),
     }
 }
 

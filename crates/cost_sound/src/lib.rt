@@ -230,8 +230,5 @@ pub fn sound(t: &[u32]) -> bool
     if !pairs_ok(t) {
         return false;
     }
-    if !places_ok(t, false) {
-        return false;
-    }
-    places_ok(t, true)
+    places_ok(t)
 }

@@ -1,34 +1,36 @@
 // Whether the pair that is kept for each node is the lowest and the highest sum below it, and the costs lie in their range.
 // Branches go to earlier nodes, so a node's pair is tested against those before it, and no memory is needed.
-ghost use Prim.Native.Nat.{_≤_, _<_};
-ghost use lib.IntN.{_+ℤ_};
-ghost use Rattle.cost_laws.specs.Integers.{int};
-ghost use Rattle.cost_laws.specs.Range.{costMost};
-ghost use Rattle.words.specs.Words.{count};
+ghost use Prim.Native.Nat.{_<_};
+ghost use Rattle.cost_laws.specs.Range.{Within, costMost};
+ghost use Rattle.words.specs.Words.{count, sizes};
 ghost use Rattle.cost_words.specs.Kept.{Pairs};
+ghost use Rattle.cost_words.specs.Words.{costOf};
 ghost use Rattle.settings.specs.Tells.{Tells};
-ghost use Rattle.cost_sound.specs.Sides.{Shaped, Passes, Owns, beyond, Side};
+ghost use Rattle.cost_sound.specs.Sound.{Ranged};
+ghost use Rattle.cost_sound.specs.Sides.{Shaped, Passes, Owns};
 use cost_words::base_word;
-use cost_words::kept_word;
+use cost_words::kept_span;
 use cost_words::root_word;
-use cost_words::side_of;
+use cost_words::sides_of;
 use words::body_of;
 use words::head_word;
-use words::narrow;
 use words::record_word;
 use words::wide;
 
-// Whether what is kept for node i on one side is its own. A sum outside ±2,000,000,000 ends the test: no sound table has one.
-fn own_ok(t: &[u32], i: usize, up: bool) -> bool
+// Whether what is kept for node i is its own. A sum outside ±2,000,000,000 ends the test: no sound table has one.
+fn own_ok(t: &[u32], i: usize) -> bool
     requires { ⌜ (Shaped (now t)) × (i < count (now t)) ⌝ }
-    ensures { λ r. ⌜ Passes r (now (t .entry)) (Owns up (now (t .entry)) i) ⌝ }
+    ensures { λ r. ⌜ Passes r (now (t .entry)) (Owns (now (t .entry)) i) ⌝ }
 {
     let m = wide(head_word(t, 3 + wide(record_word(t, i, 0))));
-    let x = side_of(t, body_of(t, i), m, up);
-    if x == 0 {
+    let pair = sides_of(t, body_of(t, i), m);
+    if pair.low == 0 {
         return false;
     }
-    if x != kept_word(t, narrow(i + 1), up) {
+    if pair.low != record_word(t, i, 14) {
+        return false;
+    }
+    if pair.high != record_word(t, i, 15) {
         return false;
     }
     true
@@ -42,10 +44,7 @@ pub fn pairs_ok(t: &[u32]) -> bool
     let n = wide(head_word(t, 19));
     let mut i: usize = 0;
     while i < n {
-        if !own_ok(t, i, false) {
-            return false;
-        }
-        if !own_ok(t, i, true) {
+        if !own_ok(t, i) {
             return false;
         }
         i += 1;
@@ -53,25 +52,27 @@ pub fn pairs_ok(t: &[u32]) -> bool
     true
 }
 
-// Whether a sum lies within ±1,000,000,000 on one side.
-fn beyond_ok(up: bool, a: u32, b: u32) -> bool
-    ensures { λ r. ⌜ Tells r (beyond up (int a +ℤ int b) ≤ costMost) ⌝ }
+// Whether the cost of place p lies within ±1,000,000,000: its base with what its root keeps.
+fn place_ok(t: &[u32], p: usize) -> bool
+    requires { ⌜ (Shaped (now t)) × (Pairs (now t)) × (p < 16) ⌝ }
+    ensures { λ r. ⌜ Tells r (Within costMost (sizes (now (t .entry))) (costOf (now (t .entry)) p)) ⌝ }
 {
-    let s = wide(a) + wide(b);
-    if up {
-        return s <= 5294967296;
+    let base = wide(base_word(t, p));
+    let below = kept_span(t, root_word(t, p));
+    if base + wide(below.low) < 3294967296 {
+        return false;
     }
-    3294967296 <= s
+    base + wide(below.high) <= 5294967296
 }
 
-// Whether no place's cost leaves its range on one side.
-pub fn places_ok(t: &[u32], up: bool) -> bool
+// Whether the cost of each place does.
+pub fn places_ok(t: &[u32]) -> bool
     requires { ⌜ (Shaped (now t)) × (Pairs (now t)) ⌝ }
-    ensures { λ r. ⌜ Tells r (Side up (now (t .entry))) ⌝ }
+    ensures { λ r. ⌜ Tells r (Ranged (now (t .entry))) ⌝ }
 {
     let mut p: usize = 0;
     while p < 16 {
-        if !beyond_ok(up, base_word(t, p), kept_word(t, root_word(t, p), up)) {
+        if !place_ok(t, p) {
             return false;
         }
         p += 1;

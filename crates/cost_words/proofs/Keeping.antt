@@ -6,48 +6,77 @@ use Prim.Native.Nat.{ℕ, zero, suc, _+_, _-_, _<_}
 use native.Mathlib.Numerals.{add-one}
 use native.Mathlib.Omega.{arith}
 use lib.IntN.{ℤ, _+ℤ_}
-use Rattle.cost_laws.specs.Integers.{int}
+use Rattle.cost_laws.specs.Integers.{Fit, int}
+use Rattle.cost_laws.specs.Range.{addMost}
 use Rattle.cost_laws.specs.Extremes.{across, keptAt}
 use Rattle.cost_laws.proofs.Extremes.{across-one, across-more}
 use Rattle.words.specs.Words.{listed, word}
-use Rattle.cost_words.specs.Kept.{kept, armSum, Sides}
+use Rattle.cost_words.specs.Kept.{kept, endOf, Keeps, Wider, armSum, ArmSums, Sides}
 use Rattle.cost_words.specs.Sums.{Stands, sideOf}
 use Rattle.cost_words.specs.Words.{target, goes, added}
 use Rattle.cost_words.proofs.Packing.{target-end, target-node, int-zero}
 
+-- what holds of both words
+both : (P : Bool → ℕ → Type 0) (a b : ℕ) → P false a → P true b → (up : Bool) → P up (endOf up a b)
+both P a b p q true = q
+both P a b p q false = p
+
 -- ---- a target
-pub kept-end : (up : Bool) (w : List ℕ) (x : ℕ) → x ≡ 0 → int 2147483648 ≡ keptAt (kept up w) (target x)
-kept-end up w x e = int-zero ∙ sym (ap (keptAt (kept up w)) (target-end x e))
+pub keeps-end : (w : List ℕ) (x : ℕ) → x ≡ 0 → Keeps w x 2147483648 2147483648
+keeps-end w x e = record { keeps = both (λ up r. int r ≡ keptAt (kept up w) (target x)) 2147483648 2147483648 (none false) (none true) }
+  where
+    none : (up : Bool) → int 2147483648 ≡ keptAt (kept up w) (target x)
+    none up = int-zero ∙ sym (ap (keptAt (kept up w)) (target-end x e))
 
-pub kept-up : (up : Bool) (w : List ℕ) (x j r : ℕ) → up ≡ true → 0 < x → j ≡ x - 1 → r ≡ word w j 15 → int r ≡ keptAt (kept up w) (target x)
-kept-up up w x j r e h ej er =
+pub keeps-node : (w : List ℕ) (x j a b : ℕ) → 0 < x → j ≡ x - 1 → a ≡ word w j 14 → b ≡ word w j 15 → Keeps w x a b
+keeps-node w x j a b h e ea eb =
     let q : x ≡ suc j = omega arith in
-    rw e (ap int er ∙ sym (ap (keptAt (kept true w)) (target-node x j q)))
+    record {
+      keeps = both (λ up r. int r ≡ keptAt (kept up w) (target x)) a b
+          (ap int ea ∙ sym (ap (keptAt (kept false w)) (target-node x j q)))
+          (ap int eb ∙ sym (ap (keptAt (kept true w)) (target-node x j q)));
+    }
 
-pub kept-down : (up : Bool) (w : List ℕ) (x j r : ℕ) → up ≡ false → 0 < x → j ≡ x - 1 → r ≡ word w j 14 → int r ≡ keptAt (kept up w) (target x)
-kept-down up w x j r e h ej er =
-    let q : x ≡ suc j = omega arith in
-    rw e (ap int er ∙ sym (ap (keptAt (kept false w)) (target-node x j q)))
+-- ---- the further of two
+pub both-wider : (a b c d e f : ℕ) → int e ≡ sideOf false (int a) (int c) → (0 < a → 0 < c → 0 < e) → int f ≡ sideOf true (int b) (int d) → Wider a b c d e f
+both-wider a b c d e f p z q = record { wider = go; some = z }
+  where
+    go : (up : Bool) → int (endOf up e f) ≡ sideOf up (int (endOf up a b)) (int (endOf up c d))
+    go true = q
+    go false = p
 
-module _ (up : Bool) (w l : List ℕ) where
-  -- ---- the sum along branch v, from the word b that is kept for its target word x
-  pub arm-stands : (v x b r : ℕ) → x ≡ goes (listed l) v → int b ≡ keptAt (kept up w) (target x) → Stands (int (added (listed l) v) +ℤ int b) r → Stands (armSum up w l v) r
-  arm-stands v x b r e k s = subst (λ (z : ℤ). Stands (int (added (listed l) v) +ℤ z) r) (k ∙ ap (λ (y : ℕ). keptAt (kept up w) (target y)) e) s
+module _ (w l : List ℕ) where
+  -- ---- the sums along branch v, from the words a and b that are kept for its target word x
+  module _ (v x a b : ℕ) (e : x ≡ goes (listed l) v) (k : Keeps w x a b) where
+    arm-is : (up : Bool) → int (added (listed l) v) +ℤ int (endOf up a b) ≡ armSum up w l v
+    arm-is up = ap (λ (z : ℤ). int (added (listed l) v) +ℤ z) (k .keeps up ∙ ap (λ (y : ℕ). keptAt (kept up w) (target y)) e)
+
+    -- the higher is lost, ..
+    pub arm-lost : (d : ℕ) → d ≡ 0 → Stands (int (added (listed l) v) +ℤ int b) d → ArmSums w l v 0 0
+    arm-lost d z s = record { stands = λ h. absurd (omega arith); lost = λ h f. s .lost z (subst (Fit addMost) (sym (arm-is true)) (f true)) }
+
+    -- .. or not
+    pub arm-stands : (c d : ℕ) → 0 < d → Stands (int (added (listed l) v) +ℤ int a) c → Stands (int (added (listed l) v) +ℤ int b) d → ArmSums w l v c d
+    arm-stands c d z p q =
+        record {
+          stands = λ h. both (λ up r. int r ≡ armSum up w l v) c d (p .stands h ∙ arm-is false) (q .stands z ∙ arm-is true);
+          lost = λ h f. p .lost h (subst (Fit addMost) (sym (arm-is false)) (f false));
+        }
 
   -- ---- branches in turn
-  pub side-one : (r : ℕ) → 0 < r → Stands (armSum up w l 0) r → int r ≡ across (sideOf up) (armSum up w l) 1
-  side-one r z s = s .stands z ∙ sym (across-one (sideOf up) (armSum up w l))
+  pub side-one : (a b : ℕ) → 0 < a → ArmSums w l 0 a b → (up : Bool) → int (endOf up a b) ≡ across (sideOf up) (armSum up w l) 1
+  side-one a b z s up = s .stands z up ∙ sym (across-one (sideOf up) (armSum up w l))
 
-  pub side-more : (v r x y : ℕ) → 0 < v → 0 < x → int r ≡ across (sideOf up) (armSum up w l) v → Stands (armSum up w l v) x → int y ≡ sideOf up (int r) (int x) →
-      int y ≡ across (sideOf up) (armSum up w l) (v + 1)
-  side-more zero r x y z h e s ey = absurd (omega arith)
-  side-more (suc v) r x y z h e s ey =
-      ey ∙ (λ j. sideOf up (e j) (s .stands h j)) ∙ sym (ap (across (sideOf up) (armSum up w l)) (add-one (suc v)) ∙ across-more (sideOf up) (armSum up w l) v)
+  pub side-more : (v a b c d e f : ℕ) → 0 < v → ((up : Bool) → int (endOf up a b) ≡ across (sideOf up) (armSum up w l) v) → 0 < c → ArmSums w l v c d → Wider a b c d e f →
+      (up : Bool) → int (endOf up e f) ≡ across (sideOf up) (armSum up w l) (v + 1)
+  side-more zero a b c d e f z q h s y up = absurd (omega arith)
+  side-more (suc v) a b c d e f z q h s y up =
+      y .wider up ∙ (λ j. sideOf up (q up j) (s .stands h up j)) ∙ sym (ap (across (sideOf up) (armSum up w l)) (add-one (suc v)) ∙ across-more (sideOf up) (armSum up w l) v)
 
   -- one is lost, ..
-  pub side-lost : (m v r : ℕ) → v < m → r ≡ 0 → Stands (armSum up w l v) r → Sides up w l m 0
-  side-lost m v r h e s = record { stands = λ z. absurd (omega arith); lost = λ z f. s .lost e (f v h) }
+  pub side-lost : (m v a b : ℕ) → v < m → a ≡ 0 → ArmSums w l v a b → Sides w l m 0 0
+  side-lost m v a b h e s = record { stands = λ z. absurd (omega arith); lost = λ z f. s .lost e (λ up. f up v h) }
 
   -- .. or none
-  pub side-all : (m v r : ℕ) → v ≡ m → 0 < r → int r ≡ across (sideOf up) (armSum up w l) v → Sides up w l m r
-  side-all m v r e z q = record { stands = λ h. q ∙ ap (across (sideOf up) (armSum up w l)) e; lost = λ h. absurd (omega arith) }
+  pub side-all : (m v a b : ℕ) → v ≡ m → 0 < a → ((up : Bool) → int (endOf up a b) ≡ across (sideOf up) (armSum up w l) v) → Sides w l m a b
+  side-all m v a b e z q = record { stands = λ h up. q up ∙ ap (across (sideOf up) (armSum up w l)) e; lost = λ h. absurd (omega arith) }

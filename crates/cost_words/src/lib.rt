@@ -2,8 +2,9 @@
 mod sides; // sides.rt: the lowest and the highest sum kept for each node
 mod sums; // sums.rt: sums that may have no word
 
-pub use sides::kept_word;
-pub use sides::side_of;
+pub use sides::Span;
+pub use sides::kept_span;
+pub use sides::sides_of;
 pub use sums::difference_or_lost;
 pub use sums::further;
 pub use sums::sum_or_lost;

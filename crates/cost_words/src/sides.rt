@@ -4,52 +4,77 @@ use crate::sums::further;
 use crate::sums::sum_or_lost;
 use words::record_word;
 use words::wide;
-ghost use mathlib.Core.Path.{_≡_};
 ghost use Prim.Native.Nat.{_<_};
-ghost use Rattle.cost_laws.specs.Integers.{int};
-ghost use Rattle.cost_laws.specs.Extremes.{keptAt};
-ghost use Rattle.cost_words.specs.Kept.{kept, Near, armSum, Bodied, Sides};
-ghost use Rattle.cost_words.specs.Sums.{Stands};
-ghost use Rattle.cost_words.specs.Words.{target};
+ghost use Rattle.cost_words.specs.Kept.{Keeps, Near, Wider, Bodied, ArmSums, Sides};
 
-// The word that is kept for a target: of the highest sum below it if `up`, else of the lowest; that of 0 for the end.
-pub fn kept_word(t: &[u32], x: u32, up: bool) -> u32
+// The words of a lowest and of a highest sum.
+pub struct Span {
+    pub low: u32,
+    pub high: u32,
+}
+
+// What is kept for a target: the lowest and the highest sum below it, 0 for the end.
+pub fn kept_span(t: &[u32], x: u32) -> Span
     requires { ⌜ Near (now t) x ⌝ }
-    ensures { λ r. ⌜ int r ≡ keptAt (kept up (now (t .entry))) (target x) ⌝ }
+    ensures { λ r. ⌜ Keeps (now (t .entry)) x (r .low) (r .high) ⌝ }
 {
     if x == 0 {
-        return 2147483648;
+        return Span {
+            low: 2147483648,
+            high: 2147483648,
+        };
     }
-    if up {
-        return record_word(t, wide(x - 1), 15);
+    let i = wide(x - 1);
+    Span {
+        low: record_word(t, i, 14),
+        high: record_word(t, i, 15),
     }
-    record_word(t, wide(x - 1), 14)
 }
 
-// The sum along branch v of a body, or 0 if it lies outside ±2,000,000,000.
-fn arm_sum(t: &[u32], list: [u32; 12], m: usize, v: usize, up: bool) -> u32
+// The lower of two lowest, the higher of two highest.
+fn wider(a: Span, b: Span) -> Span
+    ensures { λ r. ⌜ Wider (a .low) (a .high) (b .low) (b .high) (r .low) (r .high) ⌝ }
+{
+    Span {
+        low: further(false, a.low, b.low),
+        high: further(true, a.high, b.high),
+    }
+}
+
+// The sums along branch v of a body; 0 and 0 if one lies outside ±2,000,000,000.
+fn arm_span(t: &[u32], list: [u32; 12], m: usize, v: usize) -> Span
     requires { ⌜ (Bodied (now t) list m) × (v < m) ⌝ }
-    ensures { λ r. ⌜ Stands (armSum up (now (t .entry)) list v) r ⌝ }
+    ensures { λ r. ⌜ ArmSums (now (t .entry)) list v (r .low) (r .high) ⌝ }
 {
-    sum_or_lost(list[4 + v], kept_word(t, half_of(list[v / 2], v), up))
+    let adds = list[4 + v];
+    let below = kept_span(t, half_of(list[v / 2], v));
+    let low = sum_or_lost(adds, below.low);
+    let high = sum_or_lost(adds, below.high);
+    if high == 0 {
+        return Span { low: 0, high: 0 };
+    }
+    Span {
+        low: low,
+        high: high,
+    }
 }
 
-// The highest sum along m branches of a body if `up`, else the lowest; 0 if one lies outside ±2,000,000,000.
-pub fn side_of(t: &[u32], list: [u32; 12], m: usize, up: bool) -> u32
+// The lowest and the highest sum along m branches of a body; 0 and 0 if one lies outside ±2,000,000,000.
+pub fn sides_of(t: &[u32], list: [u32; 12], m: usize) -> Span
     requires { ⌜ Bodied (now t) list m ⌝ }
-    ensures { λ r. ⌜ Sides up (now (t .entry)) list m r ⌝ }
+    ensures { λ r. ⌜ Sides (now (t .entry)) list m (r .low) (r .high) ⌝ }
 {
-    let mut best = arm_sum(t, list, m, 0, up);
-    if best == 0 {
-        return 0;
+    let mut best = arm_span(t, list, m, 0);
+    if best.low == 0 {
+        return Span { low: 0, high: 0 };
     }
     let mut v: usize = 1;
     while v < m {
-        let x = arm_sum(t, list, m, v, up);
-        if x == 0 {
-            return 0;
+        let x = arm_span(t, list, m, v);
+        if x.low == 0 {
+            return Span { low: 0, high: 0 };
         }
-        best = further(up, best, x);
+        best = wider(best, x);
         v += 1;
     }
     best

@@ -53,8 +53,8 @@ head-word-requires-2 c κs = search needs
 head-word-requires-3 : tie.Need-head-word-requires-3
 head-word-requires-3 c κs = search needs
 
-side-of-requires : tie.Need-side-of-requires
-side-of-requires c κs = let a = (c .before .before .before .before .before .before .before .before .before .before .before .before .before .before .before .before) in
+sides-of-requires : tie.Need-sides-of-requires
+sides-of-requires c κs = let a = (c .before .before .before .before .before .before .before .before .before .before .before .before .before .before .before .before) in
     let w = a .args .t .now in
     let k = a .args .k in
     let x = a .args .goes in
@@ -65,43 +65,31 @@ side-of-requires c κs = let a = (c .before .before .before .before .before .bef
     let lo : Lowered (size w k) y r = subst (λ (n : ℕ). Lowered n y r) em ((c .before .before .before .before .before .before .before .before .before .before .before .lowered) .ensures) in
     bodied w k x y r l (a .pre .0) (a .pre .1) (a .pre .2) lo ((c .before .before .before .before .before .before .before .before .before .before .pack) .ensures) _ (omega (arith, a .pre .0 .laid .laid .large k (a .pre .1))) (omega (arith, a .pre .0 .laid .laid .large k (a .pre .1)))
 
-side-of-requires-2 : tie.Need-side-of-requires-2
-side-of-requires-2 c κs = let a = (c .before .before .before .before .before .before .before .before .before .before .before .before .before .before .before .before .before .before) in
-    let w = a .args .t .now in
-    let k = a .args .k in
-    let x = a .args .goes in
-    let y = a .args .t4 in
-    let r = (c .before .before .before .before .before .before .before .before .before .before .before .before .before .lowered) .result in
-    let l = (c .before .before .before .before .before .before .before .before .before .before .before .before .pack) .result in
-    let em : (c .before .before .before .before .before .before .before .before .before .before .before .before .before .before .wide) .result ≡ size w k = (c .before .before .before .before .before .before .before .before .before .before .before .before .before .before .wide) .ensures .0 ∙ (c .before .before .before .before .before .before .before .before .before .before .before .before .before .before .before .head-word) .ensures in
-    let lo : Lowered (size w k) y r = subst (λ (n : ℕ). Lowered n y r) em ((c .before .before .before .before .before .before .before .before .before .before .before .before .before .lowered) .ensures) in
-    bodied w k x y r l (a .pre .0) (a .pre .1) (a .pre .2) lo ((c .before .before .before .before .before .before .before .before .before .before .before .before .pack) .ensures) _ (omega (arith, a .pre .0 .laid .laid .large k (a .pre .1))) (omega (arith, a .pre .0 .laid .laid .large k (a .pre .1)))
-
 push-requires : tie.Need-push-requires
-push-requires c κs = let a = (c .before .before .before .before .before .before .before .before .before .before .before .before .before .before .before .before .before .before .before .before) in (a .pre .0 .laid .laid, omega (arith, (c .before .before .before .before .before .if1) .taken, (c .before .before .before .before .before .before .head-word3) .ensures, (c .before .before .before .before .before .before .before .before .head-word2) .ensures), omega (arith, a .pre .1, a .pre .0 .laid .laid .few))
+push-requires c κs = let a = (c .before .before .before .before .before .before .before .before .before .before .before .before .before .before .before .before .before .before) in (a .pre .0 .laid .laid, omega (arith, (c .before .before .before .if1) .taken, (c .before .before .before .before .head-word3) .ensures, (c .before .before .before .before .before .before .head-word2) .ensures), omega (arith, a .pre .1, a .pre .0 .laid .laid .few))
 
 narrow-requires : tie.Need-narrow-requires
-narrow-requires c κs = let a = (c .before .before .before .before .before .before .before .before .before .before .before .before .before .before .before .before .before .before .before .before .before .before .before) in omega (arith, (c .before .before .push) .ensures .0, a .pre .0 .laid .laid .within, a .pre .0 .laid .laid .most)
+narrow-requires c κs = let a = (c .before .before .before .before .before .before .before .before .before .before .before .before .before .before .before .before .before .before .before .before .before) in omega (arith, (c .before .before .push) .ensures .0, a .pre .0 .laid .laid .within, a .pre .0 .laid .laid .most)
 
 target-word-requires : tie.Need-target-word-requires
-target-word-requires c κs = let a = (c .before .before .before .before .before .before .before .before .before .before .before .before .before .before .before .before .before .before .before .before .before .before .before .before) in omega (arith, (c .narrow) .ensures, (c .before .before .before .push) .ensures .0, a .pre .0 .laid .laid .within, a .pre .0 .laid .laid .most)
+target-word-requires c κs = let a = (c .before .before .before .before .before .before .before .before .before .before .before .before .before .before .before .before .before .before .before .before .before .before) in omega (arith, (c .narrow) .ensures, (c .before .before .before .push) .ensures .0, a .pre .0 .laid .laid .within, a .pre .0 .laid .laid .most)
 
 same-length : tie.Need-same-length
 same-length c = search needs
 
 returns : tie.Need-returns
-returns c = let a = (c .before .before .before .before .before .before .before .before .before .before .before .before .before .before .before .before .before .before .before .before .before .before .before .before .before) in
+returns c = let a = (c .before .before .before .before .before .before .before .before .before .before .before .before .before .before .before .before .before .before .before .before .before .before .before) in
     let w = a .args .t .now in
     let k = a .args .k in
     let x = a .args .goes in
     let y = a .args .t4 in
-    let r = (c .before .before .before .before .before .before .before .before .before .before .before .before .before .before .before .before .before .before .before .before .lowered) .result in
-    let l = (c .before .before .before .before .before .before .before .before .before .before .before .before .before .before .before .before .before .before .before .pack) .result in
-    let em : (c .before .before .before .before .before .before .before .before .before .before .before .before .before .before .before .before .before .before .before .before .before .wide) .result ≡ size w k = (c .before .before .before .before .before .before .before .before .before .before .before .before .before .before .before .before .before .before .before .before .before .wide) .ensures .0 ∙ (c .before .before .before .before .before .before .before .before .before .before .before .before .before .before .before .before .before .before .before .before .before .before .head-word) .ensures in
-    let lo : Lowered (size w k) y r = subst (λ (n : ℕ). Lowered n y r) em ((c .before .before .before .before .before .before .before .before .before .before .before .before .before .before .before .before .before .before .before .before .lowered) .ensures) in
-    let ab = found-missing w k l _ ((c .before .before .before .before .before .before .before .before .before .before .before .before .before .before .before .enum-told) .given .1) ((c .before .before .before .before .before .before .before .before .before .before .before .before .before .before .before .before .before .find) .ensures) in
+    let r = (c .before .before .before .before .before .before .before .before .before .before .before .before .before .before .before .before .before .before .lowered) .result in
+    let l = (c .before .before .before .before .before .before .before .before .before .before .before .before .before .before .before .before .before .pack) .result in
+    let em : (c .before .before .before .before .before .before .before .before .before .before .before .before .before .before .before .before .before .before .before .wide) .result ≡ size w k = (c .before .before .before .before .before .before .before .before .before .before .before .before .before .before .before .before .before .before .before .wide) .ensures .0 ∙ (c .before .before .before .before .before .before .before .before .before .before .before .before .before .before .before .before .before .before .before .before .head-word) .ensures in
+    let lo : Lowered (size w k) y r = subst (λ (n : ℕ). Lowered n y r) em ((c .before .before .before .before .before .before .before .before .before .before .before .before .before .before .before .before .before .before .lowered) .ensures) in
+    let ab = found-missing w k l _ ((c .before .before .before .before .before .before .before .before .before .before .before .before .before .enum-told) .given .1) ((c .before .before .before .before .before .before .before .before .before .before .before .before .before .before .before .find) .ensures) in
     let e : (c .target-word) .result ≡ 1 + count w = (c .target-word) .ensures ∙ ap (λ (i : ℕ). 1 + i) ((c .before .narrow) .ensures ∙ (c .before .before .before .before .push) .ensures .0) in
-    made-new w k x y r l (a .pre .0) (a .pre .1) (a .pre .2) lo ((c .before .before .before .before .before .before .before .before .before .before .before .before .before .before .before .before .before .before .before .pack) .ensures) _ _ _ _ _ _ ab (omega (arith, (c .before .before .before .before .before .before .before .before .before .before .if1) .taken, (c .before .before .before .before .before .before .before .before .before .before .before .head-word3) .ensures, (c .before .before .before .before .before .before .before .before .before .before .before .before .before .head-word2) .ensures)) (omega arith) (omega arith) (omega arith) ((c .before .before .before .before .before .before .before .before .side-of) .ensures) ((c .before .before .before .before .before .before .side-of2) .ensures) ((c .before .before .before .before .push) .ensures .1)
+    made-new w k x y r l (a .pre .0) (a .pre .1) (a .pre .2) lo ((c .before .before .before .before .before .before .before .before .before .before .before .before .before .before .before .before .before .pack) .ensures) _ _ _ _ _ ab (omega (arith, (c .before .before .before .before .before .before .before .before .if1) .taken, (c .before .before .before .before .before .before .before .before .before .head-word3) .ensures, (c .before .before .before .before .before .before .before .before .before .before .before .head-word2) .ensures)) (omega arith) (omega arith) ((c .before .before .before .before .before .before .sides-of) .ensures) ((c .before .before .before .before .push) .ensures .1)
 
 same-length-2 : tie.Need-same-length-2
 same-length-2 c = search needs
@@ -153,8 +141,7 @@ make-spec =
     enum-told
     head-word-requires-2
     head-word-requires-3
-    side-of-requires
-    side-of-requires-2
+    sides-of-requires
     push-requires
     narrow-requires
     target-word-requires

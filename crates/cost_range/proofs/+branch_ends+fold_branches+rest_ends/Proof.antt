@@ -29,11 +29,11 @@ use Rattle.cost_range.proofs.rest_ends.Reads as rest-ends
 use Rattle.cost_range.proofs.rest_ends.Kinds as rest-ends-kinds
 use Rattle.cost_range.proofs.+branch_ends+fold_branches+rest_ends.Lts-rest_ends as rest-ends-lts
 use Rattle.cost_notes.proofs.arm_in.Reads as arm-in-reads
+use Rattle.cost_notes.proofs.kept_in.Reads as kept-in-reads
 use Rattle.cost_notes.proofs.lowest.Reads as lowest-reads
 use Rattle.cost_notes.proofs.recall_in.Reads as recall-in-reads
 use Rattle.cost_notes.proofs.remember_in.Reads as remember-in-reads
 use Rattle.cost_range.proofs.furthest.Reads as furthest-reads
-use Rattle.cost_range.proofs.kept_span.Reads as kept-span-reads
 use Rattle.cost_range.proofs.met_ends.Reads as met-ends-reads
 use Rattle.cost_range.proofs.tied_word.Reads as tied-word-reads
 use Rattle.cost_words.proofs.sum_or_lost.Reads as sum-or-lost-reads
@@ -86,7 +86,7 @@ abbrev fold-branches-claims : ℕ → fold-branches-lts.Claims
 fold-branches-claims t = (head-word-reads.Asked, head-word-reads.Learnt, wide-reads.Asked, wide-reads.Learnt, arm-in-reads.Asked, arm-in-reads.Learnt, branch-ends-below t, branch-ends.Post, furthest-reads.Asked, furthest-reads.Learnt)
 
 abbrev rest-ends-claims : ℕ → rest-ends-lts.Claims
-rest-ends-claims t = (kept-span-reads.Asked, kept-span-reads.Learnt, met-ends-reads.Asked, met-ends-reads.Learnt, lowest-reads.Asked, lowest-reads.Learnt, narrow-reads.Asked, narrow-reads.Learnt, recall-in-reads.Asked, recall-in-reads.Learnt, fold-branches-below t, fold-branches.Post, remember-in-reads.Asked, remember-in-reads.Learnt)
+rest-ends-claims t = (kept-in-reads.Asked, kept-in-reads.Learnt, met-ends-reads.Asked, met-ends-reads.Learnt, lowest-reads.Asked, lowest-reads.Learnt, narrow-reads.Asked, narrow-reads.Learnt, recall-in-reads.Asked, recall-in-reads.Learnt, fold-branches-below t, fold-branches.Post, remember-in-reads.Asked, remember-in-reads.Learnt)
 
 branch-ends-tied-word-requires : (t : ℕ) → branch-ends-lts.Need-tied-word-requires (branch-ends-claims t) (branch-ends-at t) branch-ends.Post
 branch-ends-tied-word-requires t c κs = search needs
@@ -244,11 +244,11 @@ fold-branches-returns-2 : (t : ℕ) → fold-branches-lts.Need-returns-2 (fold-b
 fold-branches-returns-2 t c = let a = (c .before .before .before .before .before .before .before) in let l = (c .before .loop) in
     (all-folded _ _ _ _ (a .pre .1 .0) (a .args .minus) (a .pre .1 .2) (l .v) (l .low) (l .high) (omega (arith, l .inv .0, l .inv .1, (c .loop-test))) (l .inv .2) (l .inv .3), l .inv .4, l .inv .5)
 
-rest-ends-kept-span-requires : (t : ℕ) → rest-ends-lts.Need-kept-span-requires (rest-ends-claims t) (rest-ends-at t) rest-ends.Post
-rest-ends-kept-span-requires t c κs = let p = (c .before .before .before .before) .pre .1 .0 in (p .holds .laid .laid, good-small _ _ _ (p .first))
+rest-ends-kept-in-requires : (t : ℕ) → rest-ends-lts.Need-kept-in-requires (rest-ends-claims t) (rest-ends-at t) rest-ends.Post
+rest-ends-kept-in-requires t c κs = let p = (c .before .before .before .before) .pre .1 .0 in (p .holds .laid .laid, good-small _ _ _ (p .first))
 
-rest-ends-kept-span-requires-2 : (t : ℕ) → rest-ends-lts.Need-kept-span-requires-2 (rest-ends-claims t) (rest-ends-at t) rest-ends.Post
-rest-ends-kept-span-requires-2 t c κs = let p = (c .before .before .before .before .before .before) .pre .1 .0 in (p .holds .laid .laid, good-small _ _ _ (p .second))
+rest-ends-kept-in-requires-2 : (t : ℕ) → rest-ends-lts.Need-kept-in-requires-2 (rest-ends-claims t) (rest-ends-at t) rest-ends.Post
+rest-ends-kept-in-requires-2 t c κs = let p = (c .before .before .before .before .before .before) .pre .1 .0 in (p .holds .laid .laid, good-small _ _ _ (p .second))
 
 rest-ends-met-ends-requires : (t : ℕ) → rest-ends-lts.Need-met-ends-requires (rest-ends-claims t) (rest-ends-at t) rest-ends.Post
 rest-ends-met-ends-requires t c κs = search needs
@@ -257,13 +257,13 @@ rest-ends-same-length : (t : ℕ) → rest-ends-lts.Need-same-length (rest-ends-
 rest-ends-same-length t c = search needs
 
 rest-ends-returns : (t : ℕ) → rest-ends-lts.Need-returns (rest-ends-claims t) (rest-ends-at t) rest-ends.Post
-rest-ends-returns t c = let a = (c .before .before .before .before .before .before .before .before) in (first-ended _ _ _ _ (a .pre .1 .0) (a .args .minus) _ _ _ _ ((c .before .before .before .kept-span) .ensures) ((c .before .kept-span2) .ensures) ((c .before .before .before .before .before .if1) .taken) ((c .met-ends) .result) ((c .met-ends) .ensures), refl, a .pre .1 .1)
+rest-ends-returns t c = let a = (c .before .before .before .before .before .before .before .before) in (first-ended _ _ _ _ (a .pre .1 .0) (a .args .minus) _ _ _ _ ((c .before .before .before .kept-in) .ensures) ((c .before .kept-in2) .ensures) ((c .before .before .before .before .before .if1) .taken) ((c .met-ends) .result) ((c .met-ends) .ensures), refl, a .pre .1 .1)
 
-rest-ends-kept-span-requires-3 : (t : ℕ) → rest-ends-lts.Need-kept-span-requires-3 (rest-ends-claims t) (rest-ends-at t) rest-ends.Post
-rest-ends-kept-span-requires-3 t c κs = let p = (c .before .before .before .before .before) .pre .1 .0 in (p .holds .laid .laid, good-small _ _ _ (p .first))
+rest-ends-kept-in-requires-3 : (t : ℕ) → rest-ends-lts.Need-kept-in-requires-3 (rest-ends-claims t) (rest-ends-at t) rest-ends.Post
+rest-ends-kept-in-requires-3 t c κs = let p = (c .before .before .before .before .before) .pre .1 .0 in (p .holds .laid .laid, good-small _ _ _ (p .first))
 
-rest-ends-kept-span-requires-4 : (t : ℕ) → rest-ends-lts.Need-kept-span-requires-4 (rest-ends-claims t) (rest-ends-at t) rest-ends.Post
-rest-ends-kept-span-requires-4 t c κs = let p = (c .before .before .before .before .before .before .before) .pre .1 .0 in (p .holds .laid .laid, good-small _ _ _ (p .second))
+rest-ends-kept-in-requires-4 : (t : ℕ) → rest-ends-lts.Need-kept-in-requires-4 (rest-ends-claims t) (rest-ends-at t) rest-ends.Post
+rest-ends-kept-in-requires-4 t c κs = let p = (c .before .before .before .before .before .before .before) .pre .1 .0 in (p .holds .laid .laid, good-small _ _ _ (p .second))
 
 rest-ends-met-ends-requires-2 : (t : ℕ) → rest-ends-lts.Need-met-ends-requires-2 (rest-ends-claims t) (rest-ends-at t) rest-ends.Post
 rest-ends-met-ends-requires-2 t c κs = search needs
@@ -272,7 +272,7 @@ rest-ends-same-length-2 : (t : ℕ) → rest-ends-lts.Need-same-length-2 (rest-e
 rest-ends-same-length-2 t c = search needs
 
 rest-ends-returns-2 : (t : ℕ) → rest-ends-lts.Need-returns-2 (rest-ends-claims t) (rest-ends-at t) rest-ends.Post
-rest-ends-returns-2 t c = let a = (c .before .before .before .before .before .before .before .before .before) in (second-ended _ _ _ _ (a .pre .1 .0) (a .args .minus) _ _ _ _ ((c .before .before .before .kept-span3) .ensures) ((c .before .kept-span4) .ensures) ((c .before .before .before .before .before .if2) .taken) ((c .met-ends2) .result) ((c .met-ends2) .ensures), refl, a .pre .1 .1)
+rest-ends-returns-2 t c = let a = (c .before .before .before .before .before .before .before .before .before) in (second-ended _ _ _ _ (a .pre .1 .0) (a .args .minus) _ _ _ _ ((c .before .before .before .kept-in3) .ensures) ((c .before .kept-in4) .ensures) ((c .before .before .before .before .before .if2) .taken) ((c .met-ends2) .result) ((c .met-ends2) .ensures), refl, a .pre .1 .1)
 
 rest-ends-lowest-requires : (t : ℕ) → rest-ends-lts.Need-lowest-requires (rest-ends-claims t) (rest-ends-at t) rest-ends.Post
 rest-ends-lowest-requires t c κs = let a = (c .before .before .before .before .before) in (a .pre .1 .0 .holds .laid .laid, good-small _ _ _ (a .pre .1 .0 .first), good-small _ _ _ (a .pre .1 .0 .second))
@@ -413,13 +413,13 @@ pub +branch-ends+fold-branches+rest-ends-spec : {M : Type 1} → statement M
     λ t. rest-ends-lts.spec (rest-ends-claims t)
     (rest-ends-at t)
     rest-ends.Post
-    (rest-ends-kept-span-requires t)
-    (rest-ends-kept-span-requires-2 t)
+    (rest-ends-kept-in-requires t)
+    (rest-ends-kept-in-requires-2 t)
     (rest-ends-met-ends-requires t)
     (rest-ends-same-length t)
     (rest-ends-returns t)
-    (rest-ends-kept-span-requires-3 t)
-    (rest-ends-kept-span-requires-4 t)
+    (rest-ends-kept-in-requires-3 t)
+    (rest-ends-kept-in-requires-4 t)
     (rest-ends-met-ends-requires-2 t)
     (rest-ends-same-length-2 t)
     (rest-ends-returns-2 t)

@@ -6,30 +6,20 @@ use Rattle.cost_range.proofs.Ranging.{end-fits, end-side}
 use Rattle.cost_range.proofs.span_of.Statement.{statement}
 use Rattle.cost_range.proofs.span_of.Tie as tie
 
-kept-word-requires : tie.Need-kept-word-requires
-kept-word-requires c κs = let a = (c .before) in let d = a .pre .holds .laid .laid in let y = ok-small _ 0 (a .args .a .to) (a .args .a .adds) (a .pre .ok) in
+kept-span-requires : tie.Need-kept-span-requires
+kept-span-requires c κs = let a = (c .before) in let d = a .pre .holds .laid .laid in let y = ok-small _ 0 (a .args .a .to) (a .args .a .adds) (a .pre .ok) in
     record { room = omega (arith, y, d .room, d .within); most = omega (arith, y, d .most, d .within) }
 
 sum-word-requires : tie.Need-sum-word-requires
-sum-word-requires c κs = let a = (c .before .before) in end-fits _ (a .args .a .to) (a .args .a .adds) (a .pre) false _ ((c .kept-word) .ensures)
-
-kept-word-requires-2 : tie.Need-kept-word-requires-2
-kept-word-requires-2 c κs = let a = (c .before .before .before) in let d = a .pre .holds .laid .laid in let y = ok-small _ 0 (a .args .a .to) (a .args .a .adds) (a .pre .ok) in
-    record { room = omega (arith, y, d .room, d .within); most = omega (arith, y, d .most, d .within) }
+sum-word-requires c κs = let a = (c .before .before) in end-fits _ (a .args .a .to) (a .args .a .adds) (a .pre) false _ ((c .kept-span) .ensures .keeps false)
 
 sum-word-requires-2 : tie.Need-sum-word-requires-2
-sum-word-requires-2 c κs = let a = (c .before .before .before .before) in end-fits _ (a .args .a .to) (a .args .a .adds) (a .pre) true _ ((c .kept-word2) .ensures)
+sum-word-requires-2 c κs = let a = (c .before .before .before) in end-fits _ (a .args .a .to) (a .args .a .adds) (a .pre) true _ ((c .before .kept-span) .ensures .keeps true)
 
 returns : tie.Need-returns
-returns c = let a = (c .before .before .before .before .before) in
-    record { lowest = end-side _ (a .args .a .to) (a .args .a .adds) (a .pre) false _ ((c .before .before .before .kept-word) .ensures) _ ((c .before .before .sum-word) .ensures); highest = end-side _ (a .args .a .to) (a .args .a .adds) (a .pre) true _ ((c .before .kept-word2) .ensures) _ ((c .sum-word2) .ensures) }
+returns c = let a = (c .before .before .before .before) in
+    record { lowest = end-side _ (a .args .a .to) (a .args .a .adds) (a .pre) false _ ((c .before .before .kept-span) .ensures .keeps false) _ ((c .before .sum-word) .ensures); highest = end-side _ (a .args .a .to) (a .args .a .adds) (a .pre) true _ ((c .before .before .kept-span) .ensures .keeps true) _ ((c .sum-word2) .ensures) }
 
 pub span-of-spec : {M : Type 1} → statement M
 span-of-spec =
-    tie.close
-    (tie.spec
-    kept-word-requires
-    sum-word-requires
-    kept-word-requires-2
-    sum-word-requires-2
-    returns)
+    tie.close (tie.spec kept-span-requires sum-word-requires sum-word-requires-2 returns)

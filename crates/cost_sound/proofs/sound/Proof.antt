@@ -1,7 +1,5 @@
 -- `cost_sound::sound` meets its contract: each test is one field of the record, in its order. Assumes nothing.
-use mathlib.Core.Bool.{true, false}
-use Rattle.cost_sound.proofs.Ranging.{passes-no, passes-yes, ranged-side, sides-ranged}
-use Rattle.cost_sound.proofs.Reading.{sound-shaped}
+use Rattle.cost_sound.proofs.Ranging.{passes-no, passes-yes}
 use Rattle.cost_sound.specs.Sides.{Shaped}
 use Rattle.cost_words.specs.Kept.{Pairs}
 use Rattle.settings.proofs.Answers.{granted, denied, retell}
@@ -51,18 +49,11 @@ places-ok-requires c κs = let s : Shaped ((c .before .before .before .before .b
     (s, passes-yes ((c .before .before .before .before .before .before .before .before .before .before .before .before .before) .args .t .now) (Pairs ((c .before .before .before .before .before .before .before .before .before .before .before .before .before) .args .t .now)) ((c .before .pairs-ok) .result) ((c .if6) .left) ((c .before .pairs-ok) .ensures))
 
 returns-7 : tie.Need-returns-7
-returns-7 c = λ z. denied ((c .before .places-ok) .result) ((c .if7) .taken) ((c .before .places-ok) .ensures) (ranged-side (sound-shaped z) false (z .ranged))
-
-places-ok-requires-2 : tie.Need-places-ok-requires-2
-places-ok-requires-2 c κs = let s : Shaped ((c .before .before .before .before .before .before .before .before .before .before .before .before .before .before .before) .args .t .now) = record { header = granted ((c .before .before .before .before .before .before .before .before .before .before .before .before .before .header-ok) .result) ((c .before .before .before .before .before .before .before .before .before .before .before .before .if1) .left) ((c .before .before .before .before .before .before .before .before .before .before .before .before .before .header-ok) .ensures); nodes-ok = granted ((c .before .before .before .before .before .before .before .before .before .before .before .nodes-ok) .result) ((c .before .before .before .before .before .before .before .before .before .before .if2) .left) ((c .before .before .before .before .before .before .before .before .before .before .before .nodes-ok) .ensures); chained = granted ((c .before .before .before .before .before .before .before .before .before .chains-ok) .result) ((c .before .before .before .before .before .before .before .before .if3) .left) ((c .before .before .before .before .before .before .before .before .before .chains-ok) .ensures); roots-ok = granted ((c .before .before .before .before .before .before .before .roots-ok) .result) ((c .before .before .before .before .before .before .if4) .left) ((c .before .before .before .before .before .before .before .roots-ok) .ensures); in-order = granted ((c .before .before .before .before .before .order-ok) .result) ((c .before .before .before .before .if5) .left) ((c .before .before .before .before .before .order-ok) .ensures) } in
-    (s, passes-yes ((c .before .before .before .before .before .before .before .before .before .before .before .before .before .before .before) .args .t .now) (Pairs ((c .before .before .before .before .before .before .before .before .before .before .before .before .before .before .before) .args .t .now)) ((c .before .before .before .pairs-ok) .result) ((c .before .before .if6) .left) ((c .before .before .before .pairs-ok) .ensures))
-
-returns-8 : tie.Need-returns-8
-returns-8 c = let s : Shaped ((c .before .before .before .before .before .before .before .before .before .before .before .before .before .before .before .before) .args .t .now) = record { header = granted ((c .before .before .before .before .before .before .before .before .before .before .before .before .before .before .header-ok) .result) ((c .before .before .before .before .before .before .before .before .before .before .before .before .before .if1) .left) ((c .before .before .before .before .before .before .before .before .before .before .before .before .before .before .header-ok) .ensures); nodes-ok = granted ((c .before .before .before .before .before .before .before .before .before .before .before .before .nodes-ok) .result) ((c .before .before .before .before .before .before .before .before .before .before .before .if2) .left) ((c .before .before .before .before .before .before .before .before .before .before .before .before .nodes-ok) .ensures); chained = granted ((c .before .before .before .before .before .before .before .before .before .before .chains-ok) .result) ((c .before .before .before .before .before .before .before .before .before .if3) .left) ((c .before .before .before .before .before .before .before .before .before .before .chains-ok) .ensures); roots-ok = granted ((c .before .before .before .before .before .before .before .before .roots-ok) .result) ((c .before .before .before .before .before .before .before .if4) .left) ((c .before .before .before .before .before .before .before .before .roots-ok) .ensures); in-order = granted ((c .before .before .before .before .before .before .order-ok) .result) ((c .before .before .before .before .before .if5) .left) ((c .before .before .before .before .before .before .order-ok) .ensures) } in
-    retell ((c .places-ok2) .result)
-    (λ q. record { header = s .header; nodes-ok = s .nodes-ok; chained = s .chained; roots-ok = s .roots-ok; in-order = s .in-order; paired = passes-yes ((c .before .before .before .before .before .before .before .before .before .before .before .before .before .before .before .before) .args .t .now) (Pairs ((c .before .before .before .before .before .before .before .before .before .before .before .before .before .before .before .before) .args .t .now)) ((c .before .before .before .before .pairs-ok) .result) ((c .before .before .before .if6) .left) ((c .before .before .before .before .pairs-ok) .ensures); ranged = sides-ranged s (granted ((c .before .before .places-ok) .result) ((c .before .if7) .left) ((c .before .before .places-ok) .ensures)) q })
-    (λ z. ranged-side (sound-shaped z) true (z .ranged))
-    ((c .places-ok2) .ensures)
+returns-7 c = let s : Shaped ((c .before .before .before .before .before .before .before .before .before .before .before .before .before .before) .args .t .now) = record { header = granted ((c .before .before .before .before .before .before .before .before .before .before .before .before .header-ok) .result) ((c .before .before .before .before .before .before .before .before .before .before .before .if1) .left) ((c .before .before .before .before .before .before .before .before .before .before .before .before .header-ok) .ensures); nodes-ok = granted ((c .before .before .before .before .before .before .before .before .before .before .nodes-ok) .result) ((c .before .before .before .before .before .before .before .before .before .if2) .left) ((c .before .before .before .before .before .before .before .before .before .before .nodes-ok) .ensures); chained = granted ((c .before .before .before .before .before .before .before .before .chains-ok) .result) ((c .before .before .before .before .before .before .before .if3) .left) ((c .before .before .before .before .before .before .before .before .chains-ok) .ensures); roots-ok = granted ((c .before .before .before .before .before .before .roots-ok) .result) ((c .before .before .before .before .before .if4) .left) ((c .before .before .before .before .before .before .roots-ok) .ensures); in-order = granted ((c .before .before .before .before .order-ok) .result) ((c .before .before .before .if5) .left) ((c .before .before .before .before .order-ok) .ensures) } in
+    retell ((c .places-ok) .result)
+    (λ q. record { header = s .header; nodes-ok = s .nodes-ok; chained = s .chained; roots-ok = s .roots-ok; in-order = s .in-order; paired = passes-yes ((c .before .before .before .before .before .before .before .before .before .before .before .before .before .before) .args .t .now) (Pairs ((c .before .before .before .before .before .before .before .before .before .before .before .before .before .before) .args .t .now)) ((c .before .before .pairs-ok) .result) ((c .before .if6) .left) ((c .before .before .pairs-ok) .ensures); ranged = q })
+    (λ z. z .ranged)
+    ((c .places-ok) .ensures)
 
 pub sound-spec : {M : Type 1} → statement M
 sound-spec =
@@ -81,6 +72,4 @@ sound-spec =
     pairs-ok-requires
     returns-6
     places-ok-requires
-    returns-7
-    places-ok-requires-2
-    returns-8)
+    returns-7)

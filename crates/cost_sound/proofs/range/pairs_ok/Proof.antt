@@ -1,6 +1,6 @@
 -- `cost_sound::range::pairs_ok` meets its contract: what is kept for the nodes passed is their own. Assumes nothing.
 use mathlib.Core.Path.{_≡_, _∙_}
-use mathlib.Core.Bool.{Bool, true, false}
+use mathlib.Core.Bool.{Bool}
 use Prim.Native.Nat.{_-_, _≤_}
 use native.Mathlib.Omega.{arith}
 use Rattle.words.specs.Words.{count}
@@ -33,13 +33,7 @@ own-ok-requires : tie.Need-own-ok-requires Inv-loop μ-loop
 own-ok-requires c κs = ((c .before .before .before .before .before) .pre, omega (arith, (c .before .loop) .inv .0))
 
 returns : tie.Need-returns Inv-loop μ-loop
-returns c = let a = (c .before .before .before .before .before .before .before) .args in passes-no (a .t .now) (Owns false (a .t .now) ((c .before .before .before .loop) .i)) ((c .before .own-ok) .result) ((c .if1) .taken) ((c .before .own-ok) .ensures)
-
-own-ok-requires-2 : tie.Need-own-ok-requires-2 Inv-loop μ-loop
-own-ok-requires-2 c κs = ((c .before .before .before .before .before .before .before) .pre, omega (arith, (c .before .before .before .loop) .inv .0))
-
-returns-2 : tie.Need-returns-2 Inv-loop μ-loop
-returns-2 c = let a = (c .before .before .before .before .before .before .before .before .before) .args in passes-no (a .t .now) (Owns true (a .t .now) ((c .before .before .before .before .before .loop) .i)) ((c .before .own-ok2) .result) ((c .if2) .taken) ((c .before .own-ok2) .ensures)
+returns c = let a = (c .before .before .before .before .before .before .before) .args in passes-no (a .t .now) (Owns (a .t .now) ((c .before .before .before .loop) .i)) ((c .before .own-ok) .result) ((c .if1) .taken) ((c .before .own-ok) .ensures)
 
 add-i : tie.Need-add-i Inv-loop μ-loop
 add-i c = search needs
@@ -48,14 +42,11 @@ loop-less : tie.Need-loop-less Inv-loop μ-loop
 loop-less c = search needs
 
 loop-again : tie.Need-loop-again Inv-loop μ-loop
-loop-again c = let a = (c .before .before .before .before .before .before .before .before .before) .args in let l = (c .before .before .before .before .before .loop) in (
-  l .inv .0,
-  omega arith,
-  pairs-more ((c .before .before .before .before .before .before .before .before .before) .pre) (l .i) (passes-yes (a .t .now) (Owns false (a .t .now) (l .i)) ((c .before .before .before .own-ok) .result) ((c .before .before .if1) .left) ((c .before .before .before .own-ok) .ensures)) (passes-yes (a .t .now) (Owns true (a .t .now) (l .i)) ((c .before .own-ok2) .result) ((c .if2) .left) ((c .before .own-ok2) .ensures)) (l .inv .2),
-)
+loop-again c = let a = (c .before .before .before .before .before .before .before) .args in let l = (c .before .before .before .loop) in
+    (l .inv .0, omega arith, pairs-more ((c .before .before .before .before .before .before .before) .pre) (l .i) (passes-yes (a .t .now) (Owns (a .t .now) (l .i)) ((c .before .own-ok) .result) ((c .if1) .left) ((c .before .own-ok) .ensures)) (l .inv .2))
 
-returns-3 : tie.Need-returns-3 Inv-loop μ-loop
-returns-3 c = pairs-all ((c .before .before .before .before .before) .pre) ((c .before .loop) .i) (omega (arith, (c .before .loop) .inv .0)) ((c .before .loop) .inv .2)
+returns-2 : tie.Need-returns-2 Inv-loop μ-loop
+returns-2 c = pairs-all ((c .before .before .before .before .before) .pre) ((c .before .loop) .i) (omega (arith, (c .before .loop) .inv .0)) ((c .before .loop) .inv .2)
 
 pub pairs-ok-spec : {M : Type 1} → statement M
 pairs-ok-spec =
@@ -68,9 +59,7 @@ pairs-ok-spec =
     loop-holds
     own-ok-requires
     returns
-    own-ok-requires-2
-    returns-2
     add-i
     loop-less
     loop-again
-    returns-3)
+    returns-2)
