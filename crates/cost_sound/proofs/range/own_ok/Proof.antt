@@ -41,7 +41,7 @@ record-word-requires-2 c κs = let p = (c .before .before .before .before .befor
 returns-2 : tie.Need-returns-2
 returns-2 c = let p = (c .before .before .before .before .before .before .before .before .before .before .before .before) .pre in let a = (c .before .before .before .before .before .before .before .before .before .before .before .before) .args in
     let e : (c .before .before .before .before .before .before .before .wide2) .result ≡ size (a .t .now) (feature (a .t .now) (a .i)) = (c .before .before .before .before .before .before .before .wide2) .ensures .0 ∙ (c .before .before .before .before .before .before .before .before .head-word) .ensures ∙ ap (size (a .t .now)) ((c .before .before .before .before .before .before .before .before .before .wide) .ensures .0 ∙ (c .before .before .before .before .before .before .before .before .before .before .record-word) .ensures) in
-    low-wrong (p .0) (a .i) _ _ (p .1) e ((c .before .before .before .before .before .before .body-of) .ensures) _ _ ((c .before .before .before .before .before .sides-of) .ensures) (omega (arith, (c .before .before .before .if1) .left)) _ ((c .before .before .record-word2) .ensures) ((c .if2) .taken)
+    low-wrong (p .0) (a .i) _ _ (p .1) e ((c .before .before .before .before .before .before .body-of) .ensures) _ _ ((c .before .before .before .before .before .sides-of) .ensures) (omega (arith, (c .before .before .before .if1) .left)) _ ((c .before .before .record-word2) .ensures) (λ z. omega (arith, z, (c .if2) .taken))
 
 record-word-requires-3 : tie.Need-record-word-requires-3
 record-word-requires-3 c κs = let p = (c .before .before .before .before .before .before .before .before .before .before .before .before) .pre in let h = p .0 .header in (omega (arith, h .room, h .within), omega (arith, h .most, h .within), omega arith)
@@ -49,7 +49,7 @@ record-word-requires-3 c κs = let p = (c .before .before .before .before .befor
 returns-3 : tie.Need-returns-3
 returns-3 c = let p = (c .before .before .before .before .before .before .before .before .before .before .before .before .before .before .before) .pre in let a = (c .before .before .before .before .before .before .before .before .before .before .before .before .before .before .before) .args in
     let e : (c .before .before .before .before .before .before .before .before .before .before .wide2) .result ≡ size (a .t .now) (feature (a .t .now) (a .i)) = (c .before .before .before .before .before .before .before .before .before .before .wide2) .ensures .0 ∙ (c .before .before .before .before .before .before .before .before .before .before .before .head-word) .ensures ∙ ap (size (a .t .now)) ((c .before .before .before .before .before .before .before .before .before .before .before .before .wide) .ensures .0 ∙ (c .before .before .before .before .before .before .before .before .before .before .before .before .before .record-word) .ensures) in
-    high-wrong (p .0) (a .i) _ _ (p .1) e ((c .before .before .before .before .before .before .before .before .before .body-of) .ensures) _ _ ((c .before .before .before .before .before .before .before .before .sides-of) .ensures) (omega (arith, (c .before .before .before .before .before .before .if1) .left)) _ ((c .before .before .record-word3) .ensures) ((c .if3) .taken)
+    high-wrong (p .0) (a .i) _ _ (p .1) e ((c .before .before .before .before .before .before .before .before .before .body-of) .ensures) _ _ ((c .before .before .before .before .before .before .before .before .sides-of) .ensures) (omega (arith, (c .before .before .before .before .before .before .if1) .left)) _ ((c .before .before .record-word3) .ensures) (λ z. omega (arith, z, (c .if3) .taken))
 
 returns-4 : tie.Need-returns-4
 returns-4 c = let p = (c .before .before .before .before .before .before .before .before .before .before .before .before .before .before .before) .pre in let a = (c .before .before .before .before .before .before .before .before .before .before .before .before .before .before .before) .args in
