@@ -64,8 +64,8 @@ static void looking(void) { sink += lampgrotto_cost_look_up(costs, WORDS, LARGER
 static void constant(void) { sink += lampgrotto_cost_constant(costs, WORDS, RESULT, 7); }
 static void summing(void) { sum_words(costs, WORDS); }
 
-static void (*const jobs[])(void) = {looking, constant, adding,    adding_large, adding_far, scaling,
-                                     lesser,  comparing, choosing, seeking,      seeking_all};
+static void (*const jobs[])(void) = {looking, constant, adding, adding_large, adding_far, scaling,
+                                     lesser, comparing, choosing, seeking, seeking_all};
 
 int main(void) {
     taken(lampgrotto_cost_open(costs, WORDS, features, 16, CAPACITY));

@@ -31,7 +31,8 @@ use Rattle.words.proofs.Tab.{split, length-tab, getD-tab}
 use Rattle.records.specs.Changes.{pairOf, Pushed, RecordIs, Finds as FindsRecord}
 use Rattle.records.specs.Nodes.{Listed, nodeOf, Behind, Absent}
 use Rattle.records.proofs.Making as M
-use Rattle.cost_words.specs.Kept.{kept, endOf, armSum, Bodied, Sides}
+use Rattle.cost_words.specs.Kept.{kept}
+use Rattle.cost_words.specs.Sides.{endOf, armSum, Bodied, Sides}
 use Rattle.cost_words.specs.Sums.{sideOf}
 use Rattle.cost_words.specs.Words.{branch, goes, added, code, packed, pairWord, nodes}
 use Rattle.cost_words.proofs.Pairing.{new-pair}

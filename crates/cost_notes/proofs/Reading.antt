@@ -14,7 +14,8 @@ use Rattle.words.specs.Words.{head, features, size, sizes, count, listed}
 use Rattle.records.specs.Laid.{Laid}
 use Rattle.notes.specs.Plain.{plain}
 use Rattle.notes.proofs.Alike.{Like, plain-like, like-head, like-sym, like-size, like-record, like-nodes, like-laid, like-holds, plain-grown}
-use Rattle.cost_words.specs.Kept.{kept, Keeps}
+use Rattle.cost_words.specs.Kept.{kept}
+use Rattle.cost_words.specs.Sides.{Keeps}
 use Rattle.cost_words.specs.Sums.{sideOf}
 use Rattle.cost_words.specs.Words.{target, nodes}
 use Rattle.cost_words.proofs.Reading.{length-nodes}

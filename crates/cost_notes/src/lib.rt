@@ -20,7 +20,7 @@ ghost use Rattle.records.specs.Laid.{Laid};
 ghost use Rattle.notes.specs.Far.{memory, Aside};
 ghost use Rattle.notes.specs.Plain.{Roomy, plain};
 ghost use Rattle.cost_memory.specs.Memory.{Recalls, Stored};
-ghost use Rattle.cost_words.specs.Kept.{Keeps};
+ghost use Rattle.cost_words.specs.Sides.{Keeps};
 ghost use Rattle.cost_words.specs.Words.{target, branch, nodes};
 ghost use Rattle.cost_nodes.specs.Nodes.{Holds, Armed, Makes, top, Place};
 

@@ -22,7 +22,8 @@ use Rattle.cost_laws.proofs.Passing.{passed-right, kept-fits}
 use Rattle.cost_laws.proofs.Relative.{offs, from-end}
 use Rattle.cost_laws.proofs.Words.{int-ℕ}
 use Rattle.words.specs.Words.{sizes}
-use Rattle.cost_words.specs.Kept.{kept, endOf, Keeps}
+use Rattle.cost_words.specs.Kept.{kept}
+use Rattle.cost_words.specs.Sides.{endOf, Keeps}
 use Rattle.cost_words.specs.Sums.{Stands, sideOf}
 use Rattle.cost_words.specs.Words.{target, nodes}
 use Rattle.cost_words.proofs.Packing.{target-end}

@@ -17,7 +17,7 @@ use Rattle.cost_laws.specs.Relative.{pairFrom}
 use Rattle.words.specs.Words.{features, sizes}
 use Rattle.cost_memory.specs.Memory as M
 use Rattle.cost_notes.specs.Noted as N
-use Rattle.cost_words.specs.Kept.{endOf}
+use Rattle.cost_words.specs.Sides.{endOf}
 use Rattle.cost_words.specs.Sums.{sideOf}
 use Rattle.cost_words.specs.Words.{target, branch, nodes}
 use Rattle.cost_nodes.specs.Nodes.{Holds, Good}

@@ -31,7 +31,7 @@ ghost use Rattle.cost_laws.specs.Range.{Within, costMost};
 ghost use Rattle.words.specs.Words.{features, sizes};
 ghost use Rattle.notes.specs.Plain.{Resting, plain};
 ghost use Rattle.settings.specs.Tells.{Tells};
-ghost use Rattle.cost_words.specs.Kept.{endOf};
+ghost use Rattle.cost_words.specs.Sides.{endOf};
 ghost use Rattle.cost_words.specs.Sums.{Stands};
 ghost use Rattle.cost_words.specs.Words.{branch, nodes};
 ghost use Rattle.cost_engine.specs.Joint.{together};

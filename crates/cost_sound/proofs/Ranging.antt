@@ -27,7 +27,8 @@ use Rattle.cost_laws.proofs.Words.{int-one, words-sum}
 use Rattle.words.specs.Words.{features, size, count, sizes, feature, body, listed, word}
 use Rattle.words.proofs.Tab.{split}
 use Rattle.words.proofs.Words.{length-sizes, at-sizes}
-use Rattle.cost_words.specs.Kept.{kept, endOf, Keeps, armSum, Bodied, Sides, Pairs}
+use Rattle.cost_words.specs.Kept.{kept, Pairs}
+use Rattle.cost_words.specs.Sides.{endOf, Keeps, armSum, Bodied, Sides}
 use Rattle.cost_words.specs.Sums.{sideOf}
 use Rattle.cost_words.specs.Words.{target, branch, goes, added, nodes, root, base, rootAt, costOf}
 use Rattle.cost_words.proofs.Packing.{target-one, faithful}
@@ -39,7 +40,7 @@ use Rattle.settings.proofs.Answers.{tells-leb}
 use Rattle.checks.proofs.Pictures.{Tested}
 use Rattle.checks.proofs.Sitting.{sits-good}
 use Rattle.cost_sound.specs.Sound.{Sound}
-use Rattle.cost_sound.specs.Sides.{Shaped, Passes, Owns}
+use Rattle.cost_sound.specs.Paired.{Shaped, Passes, Owns}
 use Rattle.cost_sound.proofs.Sitting.{goes-on}
 use Rattle.cost_sound.proofs.Reading.{reading, sound-shaped, shaped-tested, shaped-wf, sizes-pos, ranged-narrow}
 

@@ -28,7 +28,7 @@ use Rattle.checks.proofs.Sitting.{nodes-wf}
 use Rattle.theory.specs.WellFormed.{WF}
 use Rattle.cost_sound.specs.Sound.{Ranged, Sound}
 use Rattle.cost_sound.specs.Walk.{going}
-use Rattle.cost_sound.specs.Sides.{Shaped}
+use Rattle.cost_sound.specs.Paired.{Shaped}
 use Rattle.cost_sound.proofs.Sitting.{goes-on, node-fits}
 
 abbrev pub reading : Reading costs

@@ -1,3 +1,3 @@
 pub mod Sound
 pub mod Walk
-pub mod Sides
+pub mod Paired

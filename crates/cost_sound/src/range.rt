@@ -7,7 +7,7 @@ ghost use Rattle.cost_words.specs.Kept.{Pairs};
 ghost use Rattle.cost_words.specs.Words.{costOf};
 ghost use Rattle.settings.specs.Tells.{Tells};
 ghost use Rattle.cost_sound.specs.Sound.{Ranged};
-ghost use Rattle.cost_sound.specs.Sides.{Shaped, Passes, Owns};
+ghost use Rattle.cost_sound.specs.Paired.{Shaped, Passes, Owns};
 use cost_words::base_word;
 use cost_words::kept_span;
 use cost_words::root_word;

@@ -11,7 +11,8 @@ use Rattle.cost_laws.specs.Range.{addMost}
 use Rattle.cost_laws.specs.Extremes.{across, keptAt}
 use Rattle.cost_laws.proofs.Extremes.{across-one, across-more}
 use Rattle.words.specs.Words.{listed, word}
-use Rattle.cost_words.specs.Kept.{kept, endOf, Keeps, Wider, armSum, ArmSums, Sides}
+use Rattle.cost_words.specs.Kept.{kept}
+use Rattle.cost_words.specs.Sides.{endOf, Keeps, Wider, armSum, ArmSums, Sides}
 use Rattle.cost_words.specs.Sums.{Stands, sideOf}
 use Rattle.cost_words.specs.Words.{target, goes, added}
 use Rattle.cost_words.proofs.Packing.{target-end, target-node, int-zero}

@@ -5,7 +5,7 @@ use crate::sums::sum_or_lost;
 use words::record_word;
 use words::wide;
 ghost use Prim.Native.Nat.{_<_};
-ghost use Rattle.cost_words.specs.Kept.{Keeps, Near, Wider, Bodied, ArmSums, Sides};
+ghost use Rattle.cost_words.specs.Sides.{Keeps, Near, Wider, Bodied, ArmSums, Sides};
 
 // The words of a lowest and of a highest sum.
 pub struct Span {

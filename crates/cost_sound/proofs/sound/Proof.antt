@@ -1,6 +1,6 @@
 -- `cost_sound::sound` meets its contract: each test is one field of the record, in its order. Assumes nothing.
 use Rattle.cost_sound.proofs.Ranging.{passes-no, passes-yes}
-use Rattle.cost_sound.specs.Sides.{Shaped}
+use Rattle.cost_sound.specs.Paired.{Shaped}
 use Rattle.cost_words.specs.Kept.{Pairs}
 use Rattle.settings.proofs.Answers.{granted, denied, retell}
 use Rattle.checks.proofs.Framing.{framed}

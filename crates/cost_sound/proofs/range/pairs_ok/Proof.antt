@@ -8,7 +8,7 @@ use Rattle.cost_words.specs.Words.{nodes}
 use Rattle.cost_words.specs.Sums.{sideOf}
 use Rattle.cost_words.specs.Kept.{kept}
 use Rattle.cost_laws.specs.Extremes.{Passed}
-use Rattle.cost_sound.specs.Sides.{Owns}
+use Rattle.cost_sound.specs.Paired.{Owns}
 use Rattle.cost_sound.proofs.Ranging.{passes-no, passes-yes, pairs-none, pairs-more, pairs-all}
 use borrow.Author.Needs.{needs}
 use Rattle.cost_sound.proofs.range.pairs_ok.Statement.{statement}

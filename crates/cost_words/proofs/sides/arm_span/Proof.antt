@@ -1,7 +1,7 @@
 -- `cost_words::sides::arm_span` meets its contract: what the branch adds and what is kept for its target. Assumes nothing.
 use mathlib.Core.Path.{sym, subst}
 use native.Mathlib.Omega.{arith}
-use Rattle.cost_words.specs.Kept.{Near}
+use Rattle.cost_words.specs.Sides.{Near}
 use Rattle.cost_words.proofs.Keeping.{arm-lost, arm-stands}
 use borrow.Author.Needs.{needs}
 use Rattle.cost_words.proofs.sides.arm_span.Statement.{statement}

@@ -6,7 +6,7 @@ use native.Mathlib.Omega.{arith}
 use Rattle.cost_laws.specs.Integers.{int}
 use Rattle.cost_laws.specs.Extremes.{across}
 use Rattle.cost_words.specs.Sums.{sideOf}
-use Rattle.cost_words.specs.Kept.{endOf, armSum}
+use Rattle.cost_words.specs.Sides.{endOf, armSum}
 use Rattle.cost_words.proofs.Keeping.{side-one, side-more, side-lost, side-all}
 use borrow.Author.Needs.{needs}
 use Rattle.cost_words.proofs.sides.sides_of.Statement.{statement}

@@ -15,7 +15,7 @@ use Rattle.checks.specs.Header.{Header}
 use Rattle.checks.specs.Chained.{Chained}
 use Rattle.cost_sound.specs.Sound.{Nodes, Rooted, Sound}
 
--- what is tested before the range
+-- what is tested before the pairs and the range
 pub record Shaped (w : List ℕ) : Type 0 where
   pub header : Header 2 w
   pub nodes-ok : Nodes w
