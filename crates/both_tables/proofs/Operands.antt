@@ -21,9 +21,8 @@ use Rattle.cost_sound.specs.Sound.{Sound}
 use Rattle.costs.proofs.Sounding.{sound-root}
 use Rattle.settling.proofs.Settling.{sound-holds as rules-hold}
 use Rattle.cost_settling.proofs.Settling.{sound-holds}
-use Rattle.cost_operations.proofs.Operands.{sound-rest}
+use Rattle.cost_operations.proofs.Operands.{place-operand}
 use Rattle.rule_lending.specs.Lending.{lent, Roots}
-use Rattle.cost_sound.proofs.Pictures.{sound-narrow}
 use Rattle.cost_choose.specs.Choice.{Choosable}
 use Rattle.rule_less.specs.Less.{Comparable}
 use Rattle.both_tables.specs.Choosing.{choice}
@@ -59,17 +58,7 @@ module _ (v w : List ℕ) (a b : ℕ) {x y : Branch costs} (ex : x ≡ rootAt w 
 -- ---- CHOOSE: the branch word c of rule place q, and the branches x and y of places a and b
 module _ (v w : List ℕ) (q a b : ℕ) {c : ℕ} {x y : Branch costs} (ec : Roots v q c) (ex : x ≡ rootAt w a) (ey : y ≡ rootAt w b) where
   pub choosable : Sound w → sizes v ≡ sizes w → a < 16 → b < 16 → Choosable v w c x y
-  choosable s e ha hb = record {
-    holds = sound-holds s;
-    rest = sound-rest s;
-    narrow = sound-narrow s;
-    alike = e;
-    rule = ec .there;
-    first = place-ok s a ex ha;
-    second = place-ok s b ey hb;
-    firstIn = place-within s a ex ha;
-    secondIn = place-within s b ey hb;
-  }
+  choosable s e ha hb = record { alike = e; rule = ec .there; first = place-operand s a ex ha; second = place-operand s b ey hb }
 
   pub choice-made : {t : List ℕ} (o : Answer) → Result w t 0 (chosen (lent v 0 c) (meaning (nodes w) x) (meaning (nodes w) y)) o → Result w t 0 (choice q a b v w) o
   choice-made {t} o m =

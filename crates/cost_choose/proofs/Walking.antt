@@ -288,7 +288,7 @@ module _ (v w : List ℕ) (b x a y c : ℕ) (p : Choosable v w b (branch x a) (b
   pub start : (d : ℤ) → d ≡ pos 0 → Branches v w 0 b x a y c d
   unfolding builtOf
   start d e =
-      let ok = p .holds in
+      let ok = p .first .holds in
       let ps : Pos (sizes w) = pos-from w 0 ok in
       let none : d +ℤ int c ≡ int c = no-more d (int c) e in
       let wide : (z : ℤ) → Fit costMost z → Fit addMost z = λ z f. fit-more costMost addMost z (omega arith) f in
@@ -298,16 +298,16 @@ module _ (v w : List ℕ) (b x a y c : ℕ) (p : Choosable v w b (branch x a) (b
           alike = p .alike;
           upTo = omega arith;
           rule = p .rule;
-          first = p .first;
-          second = p .second;
-          placed = subst (λ (z : ℤ). Placed costMost (sizes w) (nodes w) 0 (target x) (target y) (z -ℤ int a)) (sym none) (placed-start (nodes w) 0 (sizes w) (branch x a) (branch y c) (p .firstIn) (p .secondIn));
-          narrow = p .narrow;
+          first = p .first .ok;
+          second = p .second .ok;
+          placed = subst (λ (z : ℤ). Placed costMost (sizes w) (nodes w) 0 (target x) (target y) (z -ℤ int a)) (sym none) (placed-start (nodes w) 0 (sizes w) (branch x a) (branch y c) (p .first .within) (p .second .within));
+          narrow = p .first .narrow;
         };
-        ahead = subst (Fit addMost) (sym none) (wide (int c) (adds-fits (sizes w) (nodes w) (ok .wf) 0 (sizes w) ps (branch y c) (p .second) (p .secondIn)));
+        ahead = subst (Fit addMost) (sym none) (wide (int c) (adds-fits (sizes w) (nodes w) (ok .wf) 0 (sizes w) ps (branch y c) (p .second .ok) (p .second .within)));
         whole =
             subst (λ (r : Built costs). Fit addMost (r .0 .adds)) (built-start d e)
             (subst (Fit addMost) (sym (build-adds (sizes w) 0 (sizes w) refl ps X (nodes w) (ok .wf)))
-            (wide (X (zeros (sizes w)) .off) (chosen-within (p .firstIn) (p .secondIn) (lent v 0 b) .fits (zeros (sizes w)) (zeros-valid (sizes w) ps))));
+            (wide (X (zeros (sizes w)) .off) (chosen-within (p .first .within) (p .second .within) (lent v 0 b) .fits (zeros (sizes w)) (zeros-valid (sizes w) ps))));
       }
 
   pub choice-start : (d : ℤ) → d ≡ pos 0 → (t : List ℕ) (r : Answer) → Result w t 0 (choiceOf (lent v 0 b) (nodes w) 0 (branch x a) (branch y c) d) r → Result w t 0 X r
@@ -315,7 +315,7 @@ module _ (v w : List ℕ) (b x a y c : ℕ) (p : Choosable v w b (branch x a) (b
 
 -- at rest the walk starts from the words without notes ..
 pub choosable-plain : (v w : List ℕ) (b : ℕ) (x y : Branch costs) → Choosable v w b x y → Choosable v (plain w) b x y
-choosable-plain v w b x y p = subst (λ (u : List ℕ). Choosable v u b x y) (sym (plain-of w (p .rest .empty))) p
+choosable-plain v w b x y p = subst (λ (u : List ℕ). Choosable v u b x y) (sym (plain-of w (p .first .rest .empty))) p
 
 -- .. and its result, with the far records 0 again, is that of the table
 pub choice-cleared : (v w t u : List ℕ) (b : ℕ) (x y : Branch costs) (r : Answer) → Resting w → u ≡ plain t → Result (plain w) (plain t) 0 (chosen (lent v 0 b) (meaning (nodes (plain w)) x) (meaning (nodes (plain w)) y)) r →

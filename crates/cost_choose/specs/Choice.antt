@@ -5,34 +5,28 @@ use Prim.Native.Nat.{ℕ, zero, suc, _+_, _≤_, _<_}
 use lib.IntN.{ℤ, _+ℤ_}
 use lib.ListN.{drop}
 use Rattle.theory.specs.Costs.{Cost, costs}
-use Rattle.theory.specs.Diagrams.{Branch, Node, Target, meaning}
+use Rattle.theory.specs.Diagrams.{Branch, Node, Target}
 use Rattle.theory.specs.Functions.{lift}
 use Rattle.theory.specs.Rules.{Rule}
-use Rattle.theory.specs.WellFormed.{Ok}
 use Rattle.cost_laws.specs.Integers.{Fit, int}
 use Rattle.cost_laws.specs.Narrow.{Placed, Narrow}
 use Rattle.cost_laws.specs.Operations.{chosenOf}
-use Rattle.cost_laws.specs.Range.{Within, addMost, costMost}
+use Rattle.cost_laws.specs.Range.{addMost, costMost}
 use Rattle.cost_laws.specs.Relative.{apartFrom, onward}
 use Rattle.words.specs.Words.{features, sizes}
-use Rattle.notes.specs.Plain.{Resting}
 use Rattle.rule_lending.specs.Lending.{Lent, lent}
 use Rattle.cost_words.specs.Words.{target, branch, nodes}
+use Rattle.cost_notes.specs.Operand.{Operand}
 use Rattle.cost_nodes.specs.Nodes.{Holds, Good, built, top}
 use Rattle.cost_nodes.specs.declared.Answer.{Answer}
 use Rattle.cost_nodes.specs.declared.Answer.the-variants.{Is}
 
 -- what `choose_costs` requires: a branch of the rule table v and two of the cost table w, which is at rest, over the same features, both costs in range
 pub record Choosable (v w : List ℕ) (b : ℕ) (x y : Branch costs) : Type 0 where
-  pub holds : Holds w
-  pub rest : Resting w
-  pub narrow : Narrow addMost (sizes w) (nodes w)
   pub alike : sizes v ≡ sizes w
   pub rule : Lent v 0 b
-  pub first : Ok (nodes w) 0 x
-  pub second : Ok (nodes w) 0 y
-  pub firstIn : Within costMost (sizes w) (meaning (nodes w) x)
-  pub secondIn : Within costMost (sizes w) (meaning (nodes w) y)
+  pub first : Operand w x
+  pub second : Operand w y
 
 -- ---- on the way: where the rule g of the features that are left is not 0 the first integer, else the second
 abbrev pub by : Rule → List ℕ → ℤ → ℤ → ℤ

@@ -207,19 +207,19 @@ module _ (w : List ℕ) (o : Operator) (k x a y b : ℕ) (d : ℤ) (p : Branches
 module _ (w : List ℕ) (o : Operator) (x a y b : ℕ) (p : Joinable w o (branch x a) (branch y b)) where
   pub start : (d : ℤ) → d ≡ pos 0 → Branches w o 0 x a y b d
   start d e =
-      let ok = p .holds in
+      let ok = p .first .holds in
       rw e
       (record {
         rest = record {
           holds = ok;
           upTo = omega arith;
-          first = p .first;
-          second = p .second;
-          bounded = bounded-start (sizes w) (nodes w) (ok .wf) 0 (sizes w) (pos-from w 0 ok) (branch x a) (branch y b) (p .first) (p .second) (p .firstIn) (p .secondIn) o (p .resultIn);
-          narrow = p .narrow;
+          first = p .first .ok;
+          second = p .second .ok;
+          bounded = bounded-start (sizes w) (nodes w) (ok .wf) 0 (sizes w) (pos-from w 0 ok) (branch x a) (branch y b) (p .first .ok) (p .second .ok) (p .first .within) (p .second .within) o (p .resultIn);
+          narrow = p .first .narrow;
         };
-        lead = lead-start (sizes w) (nodes w) (ok .wf) 0 (sizes w) (pos-from w 0 ok) (branch x a) (branch y b) (p .first) (p .second) (p .firstIn) (p .secondIn) o (p .resultIn);
-        whole = whole-start (sizes w) (nodes w) (ok .wf) 0 (sizes w) (pos-from w 0 ok) (branch x a) (branch y b) (p .first) (p .second) (p .firstIn) (p .secondIn) o (p .resultIn);
+        lead = lead-start (sizes w) (nodes w) (ok .wf) 0 (sizes w) (pos-from w 0 ok) (branch x a) (branch y b) (p .first .ok) (p .second .ok) (p .first .within) (p .second .within) o (p .resultIn);
+        whole = whole-start (sizes w) (nodes w) (ok .wf) 0 (sizes w) (pos-from w 0 ok) (branch x a) (branch y b) (p .first .ok) (p .second .ok) (p .first .within) (p .second .within) o (p .resultIn);
       })
 
   pub joint-start : (d : ℤ) → d ≡ pos 0 → (t : List ℕ) (r : Answer) → Result w t 0 (joint o (nodes w) 0 (branch x a) (branch y b) d) r →
@@ -232,7 +232,7 @@ module _ (w : List ℕ) (o : Operator) (x a y b : ℕ) (p : Joinable w o (branch
 
 -- at rest the walk starts from the words without notes ..
 pub joinable-plain : (w : List ℕ) (o : Operator) (b c : Branch costs) → Joinable w o b c → Joinable (plain w) o b c
-joinable-plain w o b c p = subst (λ (u : List ℕ). Joinable u o b c) (sym (plain-of w (p .rest .empty))) p
+joinable-plain w o b c p = subst (λ (u : List ℕ). Joinable u o b c) (sym (plain-of w (p .first .rest .empty))) p
 
 -- .. and its result, with the far records 0 again, is that of the table
 pub joint-cleared : (w t u : List ℕ) (o : Operator) (b c : Branch costs) (r : Answer) → Resting w → u ≡ plain t → Result (plain w) (plain t) 0 (together o (meaning (nodes (plain w)) b) (meaning (nodes (plain w)) c)) r →

@@ -7,15 +7,14 @@ use lib.ListN.{drop}
 use Rattle.theory.specs.Costs.{Cost, amount, costs}
 use Rattle.theory.specs.Diagrams.{Branch, Node, Target, meaning, value}
 use Rattle.theory.specs.Settings.{zeros}
-use Rattle.theory.specs.WellFormed.{Ok}
 use Rattle.cost_laws.specs.Integers.{Fit, int}
 use Rattle.cost_laws.specs.Narrow.{Placed, Spread, Narrow}
 use Rattle.cost_laws.specs.Operations.{joined, smallerOf, largerOf}
 use Rattle.cost_laws.specs.Range.{Within, addMost, costMost}
 use Rattle.cost_laws.specs.Relative.{bare, onward}
 use Rattle.words.specs.Words.{features, sizes}
-use Rattle.notes.specs.Plain.{Resting}
 use Rattle.cost_words.specs.Words.{target, branch, nodes}
+use Rattle.cost_notes.specs.Operand.{Operand}
 use Rattle.cost_nodes.specs.Nodes.{Holds, Good}
 use Rattle.cost_engine.specs.declared.operators.Operator.{Operator}
 use Rattle.cost_engine.specs.declared.operators.Operator.the-variants.{Add, Subtract, Smaller, Larger, Scale}
@@ -34,13 +33,8 @@ together o f g = joined (opOf o) f g
 
 -- what `join_costs` requires: both branches are of the table, which is at rest, and both costs and the result lie in range
 pub record Joinable (w : List ℕ) (o : Operator) (b c : Branch costs) : Type 0 where
-  pub holds : Holds w
-  pub rest : Resting w
-  pub narrow : Narrow addMost (sizes w) (nodes w)
-  pub first : Ok (nodes w) 0 b
-  pub second : Ok (nodes w) 0 c
-  pub firstIn : Within costMost (sizes w) (meaning (nodes w) b)
-  pub secondIn : Within costMost (sizes w) (meaning (nodes w) c)
+  pub first : Operand w b
+  pub second : Operand w c
   pub resultIn : Within costMost (sizes w) (together o (meaning (nodes w) b) (meaning (nodes w) c))
 
 -- ---- on the way: two branches from feature k on, where the second has d more on it

@@ -29,6 +29,7 @@ use Rattle.cost_nodes.specs.declared.Answer.{Answer}
 use Rattle.cost_engine.specs.Joint.{together, Joinable}
 use Rattle.cost_engine.specs.declared.operators.Operator.{Operator}
 use Rattle.cost_engine.specs.declared.operators.Operator.the-variants.{Scale}
+use Rattle.cost_notes.specs.Operand.{Operand}
 use Rattle.cost_range.specs.Operable.{Operable, Factored}
 use Rattle.costs.proofs.Sounding.{sound-pos, sound-root}
 use Rattle.costs.proofs.Answering.{write-refused}
@@ -70,19 +71,20 @@ sound-rest s = record {
   empty = record { zeros = λ j h l. s .header .clean .zeros j (omega (arith, s .header .within)) l };
 }
 
+-- the branch b of place p may be asked about
+pub place-operand : {w : List ℕ} (s : Sound w) (p : ℕ) {b : Branch costs} → b ≡ rootAt w p → p < 16 → Operand w b
+place-operand {w} s p e h = record {
+  holds = sound-holds s;
+  rest = sound-rest s;
+  narrow = sound-narrow s;
+  ok = subst (Ok (nodes w) 0) (sym e) (sound-root s p h);
+  within = subst (λ (d : Branch costs). Within costMost (sizes w) (meaning (nodes w) d)) (sym e) (s .ranged .ranged p h);
+}
+
 -- ---- the branches b and c of places p and q
 module _ {w : List ℕ} (s : Sound w) (o : Operator) (b c : Branch costs) (p q : ℕ) (eb : b ≡ rootAt w p) (ec : c ≡ rootAt w q) where
   pub operable : p < 16 → q < 16 → Factored o → Operable w o b c
-  operable hp hq f = record {
-    holds = sound-holds s;
-    rest = sound-rest s;
-    narrow = sound-narrow s;
-    first = subst (Ok (nodes w) 0) (sym eb) (sound-root s p hp);
-    second = subst (Ok (nodes w) 0) (sym ec) (sound-root s q hq);
-    firstIn = subst (λ (d : Branch costs). Within costMost (sizes w) (meaning (nodes w) d)) (sym eb) (s .ranged .ranged p hp);
-    secondIn = subst (λ (d : Branch costs). Within costMost (sizes w) (meaning (nodes w) d)) (sym ec) (s .ranged .ranged q hq);
-    factorIn = f;
-  }
+  operable hp hq f = record { first = place-operand s p eb hp; second = place-operand s q ec hq; factorIn = f }
 
   -- the joint cost is that of the two places
   pub places-agree : Agree (sizes w) (together o (meaning (nodes w) b) (meaning (nodes w) c)) (together o (costOf w p) (costOf w q))

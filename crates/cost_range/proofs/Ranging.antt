@@ -29,12 +29,13 @@ use Rattle.cost_words.specs.Sums.{sideOf}
 use Rattle.cost_words.specs.Words.{target, branch, nodes}
 use Rattle.cost_words.proofs.Summing.{way}
 use Rattle.cost_nodes.proofs.Reading.{pos-from, holds-passed}
+use Rattle.cost_notes.specs.Operand.{Operand}
 use Rattle.cost_engine.specs.Joint.{together, Joinable}
 use Rattle.cost_engine.specs.declared.operators.Operator.{Operator}
 use Rattle.cost_engine.specs.declared.operators.Operator.the-variants.{Scale}
 use Rattle.cost_engine.proofs.Operating.{below, above}
 use Rattle.cost_range.specs.Ends.{Spans, Reaches, Inside, Pair}
-use Rattle.cost_range.specs.Operable.{Factored, Operable, Operand}
+use Rattle.cost_range.specs.Operable.{Factored, Operable}
 use Rattle.cost_range.specs.declared.Ends.{Ends}
 use Rattle.cost_range.specs.declared.Ends.the-variants.{Are, Lost}
 
@@ -135,15 +136,8 @@ module _ (w : List ℕ) (x a : ℕ) (o : Operand w (branch x a)) (up : Bool) (b 
 pub operand-pair : (w : List ℕ) (x a y b : ℕ) → Operand w (branch x a) → Operand w (branch y b) → Pair w 0 x y
 operand-pair w x a y b p q = record { holds = p .holds; narrow = p .narrow; upTo = omega arith; first = p .ok; second = q .ok }
 
-module _ {w : List ℕ} {o : Operator} {b c : Branch costs} (p : Operable w o b c) where
-  pub first-operand : Operand w b
-  first-operand = record { holds = p .holds; rest = p .rest; narrow = p .narrow; ok = p .first; within = p .firstIn }
-
-  pub second-operand : Operand w c
-  second-operand = record { holds = p .holds; rest = p .rest; narrow = p .narrow; ok = p .second; within = p .secondIn }
-
-  pub factor-fits : (n : ℕ) → o ≡ Scale n → Fit costMost (int n)
-  factor-fits n e = subst Factored e (p .factorIn)
+pub factor-fits : {w : List ℕ} {o : Operator} {b c : Branch costs} → Operable w o b c → (n : ℕ) → o ≡ Scale n → Fit costMost (int n)
+factor-fits p n e = subst Factored e (p .factorIn)
 
 -- what is told of one operator's result, for the operator that it is
 pub told : (S : List ℕ) (f g : Cost) (o u : Operator) → o ≡ u → (r : Bool) → Tells r (Within costMost S (together u f g)) → Tells r (Within costMost S (together o f g))
@@ -152,4 +146,4 @@ told S f g o u e r h = subst (λ (q : Operator). Tells r (Within costMost S (tog
 -- with the result in range, the engine may join the two
 pub joinable : (w : List ℕ) (o : Operator) (b c : Branch costs) → Operable w o b c → Within costMost (sizes w) (together o (meaning (nodes w) b) (meaning (nodes w) c)) → Joinable w o b c
 joinable w o b c p h =
-    record { holds = p .holds; rest = p .rest; narrow = p .narrow; first = p .first; second = p .second; firstIn = p .firstIn; secondIn = p .secondIn; resultIn = h }
+    record { first = p .first; second = p .second; resultIn = h }

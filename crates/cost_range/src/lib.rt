@@ -36,7 +36,8 @@ ghost use Rattle.cost_words.specs.Sums.{Stands};
 ghost use Rattle.cost_words.specs.Words.{branch, nodes};
 ghost use Rattle.cost_engine.specs.Joint.{together};
 ghost use Rattle.cost_range.specs.Ends.{tieOf, Spans, Reaches, Inside, meeting, Meeting, Pair, ofTargets, ofBranches, Noted, Furthest};
-ghost use Rattle.cost_range.specs.Operable.{Operable, Operand};
+ghost use Rattle.cost_notes.specs.Operand.{Operand};
+ghost use Rattle.cost_range.specs.Operable.{Operable};
 
 // The words of the lowest and of the highest amount, or that no base brings all amounts into range.
 enum Ends {

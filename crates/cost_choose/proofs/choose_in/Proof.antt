@@ -13,10 +13,10 @@ clear-requires c κs = search needs
 
 branch-result-requires : tie.Need-branch-result-requires
 branch-result-requires c κs = let a = (c .before .before .before .before .before .before .before .before .before) in
-    (start _ _ _ _ _ _ _ (choosable-plain _ _ _ _ _ (a .pre)) _ int-zero, noted-none _ _ (a .pre .rest) ((c .before .before .before .before .clear) .ensures))
+    (start _ _ _ _ _ _ _ (choosable-plain _ _ _ _ _ (a .pre)) _ int-zero, noted-none _ _ (a .pre .first .rest) ((c .before .before .before .before .clear) .ensures))
 
 clear-far-requires : tie.Need-clear-far-requires
-clear-far-requires c κs = grown-roomy _ _ ((c .before .before .before .before .before .branch-result) .ensures .0 .grown .kept) ((c .before .before .before .before .before .before .before .before .before .before .before .before .before .before .before) .pre .rest .roomy)
+clear-far-requires c κs = grown-roomy _ _ ((c .before .before .before .before .before .branch-result) .ensures .0 .grown .kept) ((c .before .before .before .before .before .before .before .before .before .before .before .before .before .before .before) .pre .first .rest .roomy)
 
 same-length : tie.Need-same-length
 same-length c = search needs
@@ -27,7 +27,7 @@ same-length-2 c = search needs
 returns : tie.Need-returns
 returns c = let a = (c .before .before .before .before .before .before .before .before .before .before .before .before .before .before .before .before .before .before) in
     let w = (c .before .before .before .before .before .before .before .before .branch-result) in
-    choice-cleared (a .args .r .now) (a .args .t .now) _ _ (a .args .b) (branch (a .args .x .to) (a .args .x .adds)) (branch (a .args .y .to) (a .args .y .adds)) (w .result) (a .pre .rest) ((c .before .before .clear-far) .ensures)
+    choice-cleared (a .args .r .now) (a .args .t .now) _ _ (a .args .b) (branch (a .args .x .to) (a .args .x .adds)) (branch (a .args .y .to) (a .args .y .adds)) (w .result) (a .pre .first .rest) ((c .before .before .clear-far) .ensures)
     (choice-start _ _ _ _ _ _ _ (choosable-plain (a .args .r .now) (a .args .t .now) (a .args .b) _ _ (a .pre)) _ int-zero _ (w .result) (w .ensures .0))
 
 pub choose-in-spec : {M : Type 1} → statement M

@@ -4,7 +4,7 @@ use mathlib.Core.Bool.{true}
 use Rattle.cost_words.specs.Words.{branch, nodes}
 use Rattle.theory.specs.Diagrams.{meaning}
 use Rattle.cost_laws.proofs.Range.{smaller-within, larger-within}
-use Rattle.cost_range.proofs.Ranging.{first-operand, second-operand, factor-fits, told}
+use Rattle.cost_range.proofs.Ranging.{factor-fits, told}
 use borrow.Author.Needs.{needs}
 use Rattle.cost_range.proofs.in_range.Statement.{statement}
 use Rattle.cost_range.proofs.in_range.Tie as tie
@@ -13,13 +13,13 @@ enum-told : tie.Need-enum-told
 enum-told c = search needs
 
 tied-ok-requires : tie.Need-tied-ok-requires
-tied-ok-requires c κs = let p = (c .before .before .before .before .before .before) .pre in (first-operand p, second-operand p)
+tied-ok-requires c κs = let p = (c .before .before .before .before .before .before) .pre in (p .first, p .second)
 
 enum-told-2 : tie.Need-enum-told-2
 enum-told-2 c = search needs
 
 tied-ok-requires-2 : tie.Need-tied-ok-requires-2
-tied-ok-requires-2 c κs = let p = (c .before .before .before .before .before .before) .pre in (first-operand p, second-operand p)
+tied-ok-requires-2 c κs = let p = (c .before .before .before .before .before .before) .pre in (p .first, p .second)
 
 enum-told-3 : tie.Need-enum-told-3
 enum-told-3 c = search needs
@@ -31,7 +31,7 @@ enum-known-o : tie.Need-enum-known-o
 enum-known-o c = search needs
 
 scaled-ok-requires : tie.Need-scaled-ok-requires
-scaled-ok-requires c κs = let p = (c .before .before .before .before .before .before) .pre in (first-operand p, factor-fits p _ ((c .before .before .o) .given .1))
+scaled-ok-requires c κs = let p = (c .before .before .before .before .before .before) .pre in (p .first, factor-fits p _ ((c .before .before .o) .given .1))
 
 same-length : tie.Need-same-length
 same-length c = search needs
@@ -52,10 +52,10 @@ returns-2 : tie.Need-returns-2
 returns-2 c = let a = (c .before .before .before .before .before .before .before .before .before .before .before) in let z = (c .before .before .before .before .tied-ok2) in (z .ensures .0, told _ _ (meaning (nodes (a .args .t .now)) (branch (a .args .b .to) (a .args .b .adds))) (a .args .o) _ ((c .before .before .before .before .before .before .before .enum-told2) .given .1) (z .result) (z .ensures .1))
 
 returns-3 : tie.Need-returns-3
-returns-3 c = let a = (c .before .before .before .before) in (refl, told _ _ (meaning (nodes (a .args .t .now)) (branch (a .args .b .to) (a .args .b .adds))) (a .args .o) _ ((c .enum-told3) .given .1) true (smaller-within (a .pre .firstIn) (a .pre .secondIn)))
+returns-3 c = let a = (c .before .before .before .before) in (refl, told _ _ (meaning (nodes (a .args .t .now)) (branch (a .args .b .to) (a .args .b .adds))) (a .args .o) _ ((c .enum-told3) .given .1) true (smaller-within (a .pre .first .within) (a .pre .second .within)))
 
 returns-4 : tie.Need-returns-4
-returns-4 c = let a = (c .before .before .before .before) in (refl, told _ _ (meaning (nodes (a .args .t .now)) (branch (a .args .b .to) (a .args .b .adds))) (a .args .o) _ ((c .enum-told4) .given .1) true (larger-within (a .pre .firstIn) (a .pre .secondIn)))
+returns-4 c = let a = (c .before .before .before .before) in (refl, told _ _ (meaning (nodes (a .args .t .now)) (branch (a .args .b .to) (a .args .b .adds))) (a .args .o) _ ((c .enum-told4) .given .1) true (larger-within (a .pre .first .within) (a .pre .second .within)))
 
 same-length-5 : tie.Need-same-length-5
 same-length-5 c = search needs
