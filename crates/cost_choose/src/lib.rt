@@ -1,4 +1,5 @@
 // The engine of CHOOSE: where a rule of a lent rule table is not 0 the first of two costs, else the second, with remembered results in lent scratch words or in the far records.
+use cost_memory::CHOOSE;
 use cost_memory::Memo;
 use cost_nodes::Answer;
 use cost_nodes::Arm;
@@ -92,7 +93,7 @@ fn rest_result(
         return rest_result(r, t, s, m, b, x, y, d);
     }
     let tag = tag_of(k, b);
-    let memo = recall_in(t, s, tag, x, y, d);
+    let memo = recall_in(t, s, CHOOSE, tag, x, y, d);
     if let Memo::Known(z, e) = memo {
         return Answer::Is(z, e);
     }
@@ -103,7 +104,7 @@ fn rest_result(
         let Answer::Is(z, e) = make_in(t, k, goes, adds) else {
             return Answer::NoRoom;
         };
-        remember_in(t, s, tag, x, y, d, z, e);
+        remember_in(t, s, CHOOSE, tag, x, y, d, z, e);
         return Answer::Is(z, e);
     }
     Answer::NoRoom

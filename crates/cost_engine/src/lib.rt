@@ -16,6 +16,7 @@ pub use operators::Operator;
 use operators::ahead_word;
 use operators::end_word;
 use operators::gap_word;
+use operators::number_of;
 use words::head_word;
 use words::narrow;
 use words::wide;
@@ -55,8 +56,9 @@ fn rest_result(
     if k < lowest(t, x, y) {
         return rest_result(t, s, o, k + 1, x, y, d);
     }
+    let number = number_of(o);
     let tag = narrow(k + 1);
-    let memo = recall_in(t, s, tag, x, y, d);
+    let memo = recall_in(t, s, number, tag, x, y, d);
     if let Memo::Known(z, e) = memo {
         return Answer::Is(z, e);
     }
@@ -67,7 +69,7 @@ fn rest_result(
         let Answer::Is(z, e) = make_in(t, k, goes, adds) else {
             return Answer::NoRoom;
         };
-        remember_in(t, s, tag, x, y, d, z, e);
+        remember_in(t, s, number, tag, x, y, d, z, e);
         return Answer::Is(z, e);
     }
     Answer::NoRoom

@@ -1,4 +1,9 @@
 // The operators on costs, in words that stand for integers: what a result adds, and the difference of two targets on the way.
+use cost_memory::ADD;
+use cost_memory::LARGER;
+use cost_memory::SCALE;
+use cost_memory::SMALLER;
+use cost_memory::SUBTRACT;
 use cost_words::difference_word;
 use cost_words::sum_word;
 use words::wide;
@@ -18,6 +23,17 @@ pub enum Operator {
     Smaller,
     Larger,
     Scale(u32),
+}
+
+// The operator's number.
+pub fn number_of(o: Operator) -> u32 {
+    match o {
+        Operator::Add => ADD,
+        Operator::Subtract => SUBTRACT,
+        Operator::Smaller => SMALLER,
+        Operator::Larger => LARGER,
+        Operator::Scale(c) => SCALE,
+    }
 }
 
 // The product of two numbers that is small.

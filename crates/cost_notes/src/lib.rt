@@ -58,8 +58,8 @@ pub fn make_in(t: &mut [u32], k: usize, goes: [u32; 8], adds: [u32; 8]) -> Answe
     make(t, k, goes, adds)
 }
 
-// What is remembered under a tag for two targets and their difference.
-pub fn recall_in(t: &[u32], s: &[u32], tag: u32, x: u32, y: u32, d: u32) -> Memo
+// What is remembered under a tag for two targets and their difference; the operator only chooses the entry.
+pub fn recall_in(t: &[u32], s: &[u32], o: u32, tag: u32, x: u32, y: u32, d: u32) -> Memo
     requires { ⌜ Roomy (now t) ⌝ }
     ensures { λ r. ⌜ Recalls (memory (now (t .entry)) (now (s .entry))) tag x y d r ⌝ }
 {
@@ -67,13 +67,23 @@ pub fn recall_in(t: &[u32], s: &[u32], tag: u32, x: u32, y: u32, d: u32) -> Memo
     if s.len() < n {
         let from = 8192 + n;
         let end = from + n;
-        return recall(&t[from..end], tag, x, y, d);
+        return recall(&t[from..end], o, tag, x, y, d);
     }
-    recall(s, tag, x, y, d)
+    recall(s, o, tag, x, y, d)
 }
 
 // Remembers the result's words z and e.
-pub fn remember_in(t: &mut [u32], s: &mut [u32], tag: u32, x: u32, y: u32, d: u32, z: u32, e: u32)
+pub fn remember_in(
+    t: &mut [u32],
+    s: &mut [u32],
+    o: u32,
+    tag: u32,
+    x: u32,
+    y: u32,
+    d: u32,
+    z: u32,
+    e: u32,
+)
     requires { ⌜ (Roomy (now t)) × (0 < tag) ⌝ }
     ensures { λ _. ⌜ (plain (now (t .exit)) ≡ plain (now (t .entry))) × (Stored (memory (now (t .entry)) (now (s .entry))) (memory (now (t .exit)) (now (s .exit))) tag x y d z e) ⌝ }
 {
@@ -81,8 +91,8 @@ pub fn remember_in(t: &mut [u32], s: &mut [u32], tag: u32, x: u32, y: u32, d: u3
     if s.len() < n {
         let from = 8192 + n;
         let end = from + n;
-        remember(&mut t[from..end], tag, x, y, d, z, e);
+        remember(&mut t[from..end], o, tag, x, y, d, z, e);
         return;
     }
-    remember(s, tag, x, y, d, z, e);
+    remember(s, o, tag, x, y, d, z, e);
 }

@@ -2,7 +2,9 @@
 // root keeps. A sum or a difference stays there at once where these allow it; else a walk over pairs of targets gives its own lowest and highest
 // amount, with remembered results in lent scratch words or in the far records. It stops where one side has ended.
 use cost_engine::Operator;
+use cost_memory::ADD;
 use cost_memory::Memo;
+use cost_memory::SUBTRACT;
 use cost_nodes::Arm;
 use cost_notes::arm_in;
 use cost_notes::kept_in;
@@ -53,6 +55,11 @@ fn tied_word(minus: bool, a: u32, b: u32) -> u32
         return difference_or_lost(a, b);
     }
     sum_or_lost(a, b)
+}
+
+// The number of subtract if `minus`, else of add.
+fn number_of(minus: bool) -> u32 {
+    if minus { SUBTRACT } else { ADD }
 }
 
 // The word of one end.
@@ -122,15 +129,16 @@ fn rest_ends(t: &mut [u32], s: &mut [u32], minus: bool, k: usize, x: u32, y: u32
         return met_ends(minus, kept_in(t, x), kept_in(t, y));
     }
     let j = lowest(t, x, y);
+    let number = number_of(minus);
     let tag = narrow(j + 1);
-    let memo = recall_in(t, s, tag, x, y, 0);
+    let memo = recall_in(t, s, number, tag, x, y, 0);
     if let Memo::Known(l, h) = memo {
         return Ends::Are(l, h);
     }
     let Ends::Are(l, h) = fold_branches(t, s, minus, j, x, y) else {
         return Ends::Lost;
     };
-    remember_in(t, s, tag, x, y, 0, l, h);
+    remember_in(t, s, number, tag, x, y, 0, l, h);
     Ends::Are(l, h)
 }
 

@@ -57,7 +57,7 @@ fn rest_result(
         let next = operands_at(t, f, n, k, ops, 0);
         return rest_result(t, s, o, f, n, k + 1, next);
     }
-    let memo = recall_in(t, s, k, ops);
+    let memo = recall_in(t, s, o, n, k, ops);
     if let Memo::Known(x) = memo {
         return Answer::Is(x);
     }
@@ -67,7 +67,7 @@ fn rest_result(
         let Answer::Is(x) = make_in(t, k, list) else {
             return Answer::NoRoom;
         };
-        remember_in(t, s, k, ops, x);
+        remember_in(t, s, o, n, k, ops, x);
         return Answer::Is(x);
     }
     Answer::NoRoom

@@ -1,9 +1,13 @@
 // What the walk remembers, in lent scratch words or, where these are fewer, in the far records: entries of 11 words, a feature + 1 (0: empty), nine operands, a result.
+use notes::mixed;
+use notes::slot_after;
+use notes::slot_at;
 use words::head_word;
 use words::narrow;
 use words::wide;
 ghost use mathlib.Core.Path.{_≡_};
-ghost use Prim.Native.Nat.{_<_};
+ghost use Prim.Native.Nat.{_+_, _*_, _≤_, _<_};
+ghost use lib.ListN.{length};
 ghost use Rattle.notes.specs.Far.{memory};
 ghost use Rattle.notes.specs.Plain.{Roomy, plain};
 ghost use Rattle.engine.specs.Memory.{Recalls, Stored};
@@ -14,30 +18,26 @@ pub enum Memo {
     Unknown,
 }
 
-// The entry to look in: any will do, and nothing rests on which. All operands and the feature spread over the entries.
-fn slot_of(slots: usize, k: usize, ops: [u32; 9]) -> usize
-    requires { ⌜ (0 < slots) × (k < 16) ⌝ }
+// The entry to begin at, by the operator, the feature and the first n operands.
+fn slot_of(slots: usize, o: u32, n: usize, k: usize, ops: [u32; 9]) -> usize
+    requires { ⌜ (0 < slots) × (n ≤ 9) × (k < 16) ⌝ }
     ensures { λ r. ⌜ r < slots ⌝ }
 {
-    let mut h = k;
+    let mut h = mixed(o, narrow(k));
     let mut j: usize = 0;
-    while j < 9 {
-        h = (h + wide(ops[j])) % 4294967296 * 2654435761 % 4294967296;
+    while j < n {
+        h = mixed(h, ops[j]);
         j += 1;
     }
-    h / 4096 % slots
+    slot_at(h, slots)
 }
 
-// What these words remember for the operands from feature k on.
-fn recall(s: &[u32], k: usize, ops: [u32; 9]) -> Memo
-    requires { ⌜ k < 16 ⌝ }
+// What entry i remembers, where it is for the operands from feature k on.
+fn recall_at(s: &[u32], i: usize, k: usize, ops: [u32; 9]) -> Memo
+    requires { ⌜ (11 * i + 11 ≤ length (now s)) × (k < 16) ⌝ }
     ensures { λ r. ⌜ Recalls (now (s .entry)) k ops r ⌝ }
 {
-    let slots = s.len() / 11;
-    if slots == 0 {
-        return Memo::Unknown;
-    }
-    let base = 11 * slot_of(slots, k, ops);
+    let base = 11 * i;
     if wide(s[base]) != k + 1 {
         return Memo::Unknown;
     }
@@ -51,16 +51,12 @@ fn recall(s: &[u32], k: usize, ops: [u32; 9]) -> Memo
     Memo::Known(s[base + 10])
 }
 
-// Makes these words remember the result x for the operands from feature k on.
-fn remember(s: &mut [u32], k: usize, ops: [u32; 9], x: u32)
-    requires { ⌜ k < 16 ⌝ }
+// Makes entry i remember the result x for the operands from feature k on.
+fn remember_at(s: &mut [u32], i: usize, k: usize, ops: [u32; 9], x: u32)
+    requires { ⌜ (11 * i + 11 ≤ length (now s)) × (k < 16) ⌝ }
     ensures { λ _. ⌜ Stored (now (s .entry)) (now (s .exit)) k ops x ⌝ }
 {
-    let slots = s.len() / 11;
-    if slots == 0 {
-        return;
-    }
-    let base = 11 * slot_of(slots, k, ops);
+    let base = 11 * i;
     s[base] = narrow(k + 1);
     let mut j: usize = 0;
     while j < 9 {
@@ -70,31 +66,65 @@ fn remember(s: &mut [u32], k: usize, ops: [u32; 9], x: u32)
     s[base + 10] = x;
 }
 
+// What these words remember for the n operands from feature k on, in either entry.
+fn recall(s: &[u32], o: u32, n: usize, k: usize, ops: [u32; 9]) -> Memo
+    requires { ⌜ (n ≤ 9) × (k < 16) ⌝ }
+    ensures { λ r. ⌜ Recalls (now (s .entry)) k ops r ⌝ }
+{
+    let slots = s.len() / 11;
+    if slots == 0 {
+        return Memo::Unknown;
+    }
+    let i = slot_of(slots, o, n, k, ops);
+    let memo = recall_at(s, i, k, ops);
+    if let Memo::Known(x) = memo {
+        return memo;
+    }
+    recall_at(s, slot_after(i, slots), k, ops)
+}
+
+// Makes these words remember the result x for the n operands from feature k on: in the first entry if that is empty, else in the one after it.
+fn remember(s: &mut [u32], o: u32, n: usize, k: usize, ops: [u32; 9], x: u32)
+    requires { ⌜ (n ≤ 9) × (k < 16) ⌝ }
+    ensures { λ _. ⌜ Stored (now (s .entry)) (now (s .exit)) k ops x ⌝ }
+{
+    let slots = s.len() / 11;
+    if slots == 0 {
+        return;
+    }
+    let i = slot_of(slots, o, n, k, ops);
+    if s[11 * i] == 0 {
+        remember_at(s, i, k, ops, x);
+        return;
+    }
+    remember_at(s, slot_after(i, slots), k, ops, x);
+}
+
 // What is remembered for the operands from feature k on.
-pub fn recall_in(t: &[u32], s: &[u32], k: usize, ops: [u32; 9]) -> Memo
-    requires { ⌜ (Roomy (now t)) × (k < 16) ⌝ }
+pub fn recall_in(t: &[u32], s: &[u32], o: u32, n: usize, k: usize, ops: [u32; 9]) -> Memo
+    requires { ⌜ (Roomy (now t)) × (n ≤ 9) × (k < 16) ⌝ }
     ensures { λ r. ⌜ Recalls (memory (now (t .entry)) (now (s .entry))) k ops r ⌝ }
 {
-    let n = 16 * wide(head_word(t, 1));
-    if s.len() < n {
-        let from = 8192 + n;
-        let end = from + n;
-        return recall(&t[from..end], k, ops);
+    let room = 16 * wide(head_word(t, 1));
+    if s.len() < room {
+        let from = 8192 + room;
+        let end = from + room;
+        return recall(&t[from..end], o, n, k, ops);
     }
-    recall(s, k, ops)
+    recall(s, o, n, k, ops)
 }
 
 // Remembers the result x for the operands from feature k on.
-pub fn remember_in(t: &mut [u32], s: &mut [u32], k: usize, ops: [u32; 9], x: u32)
-    requires { ⌜ (Roomy (now t)) × (k < 16) ⌝ }
+pub fn remember_in(t: &mut [u32], s: &mut [u32], o: u32, n: usize, k: usize, ops: [u32; 9], x: u32)
+    requires { ⌜ (Roomy (now t)) × (n ≤ 9) × (k < 16) ⌝ }
     ensures { λ _. ⌜ (plain (now (t .exit)) ≡ plain (now (t .entry))) × (Stored (memory (now (t .entry)) (now (s .entry))) (memory (now (t .exit)) (now (s .exit))) k ops x) ⌝ }
 {
-    let n = 16 * wide(head_word(t, 1));
-    if s.len() < n {
-        let from = 8192 + n;
-        let end = from + n;
-        remember(&mut t[from..end], k, ops, x);
+    let room = 16 * wide(head_word(t, 1));
+    if s.len() < room {
+        let from = 8192 + room;
+        let end = from + room;
+        remember(&mut t[from..end], o, n, k, ops, x);
         return;
     }
-    remember(s, k, ops, x);
+    remember(s, o, n, k, ops, x);
 }

@@ -1,4 +1,9 @@
 // Words of a call's own in the far records of a table, which are 0 at rest: the words without them, and how they are taken away.
+mod slots; // slots.rt: which entries a result is remembered in
+
+pub use slots::mixed;
+pub use slots::slot_after;
+pub use slots::slot_at;
 use words::head_word;
 use words::wide;
 ghost use mathlib.Core.Path.{_≡_};

@@ -1,4 +1,5 @@
 // The engine of less: a walk over two costs of a cost table builds the rule "first below second" in a rule table, with remembered results in lent scratch words.
+use cost_memory::LESS;
 use cost_memory::Memo;
 use cost_memory::recall;
 use cost_memory::remember;
@@ -55,7 +56,7 @@ fn rest_result(c: &[u32], t: &mut [u32], s: &mut [u32], k: usize, x: u32, y: u32
         }
     }
     let tag = narrow(k + 1);
-    let memo = recall(s, tag, x, y, d);
+    let memo = recall(s, LESS, tag, x, y, d);
     if let Memo::Known(z, e) = memo {
         return Answer::Is(z);
     }
@@ -65,7 +66,7 @@ fn rest_result(c: &[u32], t: &mut [u32], s: &mut [u32], k: usize, x: u32, y: u32
         let Answer::Is(z) = make(t, k, list) else {
             return Answer::NoRoom;
         };
-        remember(s, tag, x, y, d, z, 0);
+        remember(s, LESS, tag, x, y, d, z, 0);
         return Answer::Is(z);
     }
     Answer::NoRoom

@@ -48,6 +48,7 @@ use Rattle.cost_notes.proofs.arm_in.Reads as arm-in-reads
 use Rattle.cost_notes.proofs.make_in.Reads as make-in-reads
 use Rattle.cost_words.proofs.sum_word.Reads as sum-word-reads
 use Rattle.words.proofs.head_word.Reads as head-word-reads
+use Rattle.cost_engine.proofs.operators.number_of.Reads as number-of-reads
 use Rattle.words.proofs.narrow.Reads as narrow-reads
 use Rattle.words.proofs.wide.Reads as wide-reads
 use Rattle.cost_engine.proofs.+branch_result+fill_branches+rest_result.{statement}
@@ -101,7 +102,7 @@ abbrev fill-branches-claims : ℕ → fill-branches-lts.Claims
 fill-branches-claims t = (head-word-reads.Asked, head-word-reads.Learnt, wide-reads.Asked, wide-reads.Learnt, arm-in-reads.Asked, arm-in-reads.Learnt, branch-result-below t, branch-result.Post)
 
 abbrev rest-result-claims : ℕ → rest-result-lts.Claims
-rest-result-claims t = (end-word-reads.Asked, end-word-reads.Learnt, lowest-reads.Asked, lowest-reads.Learnt, rest-result-below t, rest-result.Post, narrow-reads.Asked, narrow-reads.Learnt, recall-in-reads.Asked, recall-in-reads.Learnt, fill-branches-below t, fill-branches.Post, make-in-reads.Asked, make-in-reads.Learnt, remember-in-reads.Asked, remember-in-reads.Learnt)
+rest-result-claims t = (end-word-reads.Asked, end-word-reads.Learnt, lowest-reads.Asked, lowest-reads.Learnt, rest-result-below t, rest-result.Post, number-of-reads.Asked, number-of-reads.Learnt, narrow-reads.Asked, narrow-reads.Learnt, recall-in-reads.Asked, recall-in-reads.Learnt, fill-branches-below t, fill-branches.Post, make-in-reads.Asked, make-in-reads.Learnt, remember-in-reads.Asked, remember-in-reads.Learnt)
 
 branch-result-gap-word-requires : (t : ℕ) → branch-result-lts.Need-gap-word-requires (branch-result-claims t) (branch-result-at t) branch-result.Post
 branch-result-gap-word-requires t c κs = operands-more _ _ _ _ _ _ ((c .before .before) .pre .1 .0 .rest)
@@ -300,16 +301,19 @@ rest-result-returns-2 : (t : ℕ) → rest-result-lts.Need-returns-2 (rest-resul
 rest-result-returns-2 t c = let a = (c .before .before .before .before .before .before .before .before .before .before .before .before .before) in
     (joint-skip _ _ _ _ _ _ (a .pre .1 .0) ((c .before .before .before .before .before .before .before .before .lowest) .result) ((c .before .before .before .before .before .before .before .before .lowest) .ensures .0) ((c .before .before .before .before .before .before .before .before .lowest) .ensures .1) (omega (arith, (c .before .before .before .before .before .before .before .if2))) _ ((c .before .before .before .before .rest-result) .result) ((c .before .before .before .before .rest-result) .ensures .0), (c .before .before .before .before .rest-result) .ensures .1)
 
+rest-result-number-of-requires : (t : ℕ) → rest-result-lts.Need-number-of-requires (rest-result-claims t) (rest-result-at t) rest-result.Post
+rest-result-number-of-requires t c κs = search needs
+
 rest-result-add-narrow : (t : ℕ) → rest-result-lts.Need-add-narrow (rest-result-claims t) (rest-result-at t) rest-result.Post
 rest-result-add-narrow t c = search needs
 
 rest-result-narrow-requires : (t : ℕ) → rest-result-lts.Need-narrow-requires (rest-result-claims t) (rest-result-at t) rest-result.Post
-rest-result-narrow-requires t c κs = let a = (c .before .before .before .before .before .before) in
-    let hk = still-left _ _ _ _ _ _ (a .pre .1 .0) ((c .before .before .before .if1) .left) in
+rest-result-narrow-requires t c κs = let a = (c .before .before .before .before .before .before .before) in
+    let hk = still-left _ _ _ _ _ _ (a .pre .1 .0) ((c .before .before .before .before .if1) .left) in
     omega (arith, a .pre .1 .0 .holds .laid .laid .few)
 
 rest-result-recall-in-requires : (t : ℕ) → rest-result-lts.Need-recall-in-requires (rest-result-claims t) (rest-result-at t) rest-result.Post
-rest-result-recall-in-requires t c κs = (c .before .before .before .before .before .before .before .before .before) .pre .1 .1 .room
+rest-result-recall-in-requires t c κs = (c .before .before .before .before .before .before .before .before .before .before) .pre .1 .1 .room
 
 rest-result-enum-known-memo : (t : ℕ) → rest-result-lts.Need-enum-known-memo (rest-result-claims t) (rest-result-at t) rest-result.Post
 rest-result-enum-known-memo t c = search needs
@@ -321,7 +325,7 @@ rest-result-same-length-4 : (t : ℕ) → rest-result-lts.Need-same-length-4 (re
 rest-result-same-length-4 t c = search needs
 
 rest-result-returns-3 : (t : ℕ) → rest-result-lts.Need-returns-3 (rest-result-claims t) (rest-result-at t) rest-result.Post
-rest-result-returns-3 t c = let a = (c .before .before .before .before .before .before .before .before .before .before .before .before .before) in
+rest-result-returns-3 t c = let a = (c .before .before .before .before .before .before .before .before .before .before .before .before .before .before) in
     let h = hit (memory (a .args .t .now) (a .args .s .now)) ((c .before .before .before .before .before .before .narrow) .result) (a .args .x) (a .args .y) (a .args .d) _ _ _ (a .pre .1 .1 .right) ((c .before .before .before .recall-in) .ensures) ((c .before .memo) .given .1) (omega (arith, (c .before .before .before .before .before .before .narrow) .ensures)) in
     (recalled-result _ _ ((c .before .before .before .before .before .before .narrow) .result) (a .args .k) _ _ (a .args .d) _ _ (a .pre .1 .0) ((c .before .before .before .before .before .before .narrow) .ensures) h, a .pre .1 .1)
 
@@ -329,14 +333,14 @@ rest-result-enum-told : (t : ℕ) → rest-result-lts.Need-enum-told (rest-resul
 rest-result-enum-told t c = search needs
 
 rest-result-fill-branches-requires : (t : ℕ) → rest-result-lts.Need-fill-branches-requires (rest-result-claims t) (rest-result-at t) rest-result.Post
-rest-result-fill-branches-requires t c κs = let a = (c .before .before .before .before .before .before .before .before .before .before .before .before .before .before) in
-    let hk = still-left _ _ _ _ _ _ (a .pre .1 .0) ((c .before .before .before .before .before .before .before .before .before .before .before .if1) .left) in
+rest-result-fill-branches-requires t c κs = let a = (c .before .before .before .before .before .before .before .before .before .before .before .before .before .before .before) in
+    let hk = still-left _ _ _ _ _ _ (a .pre .1 .0) ((c .before .before .before .before .before .before .before .before .before .before .before .before .if1) .left) in
     (omega arith, (a .pre .1 .0, a .pre .1 .1, hk))
 
 rest-result-make-in-requires : (t : ℕ) → rest-result-lts.Need-make-in-requires (rest-result-claims t) (rest-result-at t) rest-result.Post
-rest-result-make-in-requires t c κs = let a = (c .before .before .before .before .before .before .before .before .before .before .before .before .before .before .before .before .before .before .before .before .before .before .before) in
+rest-result-make-in-requires t c κs = let a = (c .before .before .before .before .before .before .before .before .before .before .before .before .before .before .before .before .before .before .before .before .before .before .before .before) in
     let g : Cost = jointFrom (a .args .o) (nodes (plain (a .args .t .now))) (a .args .k) (target (a .args .x)) (target (a .args .y)) (int (a .args .d)) in
-    let hk = still-left _ _ _ _ _ _ (a .pre .1 .0) ((c .before .before .before .before .before .before .before .before .before .before .before .before .before .before .before .before .before .before .before .before .if1) .left) in
+    let hk = still-left _ _ _ _ _ _ (a .pre .1 .0) ((c .before .before .before .before .before .before .before .before .before .before .before .before .before .before .before .before .before .before .before .before .before .if1) .left) in
     let fl = filled _ _ _ g _ _ _ ((c .before .before .before .if3) .taken) ((c .before .before .before .before .before .before .before .before .fill-branches) .ensures .0) in
     let nr = filling-narrow (plain (a .args .t .now)) (a .args .k) g (a .pre .1 .0 .holds) hk _ _ _ _ fl (le-refl _) (a .pre .1 .0 .bounded .spread) (a .pre .1 .0 .narrow) in
     let paired = holds-passed _ (fl .filled .grown .well) nr in (
@@ -360,9 +364,9 @@ rest-result-same-length-6 : (t : ℕ) → rest-result-lts.Need-same-length-6 (re
 rest-result-same-length-6 t c = search needs
 
 rest-result-returns-4 : (t : ℕ) → rest-result-lts.Need-returns-4 (rest-result-claims t) (rest-result-at t) rest-result.Post
-rest-result-returns-4 t c = let a = (c .before .before .before .before .before .before .before .before .before .before .before .before .before .before .before .before .before .before .before .before .before .before .before .before .before .before .before .before) in
+rest-result-returns-4 t c = let a = (c .before .before .before .before .before .before .before .before .before .before .before .before .before .before .before .before .before .before .before .before .before .before .before .before .before .before .before .before .before) in
     let g : Cost = jointFrom (a .args .o) (nodes (plain (a .args .t .now))) (a .args .k) (target (a .args .x)) (target (a .args .y)) (int (a .args .d)) in
-    let hk = still-left _ _ _ _ _ _ (a .pre .1 .0) ((c .before .before .before .before .before .before .before .before .before .before .before .before .before .before .before .before .before .before .before .before .before .before .before .before .before .if1) .left) in
+    let hk = still-left _ _ _ _ _ _ (a .pre .1 .0) ((c .before .before .before .before .before .before .before .before .before .before .before .before .before .before .before .before .before .before .before .before .before .before .before .before .before .before .if1) .left) in
     let fl = filled _ _ _ g _ _ _ ((c .before .before .before .before .before .before .before .before .if3) .taken) ((c .before .before .before .before .before .before .before .before .before .before .before .before .before .fill-branches) .ensures .0) in
     (gives-none ((c .enum-told2) .given .1) (fill-make (plain (a .args .t .now)) (a .args .k) g (a .pre .1 .0 .holds) hk _ _ _ _ ((c .before .before .before .before .make-in) .result) fl ((c .before .before .before .before .make-in) .ensures .0)), tt)
 
@@ -377,9 +381,9 @@ rest-result-same-length-8 : (t : ℕ) → rest-result-lts.Need-same-length-8 (re
 rest-result-same-length-8 t c = search needs
 
 rest-result-returns-5 : (t : ℕ) → rest-result-lts.Need-returns-5 (rest-result-claims t) (rest-result-at t) rest-result.Post
-rest-result-returns-5 t c = let a = (c .before .before .before .before .before .before .before .before .before .before .before .before .before .before .before .before .before .before .before .before .before .before .before .before .before .before .before .before .before .before .before .before .before .before .before .before) in
+rest-result-returns-5 t c = let a = (c .before .before .before .before .before .before .before .before .before .before .before .before .before .before .before .before .before .before .before .before .before .before .before .before .before .before .before .before .before .before .before .before .before .before .before .before .before) in
     let g : Cost = jointFrom (a .args .o) (nodes (plain (a .args .t .now))) (a .args .k) (target (a .args .x)) (target (a .args .y)) (int (a .args .d)) in
-    let hk = still-left _ _ _ _ _ _ (a .pre .1 .0) ((c .before .before .before .before .before .before .before .before .before .before .before .before .before .before .before .before .before .before .before .before .before .before .before .before .before .before .before .before .before .before .before .before .before .if1) .left) in
+    let hk = still-left _ _ _ _ _ _ (a .pre .1 .0) ((c .before .before .before .before .before .before .before .before .before .before .before .before .before .before .before .before .before .before .before .before .before .before .before .before .before .before .before .before .before .before .before .before .before .before .if1) .left) in
     let fl = filled _ _ _ g _ _ _ ((c .before .before .before .before .before .before .before .before .before .before .before .before .before .before .before .before .if3) .taken) ((c .before .before .before .before .before .before .before .before .before .before .before .before .before .before .before .before .before .before .before .before .before .fill-branches) .ensures .0) in
     let q = (c .before .before .before .before .before .before .before .before .z) .given .1 in
     let re = gives-is q (fill-make (plain (a .args .t .now)) (a .args .k) g (a .pre .1 .0 .holds) hk _ _ _ _ ((c .before .before .before .before .before .before .before .before .before .before .before .before .make-in) .result) fl ((c .before .before .before .before .before .before .before .before .before .before .before .before .make-in) .ensures .0)) in
@@ -395,9 +399,9 @@ rest-result-same-length-10 : (t : ℕ) → rest-result-lts.Need-same-length-10 (
 rest-result-same-length-10 t c = search needs
 
 rest-result-returns-6 : (t : ℕ) → rest-result-lts.Need-returns-6 (rest-result-claims t) (rest-result-at t) rest-result.Post
-rest-result-returns-6 t c = let a = (c .before .before .before .before .before .before .before .before .before .before .before .before .before .before .before .before .before .before .before .before) in
+rest-result-returns-6 t c = let a = (c .before .before .before .before .before .before .before .before .before .before .before .before .before .before .before .before .before .before .before .before .before) in
     let g : Cost = jointFrom (a .args .o) (nodes (plain (a .args .t .now))) (a .args .k) (target (a .args .x)) (target (a .args .y)) (int (a .args .d)) in
-    let hk = still-left _ _ _ _ _ _ (a .pre .1 .0) ((c .before .before .before .before .before .before .before .before .before .before .before .before .before .before .before .before .before .if1) .left) in
+    let hk = still-left _ _ _ _ _ _ (a .pre .1 .0) ((c .before .before .before .before .before .before .before .before .before .before .before .before .before .before .before .before .before .before .if1) .left) in
     (stop-result (plain (a .args .t .now)) (a .args .k) g (a .pre .1 .0 .holds) hk _ (not-filled _ _ _ g _ _ _ ((c .if3) .left) ((c .before .before .before .before .before .fill-branches) .ensures .0)), tt)
 
 pub +branch-result+fill-branches+rest-result-spec : {M : Type 1} → statement M
@@ -457,6 +461,7 @@ pub +branch-result+fill-branches+rest-result-spec : {M : Type 1} → statement M
     (rest-result-same-length t)
     (rest-result-same-length-2 t)
     (rest-result-returns-2 t)
+    (rest-result-number-of-requires t)
     (rest-result-add-narrow t)
     (rest-result-narrow-requires t)
     (rest-result-recall-in-requires t)

@@ -1,7 +1,5 @@
--- `cost_memory::remember` meets its contract: six words of one entry are written. Assumes nothing.
-use Rattle.cost_memory.proofs.Remembering.{stored-none, stored}
-use lib.ListN.{length-set}
-use native.Mathlib.Omega.{arith}
+-- `cost_memory::remember` meets its contract: one entry is written, where there is one. Assumes nothing.
+use Rattle.cost_memory.proofs.Remembering.{stored-none}
 use borrow.Author.Needs.{needs}
 use Rattle.cost_memory.proofs.remember.Statement.{statement}
 use Rattle.cost_memory.proofs.remember.Tie as tie
@@ -12,65 +10,35 @@ returns c = stored-none _ _ _ _ _ _ _
 slot-of-requires : tie.Need-slot-of-requires
 slot-of-requires c κs = search needs
 
-mul-base : tie.Need-mul-base
-mul-base c = search needs
+mul-if2 : tie.Need-mul-if2
+mul-if2 c = search needs
 
-mul-s : tie.Need-mul-s
-mul-s c = search needs
+mul-if2-2 : tie.Need-mul-if2-2
+mul-if2-2 c = search needs
 
-slice-write-s : tie.Need-slice-write-s
-slice-write-s c = search needs
+slice-read-if2 : tie.Need-slice-read-if2
+slice-read-if2 c = search needs
 
-add-s : tie.Need-add-s
-add-s c = search needs
-
-mul-s-2 : tie.Need-mul-s-2
-mul-s-2 c = search needs
-
-slice-write-s-2 : tie.Need-slice-write-s-2
-slice-write-s-2 c = simp length-set (omega arith)
-
-add-s-2 : tie.Need-add-s-2
-add-s-2 c = search needs
-
-mul-s-3 : tie.Need-mul-s-3
-mul-s-3 c = search needs
-
-slice-write-s-3 : tie.Need-slice-write-s-3
-slice-write-s-3 c = simp length-set (omega arith)
-
-add-s-3 : tie.Need-add-s-3
-add-s-3 c = search needs
-
-mul-s-4 : tie.Need-mul-s-4
-mul-s-4 c = search needs
-
-slice-write-s-4 : tie.Need-slice-write-s-4
-slice-write-s-4 c = simp length-set (omega arith)
-
-add-s-4 : tie.Need-add-s-4
-add-s-4 c = search needs
-
-mul-s-5 : tie.Need-mul-s-5
-mul-s-5 c = search needs
-
-slice-write-s-5 : tie.Need-slice-write-s-5
-slice-write-s-5 c = simp length-set (omega arith)
-
-add-s-5 : tie.Need-add-s-5
-add-s-5 c = search needs
-
-mul-s-6 : tie.Need-mul-s-6
-mul-s-6 c = search needs
-
-slice-write-s-6 : tie.Need-slice-write-s-6
-slice-write-s-6 c = simp length-set (omega arith)
+remember-at-requires : tie.Need-remember-at-requires
+remember-at-requires c κs = search needs
 
 same-length : tie.Need-same-length
-same-length c = simp length-set
+same-length c = search needs
 
 returns-2 : tie.Need-returns-2
-returns-2 c = stored ((c .before .before .before) .args .s .now) ((c .slot-of) .result) ((c .before .before .before) .args .tag) ((c .before .before .before) .args .x) ((c .before .before .before) .args .y) ((c .before .before .before) .args .d) ((c .before .before .before) .args .z) ((c .before .before .before) .args .e) (omega arith)
+returns-2 c = search needs
+
+slot-after-requires : tie.Need-slot-after-requires
+slot-after-requires c κs = search needs
+
+remember-at-requires-2 : tie.Need-remember-at-requires-2
+remember-at-requires-2 c κs = search needs
+
+same-length-2 : tie.Need-same-length-2
+same-length-2 c = search needs
+
+returns-3 : tie.Need-returns-3
+returns-3 c = search needs
 
 pub remember-spec : {M : Type 1} → statement M
 remember-spec =
@@ -78,23 +46,13 @@ remember-spec =
     (tie.spec
     returns
     slot-of-requires
-    mul-base
-    mul-s
-    slice-write-s
-    add-s
-    mul-s-2
-    slice-write-s-2
-    add-s-2
-    mul-s-3
-    slice-write-s-3
-    add-s-3
-    mul-s-4
-    slice-write-s-4
-    add-s-4
-    mul-s-5
-    slice-write-s-5
-    add-s-5
-    mul-s-6
-    slice-write-s-6
+    mul-if2
+    mul-if2-2
+    slice-read-if2
+    remember-at-requires
     same-length
-    returns-2)
+    returns-2
+    slot-after-requires
+    remember-at-requires-2
+    same-length-2
+    returns-3)

@@ -38,6 +38,7 @@ use Rattle.cost_range.proofs.met_ends.Reads as met-ends-reads
 use Rattle.cost_range.proofs.tied_word.Reads as tied-word-reads
 use Rattle.cost_words.proofs.sum_or_lost.Reads as sum-or-lost-reads
 use Rattle.words.proofs.head_word.Reads as head-word-reads
+use Rattle.cost_range.proofs.number_of.Reads as number-of-reads
 use Rattle.words.proofs.narrow.Reads as narrow-reads
 use Rattle.words.proofs.wide.Reads as wide-reads
 use Rattle.cost_range.proofs.+branch_ends+fold_branches+rest_ends.{statement}
@@ -86,7 +87,7 @@ abbrev fold-branches-claims : ℕ → fold-branches-lts.Claims
 fold-branches-claims t = (head-word-reads.Asked, head-word-reads.Learnt, wide-reads.Asked, wide-reads.Learnt, arm-in-reads.Asked, arm-in-reads.Learnt, branch-ends-below t, branch-ends.Post, furthest-reads.Asked, furthest-reads.Learnt)
 
 abbrev rest-ends-claims : ℕ → rest-ends-lts.Claims
-rest-ends-claims t = (kept-in-reads.Asked, kept-in-reads.Learnt, met-ends-reads.Asked, met-ends-reads.Learnt, lowest-reads.Asked, lowest-reads.Learnt, narrow-reads.Asked, narrow-reads.Learnt, recall-in-reads.Asked, recall-in-reads.Learnt, fold-branches-below t, fold-branches.Post, remember-in-reads.Asked, remember-in-reads.Learnt)
+rest-ends-claims t = (kept-in-reads.Asked, kept-in-reads.Learnt, met-ends-reads.Asked, met-ends-reads.Learnt, lowest-reads.Asked, lowest-reads.Learnt, number-of-reads.Asked, number-of-reads.Learnt, narrow-reads.Asked, narrow-reads.Learnt, recall-in-reads.Asked, recall-in-reads.Learnt, fold-branches-below t, fold-branches.Post, remember-in-reads.Asked, remember-in-reads.Learnt)
 
 branch-ends-tied-word-requires : (t : ℕ) → branch-ends-lts.Need-tied-word-requires (branch-ends-claims t) (branch-ends-at t) branch-ends.Post
 branch-ends-tied-word-requires t c κs = search needs
@@ -277,18 +278,21 @@ rest-ends-returns-2 t c = let a = (c .before .before .before .before .before .be
 rest-ends-lowest-requires : (t : ℕ) → rest-ends-lts.Need-lowest-requires (rest-ends-claims t) (rest-ends-at t) rest-ends.Post
 rest-ends-lowest-requires t c κs = let a = (c .before .before .before .before .before) in (a .pre .1 .0 .holds .laid .laid, good-small _ _ _ (a .pre .1 .0 .first), good-small _ _ _ (a .pre .1 .0 .second))
 
+rest-ends-number-of-requires : (t : ℕ) → rest-ends-lts.Need-number-of-requires (rest-ends-claims t) (rest-ends-at t) rest-ends.Post
+rest-ends-number-of-requires t c κs = search needs
+
 rest-ends-add-narrow : (t : ℕ) → rest-ends-lts.Need-add-narrow (rest-ends-claims t) (rest-ends-at t) rest-ends.Post
-rest-ends-add-narrow t c = let a = (c .before .before .before .before .before .before) in let m = (c .lowest) in
-    let hj = pair-left _ _ _ _ (a .pre .1 .0) (m .result) (m .ensures .0) (m .ensures .1) ((c .before .before .before .if1) .left) in
+rest-ends-add-narrow t c = let a = (c .before .before .before .before .before .before .before) in let m = (c .before .lowest) in
+    let hj = pair-left _ _ _ _ (a .pre .1 .0) (m .result) (m .ensures .0) (m .ensures .1) ((c .before .before .before .before .if1) .left) in
     omega (arith, a .pre .1 .0 .holds .laid .laid .few)
 
 rest-ends-narrow-requires : (t : ℕ) → rest-ends-lts.Need-narrow-requires (rest-ends-claims t) (rest-ends-at t) rest-ends.Post
-rest-ends-narrow-requires t c κs = let a = (c .before .before .before .before .before .before) in let m = (c .lowest) in
-    let hj = pair-left _ _ _ _ (a .pre .1 .0) (m .result) (m .ensures .0) (m .ensures .1) ((c .before .before .before .if1) .left) in
+rest-ends-narrow-requires t c κs = let a = (c .before .before .before .before .before .before .before) in let m = (c .before .lowest) in
+    let hj = pair-left _ _ _ _ (a .pre .1 .0) (m .result) (m .ensures .0) (m .ensures .1) ((c .before .before .before .before .if1) .left) in
     omega (arith, a .pre .1 .0 .holds .laid .laid .few)
 
 rest-ends-recall-in-requires : (t : ℕ) → rest-ends-lts.Need-recall-in-requires (rest-ends-claims t) (rest-ends-at t) rest-ends.Post
-rest-ends-recall-in-requires t c κs = (c .before .before .before .before .before .before .before .before .before) .pre .1 .1 .room
+rest-ends-recall-in-requires t c κs = (c .before .before .before .before .before .before .before .before .before .before) .pre .1 .1 .room
 
 rest-ends-enum-known-memo : (t : ℕ) → rest-ends-lts.Need-enum-known-memo (rest-ends-claims t) (rest-ends-at t) rest-ends.Post
 rest-ends-enum-known-memo t c = search needs
@@ -300,10 +304,10 @@ rest-ends-same-length-4 : (t : ℕ) → rest-ends-lts.Need-same-length-4 (rest-e
 rest-ends-same-length-4 t c = search needs
 
 rest-ends-returns-3 : (t : ℕ) → rest-ends-lts.Need-returns-3 (rest-ends-claims t) (rest-ends-at t) rest-ends.Post
-rest-ends-returns-3 t c = let a = (c .before .before .before .before .before .before .before .before .before .before .before .before .before) in let m = (c .before .before .before .before .before .before .before .lowest) in
+rest-ends-returns-3 t c = let a = (c .before .before .before .before .before .before .before .before .before .before .before .before .before .before) in let m = (c .before .before .before .before .before .before .before .before .lowest) in
     let p = a .pre .1 .0 in
     let j = m .result in
-    let hj = pair-left _ _ _ _ p j (m .ensures .0) (m .ensures .1) ((c .before .before .before .before .before .before .before .before .before .before .if1) .left) in
+    let hj = pair-left _ _ _ _ p j (m .ensures .0) (m .ensures .1) ((c .before .before .before .before .before .before .before .before .before .before .before .if1) .left) in
     let kj = pair-from _ _ _ _ p j (m .ensures .0) (m .ensures .1) (m .ensures .2) in
     let h = noted-hit (a .args .t .now) (a .args .s .now) ((c .before .before .before .before .before .before .narrow) .result) (a .args .x) (a .args .y) 0 _ _ _ (a .pre .1 .1) ((c .before .before .before .recall-in) .ensures) ((c .before .memo) .given .1) (omega (arith, (c .before .before .before .before .before .before .narrow) .ensures)) in
     (reaches-jump _ _ _ _ p (a .args .minus) j (m .ensures .0) (m .ensures .1) kj hj (Are _ _) (h .at j ((c .before .before .before .before .before .before .narrow) .ensures)), refl, a .pre .1 .1)
@@ -312,10 +316,10 @@ rest-ends-enum-told : (t : ℕ) → rest-ends-lts.Need-enum-told (rest-ends-clai
 rest-ends-enum-told t c = search needs
 
 rest-ends-fold-branches-requires : (t : ℕ) → rest-ends-lts.Need-fold-branches-requires (rest-ends-claims t) (rest-ends-at t) rest-ends.Post
-rest-ends-fold-branches-requires t c κs = let a = (c .before .before .before .before .before .before .before .before .before .before .before .before .before .before) in let m = (c .before .before .before .before .before .before .before .before .lowest) in
+rest-ends-fold-branches-requires t c κs = let a = (c .before .before .before .before .before .before .before .before .before .before .before .before .before .before .before) in let m = (c .before .before .before .before .before .before .before .before .before .lowest) in
     let p = a .pre .1 .0 in
     let j = m .result in
-    let hj = pair-left _ _ _ _ p j (m .ensures .0) (m .ensures .1) ((c .before .before .before .before .before .before .before .before .before .before .before .if1) .left) in
+    let hj = pair-left _ _ _ _ p j (m .ensures .0) (m .ensures .1) ((c .before .before .before .before .before .before .before .before .before .before .before .before .if1) .left) in
     let kj = pair-from _ _ _ _ p j (m .ensures .0) (m .ensures .1) (m .ensures .2) in
     (omega arith, (pair-jump _ _ _ _ p j (m .ensures .0) (m .ensures .1) hj, a .pre .1 .1, hj))
 
@@ -332,10 +336,10 @@ rest-ends-same-length-6 : (t : ℕ) → rest-ends-lts.Need-same-length-6 (rest-e
 rest-ends-same-length-6 t c = search needs
 
 rest-ends-returns-4 : (t : ℕ) → rest-ends-lts.Need-returns-4 (rest-ends-claims t) (rest-ends-at t) rest-ends.Post
-rest-ends-returns-4 t c = let a = (c .before .before .before .before .before .before .before .before .before .before .before .before .before .before .before .before .before .before .before .before .before) in let m = (c .before .before .before .before .before .before .before .before .before .before .before .before .before .before .before .lowest) in let z = (c .before .before .before .before .before .before .fold-branches) in
+rest-ends-returns-4 t c = let a = (c .before .before .before .before .before .before .before .before .before .before .before .before .before .before .before .before .before .before .before .before .before .before) in let m = (c .before .before .before .before .before .before .before .before .before .before .before .before .before .before .before .before .lowest) in let z = (c .before .before .before .before .before .before .fold-branches) in
     let p = a .pre .1 .0 in
     let j = m .result in
-    let hj = pair-left _ _ _ _ p j (m .ensures .0) (m .ensures .1) ((c .before .before .before .before .before .before .before .before .before .before .before .before .before .before .before .before .before .before .if1) .left) in
+    let hj = pair-left _ _ _ _ p j (m .ensures .0) (m .ensures .1) ((c .before .before .before .before .before .before .before .before .before .before .before .before .before .before .before .before .before .before .before .if1) .left) in
     let kj = pair-from _ _ _ _ p j (m .ensures .0) (m .ensures .1) (m .ensures .2) in
     (reaches-jump _ _ _ _ p (a .args .minus) j (m .ensures .0) (m .ensures .1) kj hj Lost (ends-lost (z .result) ((c .enum-told2) .given .1) (z .ensures .0)), z .ensures .1, z .ensures .2)
 
@@ -349,10 +353,10 @@ rest-ends-same-length-8 : (t : ℕ) → rest-ends-lts.Need-same-length-8 (rest-e
 rest-ends-same-length-8 t c = search needs
 
 rest-ends-returns-5 : (t : ℕ) → rest-ends-lts.Need-returns-5 (rest-ends-claims t) (rest-ends-at t) rest-ends.Post
-rest-ends-returns-5 t c = let a = (c .before .before .before .before .before .before .before .before .before .before .before .before .before .before .before .before .before .before .before .before .before .before .before .before .before .before .before .before .before) in let m = (c .before .before .before .before .before .before .before .before .before .before .before .before .before .before .before .before .before .before .before .before .before .before .before .lowest) in let z = (c .before .before .before .before .before .before .before .before .before .before .before .before .before .before .fold-branches) in let u = (c .before .before .before .before .remember-in) in
+rest-ends-returns-5 t c = let a = (c .before .before .before .before .before .before .before .before .before .before .before .before .before .before .before .before .before .before .before .before .before .before .before .before .before .before .before .before .before .before) in let m = (c .before .before .before .before .before .before .before .before .before .before .before .before .before .before .before .before .before .before .before .before .before .before .before .before .lowest) in let z = (c .before .before .before .before .before .before .before .before .before .before .before .before .before .before .fold-branches) in let u = (c .before .before .before .before .remember-in) in
     let p = a .pre .1 .0 in
     let j = m .result in
-    let hj = pair-left _ _ _ _ p j (m .ensures .0) (m .ensures .1) ((c .before .before .before .before .before .before .before .before .before .before .before .before .before .before .before .before .before .before .before .before .before .before .before .before .before .before .if1) .left) in
+    let hj = pair-left _ _ _ _ p j (m .ensures .0) (m .ensures .1) ((c .before .before .before .before .before .before .before .before .before .before .before .before .before .before .before .before .before .before .before .before .before .before .before .before .before .before .before .if1) .left) in
     let kj = pair-from _ _ _ _ p j (m .ensures .0) (m .ensures .1) (m .ensures .2) in
     let q = ends-are (z .result) ((c .before .before .before .before .before .before .before .before .l) .given .1) (z .ensures .0) in (
       reaches-jump _ _ _ _ p (a .args .minus) j (m .ensures .0) (m .ensures .1) kj hj (Are _ _) q,
@@ -424,6 +428,7 @@ pub +branch-ends+fold-branches+rest-ends-spec : {M : Type 1} → statement M
     (rest-ends-same-length-2 t)
     (rest-ends-returns-2 t)
     (rest-ends-lowest-requires t)
+    (rest-ends-number-of-requires t)
     (rest-ends-add-narrow t)
     (rest-ends-narrow-requires t)
     (rest-ends-recall-in-requires t)

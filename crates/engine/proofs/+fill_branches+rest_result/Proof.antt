@@ -256,7 +256,7 @@ rest-result-returns-4 t c = let a = (c .before .before .before .before .before .
 rest-result-recall-in-requires : (t : ℕ) → rest-result-lts.Need-recall-in-requires (rest-result-claims t) (rest-result-at t) rest-result.Post
 rest-result-recall-in-requires t c κs = let a = (c .before .before .before .before .before .before .before .before .before .before .before .before .before .before) in
     let hk = still-left (plain (a .args .t .now)) (a .args .f) (a .args .n) (a .args .k) ((c .before .before .before .before .before .before .before .before .lowest) .result) _ (a .args .t7) (a .pre .1 .0) ((c .before .before .before .before .before .before .before .before .lowest) .ensures) ((c .before .before .before .before .before .wide) .ensures .0 ∙ (c .before .before .before .before .before .before .head-word) .ensures ∙ plain-features (a .args .t .now)) ((c .before .before .before .before .if2) .left) in
-    (a .pre .1 .1 .room, omega (arith, a .pre .1 .0 .holds .laid .laid .few))
+    (a .pre .1 .1 .room, a .pre .1 .0 .nine, omega (arith, a .pre .1 .0 .holds .laid .laid .few))
 
 rest-result-enum-known-memo : (t : ℕ) → rest-result-lts.Need-enum-known-memo (rest-result-claims t) (rest-result-at t) rest-result.Post
 rest-result-enum-known-memo t c = search needs
@@ -308,7 +308,7 @@ rest-result-remember-in-requires t c κs = let a = (c .before .before .before .b
     let hk = still-left (plain (a .args .t .now)) (a .args .f) (a .args .n) (a .args .k) ((c .before .before .before .before .before .before .before .before .before .before .before .before .before .before .before .before .before .before .before .before .before .before .before .before .before .before .before .before .before .lowest) .result) _ (a .args .t7) (a .pre .1 .0) ((c .before .before .before .before .before .before .before .before .before .before .before .before .before .before .before .before .before .before .before .before .before .before .before .before .before .before .before .before .before .lowest) .ensures) ((c .before .before .before .before .before .before .before .before .before .before .before .before .before .before .before .before .before .before .before .before .before .before .before .before .before .before .wide) .ensures .0 ∙ (c .before .before .before .before .before .before .before .before .before .before .before .before .before .before .before .before .before .before .before .before .before .before .before .before .before .before .before .head-word) .ensures ∙ plain-features (a .args .t .now)) ((c .before .before .before .before .before .before .before .before .before .before .before .before .before .before .before .before .before .before .before .before .before .before .before .before .before .if2) .left) in
     let fb = (c .before .before .before .before .before .before .before .before .before .before .before .before .before .before .before .fill-branches) in
     let fl = filled (plain (a .args .t .now)) _ (a .args .k) (joint (plain (a .args .t .now)) (a .args .o) (a .args .f) (a .args .n) (a .args .k) (a .args .t7)) _ _ ((c .before .before .before .before .before .before .before .before .before .before .if5) .taken) (fb .ensures .0) in
-    (noted-made _ _ (a .args .k) (fb .result .list) _ ((c .before .before .before .x) .given .0 .0) (a .args .o) (a .args .f) (a .args .n) _ (fl .filled .grown .well) ((c .before .before .before .before .before .before .before .make-in) .ensures) ((c .before .before .before .x) .given .1) (still-if _ _ _ _ _ _ ((c .before .before .before .before .before .before .before .before .before .before .if5) .taken) (fb .ensures .1)) .room, omega (arith, a .pre .1 .0 .holds .laid .laid .few))
+    (noted-made _ _ (a .args .k) (fb .result .list) _ ((c .before .before .before .x) .given .0 .0) (a .args .o) (a .args .f) (a .args .n) _ (fl .filled .grown .well) ((c .before .before .before .before .before .before .before .make-in) .ensures) ((c .before .before .before .x) .given .1) (still-if _ _ _ _ _ _ ((c .before .before .before .before .before .before .before .before .before .before .if5) .taken) (fb .ensures .1)) .room, a .pre .1 .0 .nine, omega (arith, a .pre .1 .0 .holds .laid .laid .few))
 
 rest-result-same-length-10 : (t : ℕ) → rest-result-lts.Need-same-length-10 (rest-result-claims t) (rest-result-at t) rest-result.Post
 rest-result-same-length-10 t c = search needs
