@@ -2,6 +2,7 @@
    sheet's check. */
 #include "check.h"
 #include "lampgrotto.h"
+#include "laying.h"
 #include "plain.h"
 #include "timing.h"
 #include <stdio.h>
@@ -9,57 +10,30 @@
 #include <string.h>
 
 /* ---- a sheet of exactly so many nodes: features of size 8, all different above the last one, which has some nodes again and again */
-static uint32_t nodes[4096][9]; /* the feature, then a word for each branch: a phrase, or 65,536 + a node */
-static uint32_t node_count, seed;
+static uint32_t seed;
 static uint8_t sheet[110000];
 static size_t length;
 static int features;
 
-static uint32_t made(const uint32_t *node) {
-    for (uint32_t i = 0; i < node_count; i++)
-        if (!memcmp(nodes[i], node, sizeof *nodes)) return 65536 + i;
-    memcpy(nodes[node_count], node, sizeof *nodes);
-    return 65536 + node_count++;
-}
-
 static uint32_t build(int k, uint32_t *index, uint32_t leaves) {
-    uint32_t node[9] = {(uint32_t)k};
+    uint32_t branches[8];
     if (k + 1 < features) {
-        for (int v = 0; v < 8; v++) node[1 + v] = build(k + 1, index, leaves);
-        return made(node);
+        for (int v = 0; v < 8; v++) branches[v] = build(k + 1, index, leaves);
+        return laid_node((uint32_t)k, branches);
     }
     seed = seed * 1103515245u + 12345u;
     uint32_t x = 1 + (*index < leaves ? *index : (seed >> 8) % leaves);
     ++*index;
-    for (int v = 0; v < 8; v++) node[1 + v] = v == 0 ? x : v == 1 ? x >> 3 : 5;
-    return made(node);
-}
-
-static void put(uint32_t n, int bytes) {
-    while (bytes--) sheet[length++] = (uint8_t)(n >> 8 * bytes);
-}
-
-static void write_sheet(uint32_t root) {
-    length = 0;
-    put(1, 2);
-    put(1, 1);
-    put((uint32_t)features, 2);
-    for (int k = 0; k < features; k++) put(8, 1);
-    put(node_count, 2);
-    for (uint32_t i = 0; i < node_count; i++) {
-        put(nodes[i][0], 1);
-        for (int v = 0; v < 8; v++) put(nodes[i][1 + v], 3);
-    }
-    put(1, 2);
-    put(root, 3);
+    for (int v = 0; v < 8; v++) branches[v] = v == 0 ? x : v == 1 ? x >> 3 : 5;
+    return laid_node((uint32_t)k, branches);
 }
 
 static void make_sheet(int count, uint32_t leaves) {
     uint32_t index = 0;
     features = count;
-    node_count = 0;
+    laid_nodes = 0;
     seed = 1;
-    write_sheet(build(0, &index, leaves));
+    length = laid_sheet(sheet, count, build(0, &index, leaves));
 }
 
 /* ---- the times */
@@ -86,7 +60,7 @@ static void sizes(void) {
         if (lampgrotto_look_up(sheet, length, setting, (size_t)features) != plain_sheet_look_up(sheet, setting) || !sheet_is_good(sheet, length))
             exit(1);
         double l = best(looking), p = best(plain), k = best(checked), s = best(passing);
-        printf("| %u | %zu | %.1f | %.1f | %.1f | %.1f | %.0f |\n", node_count, length, s / 1000, l / 1000, l / s, l / k, l / p);
+        printf("| %u | %zu | %.1f | %.1f | %.1f | %.1f | %.0f |\n", laid_nodes, length, s / 1000, l / 1000, l / s, l / k, l / p);
     }
 }
 

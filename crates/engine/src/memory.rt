@@ -41,12 +41,12 @@ fn recall_at(s: &[u32], i: usize, k: usize, ops: [u32; 9]) -> Memo
     if wide(s[base]) != k + 1 {
         return Memo::Unknown;
     }
-    let mut j: usize = 0;
-    while j < 9 {
-        if s[base + 1 + j] != ops[j] {
+    let mut same: usize = 0;
+    while same < 9 {
+        if s[base + 1 + same] != ops[same] {
             return Memo::Unknown;
         }
-        j += 1;
+        same += 1;
     }
     Memo::Known(s[base + 10])
 }

@@ -1,4 +1,4 @@
--- `engine::memory::recall_at` meets its contract: the entry's feature and first j operands are those asked for. Assumes nothing.
+-- `engine::memory::recall_at` meets its contract: the entry's feature and first operands are those asked for. Assumes nothing.
 use mathlib.Core.Path.{_≡_, refl, sym, _∙_}
 use Prim.Native.Nat.{ℕ, _+_, _-_, _≤_, _<_}
 use native.Mathlib.Omega.{arith}
@@ -9,10 +9,10 @@ use Rattle.engine.proofs.memory.recall_at.Statement.{statement}
 use Rattle.engine.proofs.memory.recall_at.Tie as tie
 
 abbrev Inv-loop : tie.InvT-loop
-Inv-loop s i k ops base j₀ j = (j ≤ 9) × ((u : ℕ) → u < j → getD s (base + 1 + u) 0 ≡ getD ops u 0)
+Inv-loop s i k ops base same₀ same = (same ≤ 9) × ((u : ℕ) → u < same → getD s (base + 1 + u) 0 ≡ getD ops u 0)
 
 abbrev μ-loop : tie.MeasureT-loop
-μ-loop s i k ops base j₀ j = 9 - j
+μ-loop s i k ops base same₀ same = 9 - same
 
 mul-base : tie.Need-mul-base Inv-loop μ-loop
 mul-base c = search needs
@@ -56,8 +56,8 @@ array-read-if2 c = search needs
 returns-2 : tie.Need-returns-2 Inv-loop μ-loop
 returns-2 c = search needs
 
-add-j : tie.Need-add-j Inv-loop μ-loop
-add-j c = search needs
+add-same : tie.Need-add-same Inv-loop μ-loop
+add-same c = search needs
 
 loop-less : tie.Need-loop-less Inv-loop μ-loop
 loop-less c = search needs
@@ -105,7 +105,7 @@ recall-at-spec =
     mul-if2-2
     array-read-if2
     returns-2
-    add-j
+    add-same
     loop-less
     loop-again
     add-t8
