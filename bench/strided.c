@@ -1,6 +1,6 @@
 /* Apply on rules whose nodes are numbered in strides: how often it works a pair out, by how the entry of a remembered result is chosen.
    The walk is made again here over the table's words, in the way before and in the library's; that its entries are those that the library
-   leaves in its scratch is compared, so that its steps are the library's. */
+   leaves in its scratch is compared, so that its steps are the library's. Before that, how evenly operands in strides choose their entries. */
 #include "filling.h"
 #include "lampgrotto.h"
 #include "laying.h"
@@ -50,10 +50,8 @@ static void read_counter(size_t place, uint32_t modulus, uint32_t stride, uint32
     taken(lampgrotto_read(words, length, place, sheet, bytes));
 }
 
-/* ---- the walk again */
-static uint32_t entries[SCRATCH / ENTRY][3]; /* the feature + 1, the operands */
+/* ---- how the entry is chosen, of so many */
 static uint32_t slots;
-static uint64_t steps;
 
 /* before: linear in the operands, which were nine, without the operator, and one entry */
 static uint32_t linear(uint32_t k, uint32_t x, uint32_t y) {
@@ -74,6 +72,45 @@ static struct way {
     uint32_t (*choose)(uint32_t k, uint32_t x, uint32_t y);
     uint32_t second; /* 1 where the entry after the chosen one serves too */
 } before = {linear, 0}, library = {mixed, 1};
+
+/* ---- how even the choice is: operands in strides, 22 of each, and the entries that they choose, against those that chance would */
+enum { OPERANDS = 22, STRIDES = 40 };
+
+static double filled(const struct way *w, uint32_t a, uint32_t b) {
+    static uint8_t taken_entry[SCRATCH];
+    double none = 1;
+    uint32_t count = 0;
+    memset(taken_entry, 0, slots);
+    for (uint32_t x = 0; x < OPERANDS; x++)
+        for (uint32_t y = 0; y < OPERANDS; y++) {
+            uint8_t *e = taken_entry + w->choose(0, 65536 + a * x, 67036 + b * y);
+            none *= 1 - 1.0 / slots;
+            count += !*e;
+            *e = 1;
+        }
+    return count / (slots * (1 - none));
+}
+
+static void spread(const char *name, const struct way *w) {
+    static const uint32_t sizes[4] = {512, 1489, 2978, 5957};
+    printf("| %s |", name);
+    for (int n = 0; n < 4; n++) {
+        double least = 2, most = 0;
+        slots = sizes[n];
+        for (uint32_t a = 1; a <= STRIDES; a++)
+            for (uint32_t b = 1; b <= STRIDES; b++) {
+                double f = filled(w, a, b);
+                if (f < least) least = f;
+                if (f > most) most = f;
+            }
+        printf(" %.2f to %.2f |", least, most);
+    }
+    printf("\n");
+}
+
+/* ---- the walk again */
+static uint32_t entries[SCRATCH / ENTRY][3]; /* the feature + 1, the operands */
+static uint64_t steps;
 
 static const uint32_t *record(uint32_t b) { return words + 8192 + 16 * (size_t)(b - 65536); }
 static uint32_t top(uint32_t b) { return b < 65536 ? 16 : record(b)[0]; }
@@ -136,7 +173,10 @@ static void row(size_t capacity, uint32_t first, uint32_t second, uint32_t a, ui
 }
 
 int main(void) {
-    printf("| strides | counts | nodes in use | entries | pairs | steps before | steps | apply us |\n|---|---|---|---|---|---|---|---|\n");
+    printf("| entries | 512 | 1489 | 2978 | 5957 |\n|---|---|---|---|---|\n");
+    spread("before", &before);
+    spread("now", &library);
+    printf("\n| strides | counts | nodes in use | entries | pairs | steps before | steps | apply us |\n|---|---|---|---|---|---|---|---|\n");
     row(4096, 20, 17, 1, 1);
     row(4096, 20, 17, 7, 13);
     row(4096, 20, 17, 11, 11);
