@@ -1,11 +1,12 @@
-//! Document 01's examples over the sizes 2, 3, with answers worked out by hand: of rules, of costs, of both.
+//! Examples over the sizes 2, 3, with answers worked out by hand: document 01's of rules, of costs, of both, and the laws of cost arithmetic.
 
 use crate::desk::{Desk, Expected};
 use crate::scope::Scope;
 
-const TEXTS: [(Scope, &str); 3] = [
+const TEXTS: [(Scope, &str); 4] = [
     (Scope::Rules, include_str!("../examples.txt")),
     (Scope::Apart, include_str!("../cost_examples.txt")),
+    (Scope::Apart, include_str!("../arithmetic_examples.txt")),
     (Scope::All, include_str!("../both_examples.txt")),
 ];
 

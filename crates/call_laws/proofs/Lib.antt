@@ -1,0 +1,5 @@
+pub mod Standing
+pub mod Formulas
+pub mod Identities
+pub mod Arithmetic
+pub mod Grouping
