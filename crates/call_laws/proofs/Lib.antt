@@ -3,3 +3,4 @@ pub mod Formulas
 pub mod Identities
 pub mod Arithmetic
 pub mod Grouping
+pub mod Returned

@@ -1,0 +1,9 @@
+-- A CALL FOR C that returned the number of an ending meets its promise with that ending: 0, it was taken. Assumes nothing.
+use mathlib.Core.Path.{sym, subst}
+use Rattle.settings.specs.Refusals.{outcomeNumber}
+use Rattle.settings.specs.declared.refusals.Outcome.{Outcome}
+use Rattle.settings.proofs.Endings.{one-number}
+use Rattle.c_results.specs.Calls.{Wrote}
+
+pub returned : {P : Outcome → Type 0} (o : Outcome) → Wrote P (outcomeNumber o) → P o
+returned {P} o r = subst P (sym (one-number {o = o} {u = r .ending} (r .number))) (r .meets)
