@@ -2,7 +2,7 @@
 -- meanwhile the named places hold what they held; then two results have one root word and one base word. Assumes nothing.
 use mathlib.Core.Path.{_≡_, refl, sym, subst}
 use mathlib.Core.List.{List, [], _∷_, _++_}
-use Prim.Native.Nat.{ℕ}
+use Prim.Native.Nat.{ℕ, _<_}
 use native.Mathlib.Omega.{arith}
 use lib.IntN.{ℤ}
 use Rattle.theory.specs.Functions.{Agree}
@@ -15,6 +15,8 @@ use Rattle.cost_words.specs.Words.{costOf}
 use Rattle.cost_sound.specs.Sound.{Sound}
 use Rattle.costs.specs.Writing.{Writes}
 use Rattle.cost_operations.specs.Joining.{Adds, Subtracts, TakesSmaller, Scales}
+use Rattle.demands.proofs.Like.{clear, rest}
+use Rattle.demands.proofs.Promised as D
 use Rattle.demands.proofs.CostLaws.{drawn}
 use Rattle.call_laws.specs.Standing.{Among, first, later, Apart, Next}
 use Rattle.call_laws.specs.Formulas.{Still, InTurn, One, Formula, Given, saidBy, Worked, source, stays, added, subtracted, smaller, scaled}
@@ -25,6 +27,15 @@ use Rattle.call_laws.proofs.Identities.{sum-order, sum-grouping, sum-un
 -- ---- places of lists
 other : {l k : List ℕ} {p r : ℕ} → Apart l k → Among r k → Among p l → r ≡ p → ⊥
 other {l} {r = r} d m n e = d .apart r (subst (λ (x : ℕ). Among x l) (sym e) n) m
+
+-- all of them are places of a cost table
+abbrev Below : List ℕ → Type 0
+Below [] = Unit {0}
+Below (p ∷ l) = (p < 16) × Below l
+
+below : {r : ℕ} (l : List ℕ) → Among r l → Below l → r < 16
+below (p ∷ l) (first e) h = omega (arith, h .0, e)
+below (p ∷ l) (later m) h = below l m (h .1)
 
 in-front : {k : List ℕ} {r : ℕ} (l : List ℕ) → Among r k → Among r (k ++ l)
 in-front l (first e) = first e
@@ -56,106 +67,121 @@ at7 : {h i j k m n o p : ℕ} {l : List ℕ} → Among p (h ∷ i ∷ j ∷ k �
 at7 = later at6
 
 -- ---- one call of a law: what it finds, and what it leaves where it does not write
-module _ {l : List ℕ} {Call : List ℕ → List ℕ → Outcome → Type 0} {w v : List ℕ} (t : Next 16 costOf Sound l Call w v) where
+module _ {l : List ℕ} {Call : List ℕ → List ℕ → Outcome → Type 0} {w v : List ℕ} (t : Next costOf Sound l Call w v) where
   found : {r : ℕ} {x : Formula} → Among r l → Worked w r x → Worked (t .found) r x
   found {r} m i = stays i (t .still r m)
 
-  kept : {j : Cases} {p r : ℕ} {g : Cost} {x : Formula} → Writes j p g (t .found) v Taken → Among r l → (r ≡ p → ⊥) → Worked w r x → Worked v r x
-  kept {r = r} c m n i = stays (found m i) (written-elsewhere drawn (c .becomes refl) r (t .still r m .place) n)
+  kept : {j : Cases} {p r : ℕ} {g : Cost} {x : Formula} → Writes j p g (t .found) v Taken → Among r l → r < 16 → (r ≡ p → ⊥) → Worked w r x → Worked v r x
+  kept {r = r} c m h n i = stays (found m i) (written-elsewhere drawn (c .becomes refl) r h n)
 
--- the sources k: in the words w they hold the costs f
+-- the sources k: they are places, and in the words w they hold the costs f
 abbrev Sources : List ℕ → (ℕ → Cost) → List ℕ → Type 0
-Sources k f w = (r : ℕ) → Among r k → Worked w r (Given (f r))
+Sources k f w = (r : ℕ) → Among r k → (r < 16) × Worked w r (Given (f r))
 
-begun : (k w : List ℕ) → Sources k (costOf w) w
-begun k w r m = source w r
+begun : (k w : List ℕ) → Below k → Sources k (costOf w) w
+begun k w h r m = (below k m h, source w r)
 
 -- so do they after a call that writes one of the results l
 past : {k l : List ℕ} {Call : List ℕ → List ℕ → Outcome → Type 0} {w v : List ℕ} {j : Cases} {p : ℕ} {g : Cost} {f : ℕ → Cost} →
-    Apart l k → (t : Next 16 costOf Sound (k ++ l) Call w v) → Writes j p g (t .found) v Taken → Among p l → Sources k f w → Sources k f v
-past {l = l} d t c m s r n = kept t c (in-front l n) (other d n m) (s r n)
+    Apart l k → (t : Next costOf Sound (k ++ l) Call w v) → Writes j p g (t .found) v Taken → Among p l → Sources k f w → Sources k f v
+past {l = l} d t c m s r n = let i = s r n in (i .0, kept t c (in-front l n) (i .0) (other d n m) (i .1))
 
 -- the end of a law
-agreed : {l w v : List ℕ} {p q : ℕ} {x y : Formula} → ((r : ℕ) → Among r l → Still r w v) → Among p l → Among q l → Worked w p x → Worked w q y → Agree (sizes v) (saidBy x) (saidBy y) → One v p q
-agreed {p = p} {q = q} k m n i j e = one-formula p q (k p m .sound) (k p m .place) (k q n .place) (stays i (k p m)) (stays j (k q n)) e
+agreed : {l w v : List ℕ} {p q : ℕ} {x y : Formula} → ((r : ℕ) → Among r l → Still r w v) → Among p l → Among q l → p < 16 → q < 16 → Worked w p x → Worked w q y → Agree (sizes v) (saidBy x) (saidBy y) → One v p q
+agreed {p = p} {q = q} k m n hp hq i j e = one-formula p q (k p m .sound) hp hq (stays i (k p m)) (stays j (k q n)) e
 
 -- ---- ADD IN EITHER ORDER: A + B into place p, B + A into place q
 module _ {a b p q : ℕ} where
   pub add-either-order : {w v : List ℕ} → Apart (p ∷ q ∷ []) (a ∷ b ∷ []) → (q ≡ p → ⊥) →
       InTurn (a ∷ b ∷ p ∷ q ∷ []) (Adds p a b ∷ Adds q b a ∷ []) w v → One v p q
   add-either-order {w} d n (u₁, t₁, (u₂, t₂, z)) =
-      let s₀ = begun (a ∷ b ∷ []) w in
+      let h₁ = clear (rest (t₁ .taken .ends)) in
+      let h₂ = clear (rest (t₂ .taken .ends)) in
+      let s₀ = begun (a ∷ b ∷ []) w (D.first (D.others h₁), (D.second (D.others h₁), tt)) in
       let s₁ = past d t₁ (t₁ .taken) at0 s₀ in
-      let P₁ = added (found t₁ at0 (s₀ a at0)) (found t₁ at1 (s₀ b at1)) (t₁ .taken) in
-      let P₂ = kept t₂ (t₂ .taken) at2 (λ e. omega (arith, e, n)) P₁ in
-      let Q₂ = added (found t₂ at1 (s₁ b at1)) (found t₂ at0 (s₁ a at0)) (t₂ .taken) in
-      agreed z at2 at3 P₂ Q₂ (λ s v. sum-order (costOf w a) (costOf w b) s)
+      let P₁ = added (found t₁ at0 (s₀ a at0 .1)) (found t₁ at1 (s₀ b at1 .1)) (t₁ .taken) in
+      let P₂ = kept t₂ (t₂ .taken) at2 (D.first h₁) (λ e. omega (arith, e, n)) P₁ in
+      let Q₂ = added (found t₂ at1 (s₁ b at1 .1)) (found t₂ at0 (s₁ a at0 .1)) (t₂ .taken) in
+      agreed z at2 at3 (D.first h₁) (D.first h₂) P₂ Q₂ (λ s v. sum-order (costOf w a) (costOf w b) s)
 
 -- ---- ADD IN EITHER GROUPING: (A + B) + C into place p by place m, A + (B + C) into place q by place n
 module _ {a b c m p n q : ℕ} where
   pub add-either-grouping : {w v : List ℕ} → Apart (m ∷ p ∷ n ∷ q ∷ []) (a ∷ b ∷ c ∷ []) → (n ≡ p → ⊥) → (q ≡ p → ⊥) →
       InTurn (a ∷ b ∷ c ∷ m ∷ p ∷ n ∷ q ∷ []) (Adds m a b ∷ Adds p m c ∷ Adds n b c ∷ Adds q a n ∷ []) w v → One v p q
   add-either-grouping {w} d np qp (u₁, t₁, (u₂, t₂, (u₃, t₃, (u₄, t₄, z)))) =
-      let s₀ = begun (a ∷ b ∷ c ∷ []) w in
+      let h₁ = clear (rest (t₁ .taken .ends)) in
+      let h₂ = clear (rest (t₂ .taken .ends)) in
+      let h₄ = clear (rest (t₄ .taken .ends)) in
+      let s₀ = begun (a ∷ b ∷ c ∷ []) w (D.first (D.others h₁), (D.second (D.others h₁), (D.second (D.others h₂), tt))) in
       let s₁ = past d t₁ (t₁ .taken) at0 s₀ in
       let s₂ = past d t₂ (t₂ .taken) at1 s₁ in
       let s₃ = past d t₃ (t₃ .taken) at2 s₂ in
-      let M₁ = added (found t₁ at0 (s₀ a at0)) (found t₁ at1 (s₀ b at1)) (t₁ .taken) in
-      let P₂ = added (found t₂ at3 M₁) (found t₂ at2 (s₁ c at2)) (t₂ .taken) in
-      let P₃ = kept t₃ (t₃ .taken) at4 (λ e. omega (arith, e, np)) P₂ in
-      let N₃ = added (found t₃ at1 (s₂ b at1)) (found t₃ at2 (s₂ c at2)) (t₃ .taken) in
-      let P₄ = kept t₄ (t₄ .taken) at4 (λ e. omega (arith, e, qp)) P₃ in
-      let Q₄ = added (found t₄ at0 (s₃ a at0)) (found t₄ at5 N₃) (t₄ .taken) in
-      agreed z at4 at6 P₄ Q₄ (λ s v. sum-grouping (costOf w a) (costOf w b) s (costOf w c))
+      let M₁ = added (found t₁ at0 (s₀ a at0 .1)) (found t₁ at1 (s₀ b at1 .1)) (t₁ .taken) in
+      let P₂ = added (found t₂ at3 M₁) (found t₂ at2 (s₁ c at2 .1)) (t₂ .taken) in
+      let P₃ = kept t₃ (t₃ .taken) at4 (D.first h₂) (λ e. omega (arith, e, np)) P₂ in
+      let N₃ = added (found t₃ at1 (s₂ b at1 .1)) (found t₃ at2 (s₂ c at2 .1)) (t₃ .taken) in
+      let P₄ = kept t₄ (t₄ .taken) at4 (D.first h₂) (λ e. omega (arith, e, qp)) P₃ in
+      let Q₄ = added (found t₄ at0 (s₃ a at0 .1)) (found t₄ at5 N₃) (t₄ .taken) in
+      agreed z at4 at6 (D.first h₂) (D.first h₄) P₄ Q₄ (λ s v. sum-grouping (costOf w a) (costOf w b) s (costOf w c))
 
 -- ---- ADD, THEN SUBTRACT THE SAME COST: (A + B) − B into place p by place m gives the first back
 module _ {a b m p : ℕ} where
   pub add-then-subtract : {w v : List ℕ} → Apart (m ∷ p ∷ []) (a ∷ b ∷ []) →
       InTurn (a ∷ b ∷ m ∷ p ∷ []) (Adds m a b ∷ Subtracts p m b ∷ []) w v → One v p a
   add-then-subtract {w} d (u₁, t₁, (u₂, t₂, z)) =
-      let s₀ = begun (a ∷ b ∷ []) w in
+      let h₁ = clear (rest (t₁ .taken .ends)) in
+      let h₂ = clear (rest (t₂ .taken .ends)) in
+      let s₀ = begun (a ∷ b ∷ []) w (D.first (D.others h₁), (D.second (D.others h₁), tt)) in
       let s₁ = past d t₁ (t₁ .taken) at0 s₀ in
       let s₂ = past d t₂ (t₂ .taken) at1 s₁ in
-      let M₁ = added (found t₁ at0 (s₀ a at0)) (found t₁ at1 (s₀ b at1)) (t₁ .taken) in
-      let P₂ = subtracted (found t₂ at2 M₁) (found t₂ at1 (s₁ b at1)) (t₂ .taken) in
-      agreed z at3 at0 P₂ (s₂ a at0) (λ s v. sum-undone (costOf w a) (costOf w b) s)
+      let M₁ = added (found t₁ at0 (s₀ a at0 .1)) (found t₁ at1 (s₀ b at1 .1)) (t₁ .taken) in
+      let P₂ = subtracted (found t₂ at2 M₁) (found t₂ at1 (s₁ b at1 .1)) (t₂ .taken) in
+      agreed z at3 at0 (D.first h₂) (D.first (D.others h₁)) P₂ (s₂ a at0 .1) (λ s v. sum-undone (costOf w a) (costOf w b) s)
 
 -- ---- THE SMALLER OF TWO SUMS: of A + C and B + C, by places m and n, into place p; that of A and B, by place k, plus C into place q
 module _ {a b c m n p k q : ℕ} where
   pub smaller-of-sums : {w v : List ℕ} → Apart (m ∷ n ∷ p ∷ k ∷ q ∷ []) (a ∷ b ∷ c ∷ []) → (n ≡ m → ⊥) → (k ≡ p → ⊥) → (q ≡ p → ⊥) →
       InTurn (a ∷ b ∷ c ∷ m ∷ n ∷ p ∷ k ∷ q ∷ []) (Adds m a c ∷ Adds n b c ∷ TakesSmaller p m n ∷ TakesSmaller k a b ∷ Adds q k c ∷ []) w v → One v p q
   smaller-of-sums {w} d nm kp qp (u₁, t₁, (u₂, t₂, (u₃, t₃, (u₄, t₄, (u₅, t₅, z))))) =
-      let s₀ = begun (a ∷ b ∷ c ∷ []) w in
+      let h₁ = clear (rest (t₁ .taken .ends)) in
+      let h₂ = clear (rest (t₂ .taken .ends)) in
+      let h₃ = clear (rest (t₃ .taken .ends)) in
+      let h₅ = clear (rest (t₅ .taken .ends)) in
+      let s₀ = begun (a ∷ b ∷ c ∷ []) w (D.first (D.others h₁), (D.first (D.others h₂), (D.second (D.others h₁), tt))) in
       let s₁ = past d t₁ (t₁ .taken) at0 s₀ in
       let s₂ = past d t₂ (t₂ .taken) at1 s₁ in
       let s₃ = past d t₃ (t₃ .taken) at2 s₂ in
       let s₄ = past d t₄ (t₄ .taken) at3 s₃ in
-      let M₁ = added (found t₁ at0 (s₀ a at0)) (found t₁ at2 (s₀ c at2)) (t₁ .taken) in
-      let M₂ = kept t₂ (t₂ .taken) at3 (λ e. omega (arith, e, nm)) M₁ in
-      let N₂ = added (found t₂ at1 (s₁ b at1)) (found t₂ at2 (s₁ c at2)) (t₂ .taken) in
+      let M₁ = added (found t₁ at0 (s₀ a at0 .1)) (found t₁ at2 (s₀ c at2 .1)) (t₁ .taken) in
+      let M₂ = kept t₂ (t₂ .taken) at3 (D.first h₁) (λ e. omega (arith, e, nm)) M₁ in
+      let N₂ = added (found t₂ at1 (s₁ b at1 .1)) (found t₂ at2 (s₁ c at2 .1)) (t₂ .taken) in
       let P₃ = smaller (found t₃ at3 M₂) (found t₃ at4 N₂) (t₃ .taken) in
-      let P₄ = kept t₄ (t₄ .taken) at5 (λ e. omega (arith, e, kp)) P₃ in
-      let K₄ = smaller (found t₄ at0 (s₃ a at0)) (found t₄ at1 (s₃ b at1)) (t₄ .taken) in
-      let P₅ = kept t₅ (t₅ .taken) at5 (λ e. omega (arith, e, qp)) P₄ in
-      let Q₅ = added (found t₅ at6 K₄) (found t₅ at2 (s₄ c at2)) (t₅ .taken) in
-      agreed z at5 at7 P₅ Q₅ (λ s v. smaller-sums (costOf w a) (costOf w b) s (costOf w c))
+      let P₄ = kept t₄ (t₄ .taken) at5 (D.first h₃) (λ e. omega (arith, e, kp)) P₃ in
+      let K₄ = smaller (found t₄ at0 (s₃ a at0 .1)) (found t₄ at1 (s₃ b at1 .1)) (t₄ .taken) in
+      let P₅ = kept t₅ (t₅ .taken) at5 (D.first h₃) (λ e. omega (arith, e, qp)) P₄ in
+      let Q₅ = added (found t₅ at6 K₄) (found t₅ at2 (s₄ c at2 .1)) (t₅ .taken) in
+      agreed z at5 at7 (D.first h₃) (D.first h₅) P₅ Q₅ (λ s v. smaller-sums (costOf w a) (costOf w b) s (costOf w c))
 
 -- ---- SCALING A SUM: A + B, by place m, times k into place p; A times k and B times k, by places x and y, added into place q
 module _ {a b m p x y q : ℕ} {k : ℤ} where
   pub scale-of-sum : {w v : List ℕ} → Apart (m ∷ p ∷ x ∷ y ∷ q ∷ []) (a ∷ b ∷ []) → (x ≡ p → ⊥) → (y ≡ p → ⊥) → (y ≡ x → ⊥) → (q ≡ p → ⊥) →
       InTurn (a ∷ b ∷ m ∷ p ∷ x ∷ y ∷ q ∷ []) (Adds m a b ∷ Scales p m k ∷ Scales x a k ∷ Scales y b k ∷ Adds q x y ∷ []) w v → One v p q
   scale-of-sum {w} d xp yp yx qp (u₁, t₁, (u₂, t₂, (u₃, t₃, (u₄, t₄, (u₅, t₅, z))))) =
-      let s₀ = begun (a ∷ b ∷ []) w in
+      let h₁ = clear (rest (t₁ .taken .ends)) in
+      let h₂ = clear (rest (t₂ .taken .ends)) in
+      let h₃ = clear (rest (t₃ .taken .ends)) in
+      let h₅ = clear (rest (t₅ .taken .ends)) in
+      let s₀ = begun (a ∷ b ∷ []) w (D.first (D.others h₁), (D.second (D.others h₁), tt)) in
       let s₁ = past d t₁ (t₁ .taken) at0 s₀ in
       let s₂ = past d t₂ (t₂ .taken) at1 s₁ in
       let s₃ = past d t₃ (t₃ .taken) at2 s₂ in
-      let M₁ = added (found t₁ at0 (s₀ a at0)) (found t₁ at1 (s₀ b at1)) (t₁ .taken) in
+      let M₁ = added (found t₁ at0 (s₀ a at0 .1)) (found t₁ at1 (s₀ b at1 .1)) (t₁ .taken) in
       let P₂ = scaled (found t₂ at2 M₁) (t₂ .taken) in
-      let P₃ = kept t₃ (t₃ .taken) at3 (λ e. omega (arith, e, xp)) P₂ in
-      let X₃ = scaled (found t₃ at0 (s₂ a at0)) (t₃ .taken) in
-      let P₄ = kept t₄ (t₄ .taken) at3 (λ e. omega (arith, e, yp)) P₃ in
-      let X₄ = kept t₄ (t₄ .taken) at4 (λ e. omega (arith, e, yx)) X₃ in
-      let Y₄ = scaled (found t₄ at1 (s₃ b at1)) (t₄ .taken) in
-      let P₅ = kept t₅ (t₅ .taken) at3 (λ e. omega (arith, e, qp)) P₄ in
+      let P₃ = kept t₃ (t₃ .taken) at3 (D.first h₂) (λ e. omega (arith, e, xp)) P₂ in
+      let X₃ = scaled (found t₃ at0 (s₂ a at0 .1)) (t₃ .taken) in
+      let P₄ = kept t₄ (t₄ .taken) at3 (D.first h₂) (λ e. omega (arith, e, yp)) P₃ in
+      let X₄ = kept t₄ (t₄ .taken) at4 (D.first h₃) (λ e. omega (arith, e, yx)) X₃ in
+      let Y₄ = scaled (found t₄ at1 (s₃ b at1 .1)) (t₄ .taken) in
+      let P₅ = kept t₅ (t₅ .taken) at3 (D.first h₂) (λ e. omega (arith, e, qp)) P₄ in
       let Q₅ = added (found t₅ at4 X₄) (found t₅ at5 Y₄) (t₅ .taken) in
-      agreed z at3 at6 P₅ Q₅ (λ s v. scaled-sum (costOf w a) (costOf w b) s k)
+      agreed z at3 at6 (D.first h₂) (D.first h₅) P₅ Q₅ (λ s v. scaled-sum (costOf w a) (costOf w b) s k)

@@ -14,15 +14,16 @@ use Rattle.call_laws.specs.Standing as S
 
 -- of a cost table: a place that still holds its cost, and calls in turn
 abbrev pub Still : ℕ → List ℕ → List ℕ → Type 0
-Still p w v = S.Still 16 costOf Sound p w v
+Still p w v = S.Still costOf Sound p w v
 
 abbrev pub InTurn : List ℕ → List (List ℕ → List ℕ → Outcome → Type 0) → List ℕ → List ℕ → Type 0
-InTurn l calls w v = S.InTurn 16 costOf Sound l calls w v
+InTurn l calls w v = S.InTurn costOf Sound l calls w v
 
 -- the places p and q hold one root word and one base word
 abbrev pub One : List ℕ → ℕ → ℕ → Type 0
 One w p q = (root w p ≡ root w q) × (base w p ≡ base w q)
 
+-- a cost that is given, or what add, subtract, smaller, larger and scale make of formulas
 pub data Formula : Type 0 where
   Given : Cost → Formula
   Plus : Formula → Formula → Formula

@@ -1,7 +1,7 @@
 -- CALLS ONE AFTER ANOTHER ON ONE TABLE of any kind, and what stands on its places meanwhile. Assumes nothing.
 use mathlib.Core.Path.{_≡_}
 use mathlib.Core.List.{List, [], _∷_}
-use Prim.Native.Nat.{ℕ, _<_}
+use Prim.Native.Nat.{ℕ}
 use Rattle.theory.specs.Kind.{Kind}
 use Rattle.theory.specs.Functions.{Agree, Fun}
 use Rattle.settings.specs.declared.refusals.Outcome.{Outcome}
@@ -17,11 +17,10 @@ pub data Among (p : ℕ) : List ℕ → Type 0 where
 pub record Apart (l k : List ℕ) : Type 0 where
   pub apart : (p : ℕ) → Among p l → Among p k → ⊥
 
--- of a kind of table with n places: the function of a place, and which words are sound
-module _ {K : Kind} (n : ℕ) (own : List ℕ → ℕ → Fun K) (Sound : List ℕ → Type 0) where
+-- of a kind of table: the function of a place, and which words are sound
+module _ {K : Kind} (own : List ℕ → ℕ → Fun K) (Sound : List ℕ → Type 0) where
   -- place p still holds in the words v what it held in the words w: the table is sound, and its list the same
   pub record Still (p : ℕ) (w v : List ℕ) : Type 0 where
-    pub place : p < n
     pub sound : Sound v
     pub list : sizes v ≡ sizes w
     pub same : Agree (sizes w) (own v p) (own w p)
