@@ -24,7 +24,7 @@ use Rattle.rule_words.specs.Picture.{drawing}
 use Rattle.rule_words.proofs.Reading.{length-rules, at-rules}
 use Rattle.rule_sound.specs.Sound.{Sound}
 use Rattle.rule_sound.proofs.Pictures.{sound-pictures, sound-proper, picture-sound, picture-rules}
-use Rattle.engine.specs.Operators.{pairOf, caseOf, forgottenOf}
+use Rattle.rule_operators.specs.Operators.{pairOf, caseOf, forgottenOf}
 use Rattle.sheets.proofs.Theorems.{agree-sheet}
 use Rattle.rule_sheets.specs.Writing.{begun}
 use Rattle.demands.specs.State.{Matches}

@@ -21,7 +21,7 @@ use Rattle.words.proofs.Words.{length-sizes}
 use Rattle.rule_words.specs.Words.{ruleOf, rulesOf}
 use Rattle.rule_words.proofs.Reading.{at-rules}
 use Rattle.rule_sound.specs.Sound.{Sound}
-use Rattle.engine.specs.Operators.{pairOf, caseOf}
+use Rattle.rule_operators.specs.Operators.{pairOf, caseOf}
 use Rattle.operations.specs.Joining.{Places, applied, Operates, chosen, Chooses, without, Forgets}
 use Rattle.operations.specs.Restricting.{Restricts}
 use Rattle.operations.specs.Literal.{literalOf, literal-cases, setSize, Literals}

@@ -17,7 +17,7 @@ use Rattle.settings.specs.declared.steps.Setting.{Setting}
 use Rattle.words.specs.Tab.{tab}
 use Rattle.rule_words.specs.Words.{rulesOf}
 use Rattle.rule_sound.specs.Sound.{Sound}
-use Rattle.engine.specs.Operators.{pairOf, caseOf, forgottenOf}
+use Rattle.rule_operators.specs.Operators.{pairOf, caseOf, forgottenOf}
 use Rattle.rules.specs.Opening.{fresh}
 use Rattle.rules.specs.declared.reading.Looked.{Looked}
 use Rattle.rules.specs.declared.reading.Compared.{Compared}

@@ -13,9 +13,9 @@ use Rattle.words.specs.Tab.{tab}
 use Rattle.words.specs.Words.{features, sizes, listed}
 use Rattle.words.proofs.Tab.{length-tab, getD-tab, tab-ext}
 use Rattle.rule_words.specs.Words.{decode, nodes}
-use Rattle.engine.specs.Operators.{pairOf, caseOf, forgottenOf}
+use Rattle.rule_operators.specs.Operators.{pairOf, caseOf, forgottenOf}
 use Rattle.engine.specs.Joint.{spread, joint}
-use Rattle.engine.proofs.Operating.{op-pair, op-case, op-forget}
+use Rattle.rule_operators.proofs.Operating.{op-pair, op-case, op-forget}
 use Rattle.engine.proofs.Joining.{spread-none}
 
 -- at the root each operand has the forgotten feature at its own index

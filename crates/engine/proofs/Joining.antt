@@ -30,10 +30,10 @@ use Rattle.rule_nodes.specs.declared.Answer.the-variants.{Is}
 use Rattle.rule_nodes.proofs.Reading.{good-small}
 use Rattle.rule_nodes.proofs.Stepping.{good-top, top-node, top-good, child-skip}
 use Rattle.rule_nodes.proofs.Filling.{gives-eq, result-there, built-skip, built-there, mean-result, filling-ext}
-use Rattle.engine.specs.Operators.{opOf}
+use Rattle.rule_operators.specs.Operators.{opOf}
 use Rattle.engine.specs.Shortcuts.{Standing, Short}
 use Rattle.engine.specs.Joint.{spread, turn, joint, Operands, Next, Lowest}
-use Rattle.engine.proofs.Operating.{op-any}
+use Rattle.rule_operators.proofs.Operating.{op-any}
 
 -- ---- one step
 spread-past : (f k j v : ℕ) (s : List ℕ) → f < k → spread f k j (v ∷ s) ≡ turn f k j v ∷ spread f (k + 1) j s

@@ -1,4 +1,3 @@
-pub mod Operating
 pub mod Shortening
 pub mod Joining
 pub mod Recalling

@@ -24,7 +24,7 @@ use Rattle.rule_nodes.specs.declared.Answer.{Answer}
 use Rattle.rule_nodes.specs.declared.Answer.the-variants.{Is}
 use Rattle.rule_nodes.proofs.Reading.{lawful}
 use Rattle.rule_nodes.proofs.Filling.{gives-is, result-ext, result-mean, mean-result}
-use Rattle.engine.specs.Operators.{opOf}
+use Rattle.rule_operators.specs.Operators.{opOf}
 use Rattle.engine.specs.Joint.{spread, joint, Operands}
 use Rattle.notes.specs.Plain.{Cleared}
 use Rattle.engine.specs.Memory.{Recalled, Remembers, Entry, Recalls, Stored, Noted, Still, StillIf}

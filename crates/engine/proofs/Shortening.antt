@@ -10,9 +10,9 @@ use borrow.Author.Tests.{lt-ltb, le-ltb, eq-eqb}
 use Rattle.words.specs.Tab.{tab}
 use Rattle.words.specs.Words.{listed, pick}
 use Rattle.words.proofs.Tab.{split, same}
-use Rattle.engine.specs.Operators.{smallerOf, largerOf, truthOf, pairOf, caseOf}
+use Rattle.rule_operators.specs.Operators.{smallerOf, largerOf, truthOf, pairOf, caseOf}
 use Rattle.engine.specs.Shortcuts.{Standing, ShortPair, Short}
-use Rattle.engine.proofs.Operating.{op-pair, op-case, case-at, case-past}
+use Rattle.rule_operators.proofs.Operating.{op-pair, op-case, case-at, case-past}
 
 -- ---- two equal branches
 pick-of : (F : ℕ → ℕ) (t : Bool) (x y : ℕ) → F (pick t x y) ≡ pick t (F x) (F y)

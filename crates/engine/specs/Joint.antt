@@ -10,7 +10,7 @@ use Rattle.words.specs.Tab.{tab}
 use Rattle.words.specs.Words.{features, size, listed, pick}
 use Rattle.rule_words.specs.Words.{decode, nodes}
 use Rattle.rule_nodes.specs.Nodes.{Holds, Good, top}
-use Rattle.engine.specs.Operators.{opOf}
+use Rattle.rule_operators.specs.Operators.{opOf}
 
 -- operand j's setting of the features from k on: the forgotten feature f, if it is still to come, is held at j
 unfoldable pub spread : ℕ → ℕ → ℕ → List ℕ → List ℕ

@@ -1,4 +1,3 @@
-pub mod Operators
 pub mod Shortcuts
 pub mod Joint
 pub mod Memory

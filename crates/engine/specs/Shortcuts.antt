@@ -4,7 +4,7 @@ use mathlib.Core.List.{List}
 use Prim.Native.Nat.{ℕ, _≤_, _<_}
 use Rattle.words.specs.Tab.{tab}
 use Rattle.words.specs.Words.{listed}
-use Rattle.engine.specs.Operators.{pairOf, opOf}
+use Rattle.rule_operators.specs.Operators.{pairOf, opOf}
 
 -- a number for each branch word; a phrase stands for itself
 pub record Standing (F : ℕ → ℕ) : Type 0 where

@@ -1,7 +1,6 @@
 // The engine: one walk serves apply, CASE and forget on a rule table, with remembered results in lent scratch words or in the far records.
 mod memory; // memory.rt: what the walk remembers, and where
 mod operands; // operands.rt: the operands at a feature
-mod operators; // operators.rt: the operators on phrase numbers
 mod shortcuts; // shortcuts.rt: where nothing is walked
 
 use memory::Memo;
@@ -11,9 +10,9 @@ use notes::clear;
 use notes::clear_far;
 use operands::lowest;
 use operands::operands_at;
-use operators::combine;
 use rule_nodes::Answer;
 use rule_notes::make_in;
+use rule_operators::combine;
 use shortcuts::shortcut;
 use words::head_word;
 use words::wide;

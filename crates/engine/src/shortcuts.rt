@@ -1,5 +1,5 @@
 // Where nothing is walked: the operator of the branch words themselves is the branch of the result.
-use crate::operators::smaller;
+use rule_operators::smaller;
 ghost use mathlib.Core.Bool.{true};
 ghost use mathlib.Core.Path.{_≡_};
 ghost use Rattle.engine.specs.Shortcuts.{ShortPair, Short};

@@ -8,7 +8,7 @@ use Rattle.theory.specs.Tally.{tally}
 use Rattle.theory.specs.Rules.{unit-discrete}
 use Rattle.theory.specs.Costs.{int-discrete}
 use Rattle.words.specs.Tab.{tab}
-use Rattle.engine.specs.Operators.{pairOf, caseOf, forgottenOf}
+use Rattle.rule_operators.specs.Operators.{pairOf, caseOf, forgottenOf}
 use Rattle.operations.specs.Literal.{bitOf, setSize}
 use Rattle.cost_laws.specs.Lowest.{Lowest, NoneMarked}
 use Rattle.cost_laws.specs.Spots.{lowest}

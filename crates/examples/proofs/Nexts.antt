@@ -13,7 +13,7 @@ use Rattle.theory.specs.Rules.{Rule}
 use Rattle.theory.proofs.Lists.{getD-map-in}
 use Rattle.theory.proofs.Rank.{rank, rank-below, rank-order}
 use Rattle.theory.proofs.Counted.{settings-length, settings-at}
-use Rattle.engine.specs.Operators.{pairOf}
+use Rattle.rule_operators.specs.Operators.{pairOf}
 use Rattle.operations.specs.Literal.{bitOf}
 use Rattle.examples.specs.Examples.{sizes, a, b, c, numbers, six}
 

@@ -11,7 +11,7 @@ use Rattle.theory.specs.Tally.{tally}
 use Rattle.theory.specs.Rules.{Rule, says}
 use Rattle.theory.specs.Costs.{Cost}
 use Rattle.words.specs.Tab.{tab}
-use Rattle.engine.specs.Operators.{pairOf, caseOf, forgottenOf}
+use Rattle.rule_operators.specs.Operators.{pairOf, caseOf, forgottenOf}
 use Rattle.operations.specs.Literal.{literalOf, setSize}
 use Rattle.cost_laws.specs.Operations.{isBelow, priced, sum}
 use Rattle.cost_laws.specs.Lowest.{Lowest, NoneMarked}

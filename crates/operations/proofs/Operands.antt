@@ -19,7 +19,7 @@ use Rattle.rule_nodes.specs.Nodes.{Good}
 use Rattle.rule_sound.specs.Sound.{Sound}
 use Rattle.rule_restrict.specs.Restrict.{Holding, restr}
 use Rattle.rule_restrict.proofs.Restricting.{restr-whole}
-use Rattle.engine.specs.Operators.{pairOf, caseOf, forgottenOf}
+use Rattle.rule_operators.specs.Operators.{pairOf, caseOf, forgottenOf}
 use Rattle.engine.specs.Joint.{joint, Operands}
 use Rattle.engine.proofs.Applying.{joint-apply, joint-case, joint-forgotten}
 use Rattle.rules.proofs.Sounding.{sound-root}

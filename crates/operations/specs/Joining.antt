@@ -13,7 +13,7 @@ use Rattle.words.specs.Tab.{tab}
 use Rattle.words.specs.Words.{features, size, sizes, listed}
 use Rattle.rule_words.specs.Words.{root, ruleOf}
 use Rattle.rule_sound.specs.Sound.{Sound}
-use Rattle.engine.specs.Operators.{pairOf, caseOf, forgottenOf}
+use Rattle.rule_operators.specs.Operators.{pairOf, caseOf, forgottenOf}
 use Rattle.rules.specs.Writing.{Writes}
 use Rattle.settling.specs.Settling.{Exceeds}
 

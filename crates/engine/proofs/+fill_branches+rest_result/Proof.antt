@@ -32,7 +32,7 @@ use Rattle.engine.proofs.memory.recall_in.Reads as recall-in-reads
 use Rattle.engine.proofs.memory.remember_in.Reads as remember-in-reads
 use Rattle.engine.proofs.operands.lowest.Reads as lowest-reads
 use Rattle.engine.proofs.operands.operands_at.Reads as operands-at-reads
-use Rattle.engine.proofs.operators.combine.Reads as combine-reads
+use Rattle.rule_operators.proofs.combine.Reads as combine-reads
 use Rattle.engine.proofs.shortcuts.shortcut.Reads as shortcut-reads
 use Rattle.rule_notes.proofs.make_in.Reads as make-in-reads
 use Rattle.words.proofs.head_word.Reads as head-word-reads

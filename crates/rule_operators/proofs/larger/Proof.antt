@@ -1,7 +1,7 @@
--- `engine::operators::larger` meets its contract: one test. Assumes nothing.
+-- `rule_operators::larger` meets its contract: one test. Assumes nothing.
 use borrow.Author.Tests.{lt-ltb, le-ltb}
-use Rattle.engine.proofs.operators.larger.Statement.{statement}
-use Rattle.engine.proofs.operators.larger.Tie as tie
+use Rattle.rule_operators.proofs.larger.Statement.{statement}
+use Rattle.rule_operators.proofs.larger.Tie as tie
 
 returns : tie.Need-returns
 returns c = simp (lt-ltb _ _ ((c .if1) .taken))

@@ -13,7 +13,7 @@ use borrow.Author.Tests.{lt-ltb, le-ltb, eq-eqb, ne-eqb}
 use Rattle.words.specs.Tab.{tab}
 use Rattle.words.specs.Words.{pick}
 use Rattle.words.proofs.Tab.{split, length-tab, getD-tab}
-use Rattle.engine.specs.Operators.{largerOf, pairOf, caseOf, forgottenOf, opOf}
+use Rattle.rule_operators.specs.Operators.{largerOf, pairOf, caseOf, forgottenOf, opOf}
 
 -- ---- which operator
 pub op-pair : (o n : ℕ) (f : ℕ → ℕ) → 2 ≤ n → o < 6 → opOf o (tab f n) ≡ pairOf o (f 0) (f 1)

@@ -1,12 +1,12 @@
--- `engine::operators::chosen` meets its contract: the number at the selector's index among the others, 0 past them. Assumes nothing.
-use Rattle.engine.proofs.Operating.{case-at, case-past}
+-- `rule_operators::chosen` meets its contract: the number at the selector's index among the others, 0 past them. Assumes nothing.
+use Rattle.rule_operators.proofs.Operating.{case-at, case-past}
 use Rattle.words.specs.Words.{listed}
 use native.Mathlib.Omega.{arith}
 use Prim.Native.Nat.{_+_}
 use mathlib.Core.Path.{_≡_, ap, _∙_}
 use borrow.Author.Needs.{needs}
-use Rattle.engine.proofs.operators.chosen.Statement.{statement}
-use Rattle.engine.proofs.operators.chosen.Tie as tie
+use Rattle.rule_operators.proofs.chosen.Statement.{statement}
+use Rattle.rule_operators.proofs.chosen.Tie as tie
 
 array-read-wide : tie.Need-array-read-wide
 array-read-wide c = search needs

@@ -1,7 +1,7 @@
--- `engine::operators::smaller` meets its contract: one test. Assumes nothing.
+-- `rule_operators::smaller` meets its contract: one test. Assumes nothing.
 use borrow.Author.Tests.{lt-ltb, le-ltb}
-use Rattle.engine.proofs.operators.smaller.Statement.{statement}
-use Rattle.engine.proofs.operators.smaller.Tie as tie
+use Rattle.rule_operators.proofs.smaller.Statement.{statement}
+use Rattle.rule_operators.proofs.smaller.Tie as tie
 
 returns : tie.Need-returns
 returns c = simp (lt-ltb _ _ ((c .if1) .taken))

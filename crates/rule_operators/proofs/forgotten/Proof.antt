@@ -1,6 +1,6 @@
--- `engine::operators::forgotten` meets its contract: the rule holds of the numbers from j on, from the last to the first. Assumes nothing.
-use Rattle.engine.proofs.Operating.{forgotten-none, forgotten-more}
-use Rattle.engine.specs.Operators.{forgottenOf}
+-- `rule_operators::forgotten` meets its contract: the rule holds of the numbers from j on, from the last to the first. Assumes nothing.
+use Rattle.rule_operators.proofs.Operating.{forgotten-none, forgotten-more}
+use Rattle.rule_operators.specs.Operators.{forgottenOf}
 use Rattle.words.specs.Words.{listed}
 use Rattle.words.specs.Tab.{tab}
 use lib.ListN.{drop}
@@ -8,8 +8,8 @@ use native.Mathlib.Omega.{arith}
 use Prim.Native.Nat.{ℕ, _-_, _≤_}
 use mathlib.Core.Path.{_≡_, ap, _∙_}
 use borrow.Author.Needs.{needs}
-use Rattle.engine.proofs.operators.forgotten.Statement.{statement}
-use Rattle.engine.proofs.operators.forgotten.Tie as tie
+use Rattle.rule_operators.proofs.forgotten.Statement.{statement}
+use Rattle.rule_operators.proofs.forgotten.Tie as tie
 
 abbrev Inv-loop : tie.InvT-loop
 Inv-loop n vals best₀ j₀ best j = (j ≤ n) × (best ≡ forgottenOf (drop j (tab (listed vals) n)))

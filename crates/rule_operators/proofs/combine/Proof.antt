@@ -1,11 +1,11 @@
--- `engine::operators::combine` meets its contract: which operator it is. Assumes nothing.
-use Rattle.engine.proofs.Operating.{op-pair, op-case, op-forget}
+-- `rule_operators::combine` meets its contract: which operator it is. Assumes nothing.
+use Rattle.rule_operators.proofs.Operating.{op-pair, op-case, op-forget}
 use Rattle.words.specs.Words.{listed}
 use native.Mathlib.Omega.{arith}
 use mathlib.Core.Path.{sym, _∙_}
 use borrow.Author.Needs.{needs}
-use Rattle.engine.proofs.operators.combine.Statement.{statement}
-use Rattle.engine.proofs.operators.combine.Tie as tie
+use Rattle.rule_operators.proofs.combine.Statement.{statement}
+use Rattle.rule_operators.proofs.combine.Tie as tie
 
 array-read-pair-op : tie.Need-array-read-pair-op
 array-read-pair-op c = search needs

@@ -5,7 +5,7 @@ ghost use Prim.Native.Nat.{_≤_};
 ghost use lib.ListN.{drop};
 ghost use Rattle.words.specs.Tab.{tab};
 ghost use Rattle.words.specs.Words.{listed};
-ghost use Rattle.engine.specs.Operators.{smallerOf, largerOf, truthOf, pairOf, caseOf, forgottenOf, opOf};
+ghost use Rattle.rule_operators.specs.Operators.{smallerOf, largerOf, truthOf, pairOf, caseOf, forgottenOf, opOf};
 
 // The smaller of two numbers.
 pub fn smaller(x: u32, y: u32) -> u32
