@@ -88,7 +88,8 @@ uint32_t lampgrotto_apply(uint32_t *t, size_t t_len, uint32_t *scratch, size_t s
    Refuses: BAD_PLACE; BAD_ARGUMENT, no such feature or value; NO_ROOM. */
 uint32_t lampgrotto_restrict(uint32_t *t, size_t t_len, size_t place, size_t from, size_t feature, size_t value);
 
-/* The place gets the rule of another with a feature removed: the largest number over its values.
+/* The place gets the rule of another with a feature removed: of the numbers over its values 0 where no other occurs, the other
+   number where exactly one does, and 65,535 ("ask the traveller") where two or more differ.
    Refuses: BAD_PLACE; BAD_ARGUMENT, no such feature; NO_ROOM. */
 uint32_t lampgrotto_forget(uint32_t *t, size_t t_len, uint32_t *scratch, size_t scratch_len, size_t place, size_t from,
                            size_t feature);

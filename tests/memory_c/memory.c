@@ -109,12 +109,15 @@ static void some_case(size_t words) {
     compare("case", endings, 0, place, words);
 }
 
+/* what is left of two numbers: 0 gives way, two others that differ are 65,535 */
+static uint32_t merged(uint32_t x, uint32_t y) { return !x || x == y ? y : !y ? x : 65535; }
+
 static void some_forget(size_t words) {
     uint32_t endings[LENGTHS], place = any(RULES), from = any(RULES), f = any(FEATURES);
     for (int i = 0; i < LENGTHS; i++) endings[i] = lampgrotto_forget(rules[i], words, scratch, lend(i), place, from, f);
     for (int s = 0; s < SETTINGS; s++) {
         new_numbers[s] = 0;
-        for (uint32_t v = 0; v < features[f]; v++) new_numbers[s] = applied(2, new_numbers[s], numbers[from][with(s, (int)f, v)]);
+        for (uint32_t v = 0; v < features[f]; v++) new_numbers[s] = merged(new_numbers[s], numbers[from][with(s, (int)f, v)]);
     }
     compare("forget", endings, 0, place, words);
 }

@@ -6,7 +6,7 @@
 
 enum { CAPACITY = 8, WORDS = 8192 + 32 * CAPACITY, SCRATCH = 256, PAST = 3 };
 enum { SMALLER = 1, LARGER, EQUAL, LESS, DIFFER };
-enum { A, B, C, SEVEN, RESULT, OTHER }; /* places of the table */
+enum { A, B, C, SEVEN, RESULT, OTHER, TWELVE, FORTY }; /* places of the table */
 
 static const uint8_t features[2] = {2, 3};
 static uint32_t table[WORDS + PAST], scratch[SCRATCH], out[17];
@@ -89,6 +89,20 @@ static void chosen(void) {
     say_rule("the copy", OTHER);
     say("CASE of a over one branch", lampgrotto_case(table, WORDS, scratch, SCRATCH, RESULT, A, branches, 1));
     say_rule("still", RESULT);
+}
+
+/* what forgetting leaves of 12 and 40 */
+static void left(void) {
+    static const uint32_t branches[2] = {TWELVE, FORTY};
+    fresh();
+    say("the constant 12", lampgrotto_constant(table, WORDS, TWELVE, 12));
+    say("the constant 40", lampgrotto_constant(table, WORDS, FORTY, 40));
+    say("CASE of c over 12, 40", lampgrotto_case(table, WORDS, scratch, SCRATCH, RESULT, C, branches, 2));
+    say_rule("it", RESULT);
+    say("without feature 1", lampgrotto_forget(table, WORDS, scratch, SCRATCH, OTHER, RESULT, 1));
+    say_rule("left", OTHER);
+    say("without feature 0", lampgrotto_forget(table, WORDS, scratch, SCRATCH, OTHER, RESULT, 0));
+    say_rule("left", OTHER);
 }
 
 static void operators(void) {
@@ -277,6 +291,7 @@ int main(void) {
     the_rules();
     held_and_removed();
     chosen();
+    left();
     operators();
     first_settings();
     sets();

@@ -1,6 +1,6 @@
 -- THE LAWS OF COST ARITHMETIC over calls on one table: none is refused, the results stand in places that are none of the sources, and
 -- meanwhile the named places hold what they held; then two results have one root word and one base word. Assumes nothing.
-use mathlib.Core.Path.{_≡_, refl, sym, subst}
+use mathlib.Core.Path.{_≡_}
 use mathlib.Core.List.{List, [], _∷_, _++_}
 use Prim.Native.Nat.{ℕ, _<_}
 use native.Mathlib.Omega.{arith}
@@ -20,14 +20,12 @@ use Rattle.demands.proofs.Promised as D
 use Rattle.demands.proofs.CostLaws.{drawn}
 use Rattle.call_laws.specs.Standing.{Among, first, later, Apart, Next}
 use Rattle.call_laws.specs.Formulas.{Still, InTurn, One, Formula, Given, saidBy, Worked, source, stays, added, subtracted, smaller, scaled}
-use Rattle.call_laws.proofs.Standing.{written-elsewhere}
+use Rattle.call_laws.proofs.Among.{other, at0, at1, at2, at3, at4, at5, at6, at7}
+use Rattle.call_laws.proofs.Standing.{next-stands}
 use Rattle.call_laws.proofs.Formulas.{one-formula}
 use Rattle.call_laws.proofs.Identities.{sum-order, sum-grouping, sum-undone, smaller-sums, scaled-sum}
 
 -- ---- places of lists
-other : {l k : List ℕ} {p r : ℕ} → Apart l k → Among r k → Among p l → r ≡ p → ⊥
-other {l} {r = r} d m n e = d .apart r (subst (λ (x : ℕ). Among x l) (sym e) n) m
-
 -- all of them are places of a cost table
 abbrev Below : List ℕ → Type 0
 Below [] = Unit {0}
@@ -41,38 +39,13 @@ in-front : {k : List ℕ} {r : ℕ} (l : List ℕ) → Among r k → Among r (k 
 in-front l (first e) = first e
 in-front l (later m) = later (in-front l m)
 
--- ---- the places of a list by number
-at0 : {p : ℕ} {l : List ℕ} → Among p (p ∷ l)
-at0 = first refl
-
-at1 : {o p : ℕ} {l : List ℕ} → Among p (o ∷ p ∷ l)
-at1 = later at0
-
-at2 : {n o p : ℕ} {l : List ℕ} → Among p (n ∷ o ∷ p ∷ l)
-at2 = later at1
-
-at3 : {m n o p : ℕ} {l : List ℕ} → Among p (m ∷ n ∷ o ∷ p ∷ l)
-at3 = later at2
-
-at4 : {k m n o p : ℕ} {l : List ℕ} → Among p (k ∷ m ∷ n ∷ o ∷ p ∷ l)
-at4 = later at3
-
-at5 : {j k m n o p : ℕ} {l : List ℕ} → Among p (j ∷ k ∷ m ∷ n ∷ o ∷ p ∷ l)
-at5 = later at4
-
-at6 : {i j k m n o p : ℕ} {l : List ℕ} → Among p (i ∷ j ∷ k ∷ m ∷ n ∷ o ∷ p ∷ l)
-at6 = later at5
-
-at7 : {h i j k m n o p : ℕ} {l : List ℕ} → Among p (h ∷ i ∷ j ∷ k ∷ m ∷ n ∷ o ∷ p ∷ l)
-at7 = later at6
-
 -- ---- one call of a law: what it finds, and what it leaves where it does not write
 module _ {l : List ℕ} {Call : List ℕ → List ℕ → Outcome → Type 0} {w v : List ℕ} (t : Next costOf Sound l Call w v) where
   found : {r : ℕ} {x : Formula} → Among r l → Worked w r x → Worked (t .found) r x
   found {r} m i = stays i (t .still r m)
 
   kept : {j : Cases} {p r : ℕ} {g : Cost} {x : Formula} → Writes j p g (t .found) v Taken → Among r l → r < 16 → (r ≡ p → ⊥) → Worked w r x → Worked v r x
-  kept {r = r} c m h n i = stays (found m i) (written-elsewhere drawn (c .becomes refl) r h n)
+  kept c m h n i = stays i (next-stands drawn t c m h n)
 
 -- the sources k: they are places, and in the words w they hold the costs f
 abbrev Sources : List ℕ → (ℕ → Cost) → List ℕ → Type 0

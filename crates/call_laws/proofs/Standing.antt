@@ -17,7 +17,7 @@ use Rattle.demands.specs.Loan.{Holds}
 use Rattle.demands.specs.Table.{stateOf, table}
 use Rattle.demands.proofs.Table.{Drawn, written}
 use Rattle.demands.proofs.Places.{place-gives, put-here, put-elsewhere}
-use Rattle.call_laws.specs.Standing.{Still, Next}
+use Rattle.call_laws.specs.Standing.{Among, Still, Next}
 
 module _ {K : Kind} {D : Drawing K} {own : List ℕ → ℕ → Fun K} {Sound : List ℕ → Type 0} (F : Drawn D own Sound) where
   -- what agrees with a place agrees with it as long as it still holds what it held
@@ -34,19 +34,19 @@ module _ {K : Kind} {D : Drawing K} {own : List ℕ → ℕ → Fun K} {Sound : 
     pub written-sound : Sound w′
     written-sound = holds .sound
 
-    list-same : sizes w′ ≡ sizes w
-    list-same = sym (holds .agrees .lists)
+    pub written-list : sizes w′ ≡ sizes w
+    written-list = sym (holds .agrees .lists)
 
     pub written-agrees : {f : Fun K} → p < D .places → Agree (sizes w) g f → Agree (sizes w′) (own w′ p) f
     written-agrees h a s x =
-        let y = subst (λ (S : List ℕ). Valid S s) list-same x in
+        let y = subst (λ (S : List ℕ). Valid S s) written-list x in
         place-gives F holds p h s y ∙ ap (λ (f : Fun K). f s) (put-here before p g (omega (arith, h, F .length-said w))) ∙ a s y
 
     pub written-elsewhere : (q : ℕ) → q < D .places → (q ≡ p → ⊥) → Still own Sound q w w′
     written-elsewhere q h n =
         record {
           sound = written-sound;
-          list = list-same;
+          list = written-list;
           same = λ s x. place-gives F holds q h s x ∙ ap (λ (f : Fun K). f s) (put-elsewhere before p g q n ∙ F .at-said w q h);
         }
 
@@ -65,3 +65,8 @@ module _ {K : Kind} {D : Drawing K} {own : List ℕ → ℕ → Fun K} {Sound : 
   -- a call that comes at once is next
   pub at-once : {l : List ℕ} {Call : List ℕ → List ℕ → Outcome → Type 0} {w v : List ℕ} → Sound w → Call w v Taken → Next own Sound l Call w v
   at-once {w = w} s c = record { found = w; still = λ p m. still-itself s; taken = c }
+
+  -- and leaves what it does not write
+  pub next-stands : {l : List ℕ} {Call : List ℕ → List ℕ → Outcome → Type 0} {w v : List ℕ} {j : Cases} {p r : ℕ} {g : Fun K} (t : Next own Sound l Call w v) →
+      Writes D j p g (t .found) v Taken → Among r l → r < D .places → (r ≡ p → ⊥) → Still own Sound r w v
+  next-stands {r = r} t c m h n = still-on (t .still r m) (written-elsewhere (c .becomes refl) r h n)

@@ -68,7 +68,7 @@ module _ {L : Loan} {E : Effects L} (F : Frame E) {d : Deed L} (l : Lawful E d) 
         go (Refused x) e = subst (λ (u : L .Words). Holds L u z) (sym (m .kept x e)) h
 
   -- two outcomes on the same words are one
-  meets-one : {w a b : L .Words} {r q : d .Result} → Meets d w a r → Meets d w b q → (r ≡ q) × (a ≡ b)
+  pub meets-one : {w a b : L .Words} {r q : d .Result} → Meets d w a r → Meets d w b q → (r ≡ q) × (a ≡ b)
   meets-one {w} {a} {b} {r} {q} m n = (
     ended (d .ending r) (λ e. l .one (L .says w) r q e (sym same ∙ e) (m .gives e) (n .gives (sym same ∙ e))) (λ x e. m .refused x e ∙ sym (n .refused x (sym same ∙ e))),
     ended (d .ending r) (λ e. F .leaves-one w a b (d .writes (L .says w)) (m .leaves e) (n .leaves (sym same ∙ e))) (λ x e. m .kept x e ∙ sym (n .kept x (sym same ∙ e))),

@@ -22,7 +22,8 @@ use Rattle.rule_words.specs.Words.{ruleOf, rulesOf}
 use Rattle.rule_words.proofs.Reading.{at-rules}
 use Rattle.rule_sound.specs.Sound.{Sound}
 use Rattle.rule_operators.specs.Operators.{pairOf, caseOf}
-use Rattle.operations.specs.Joining.{Places, applied, Operates, chosen, Chooses, without, Forgets}
+use Rattle.rules.specs.Writing.{Writes}
+use Rattle.operations.specs.Joining.{Places, applied, Operates, chosen, Chooses, without, forget-cases, Forgets}
 use Rattle.operations.specs.Restricting.{Restricts}
 use Rattle.operations.specs.Literal.{literalOf, literal-cases, setSize, Literals}
 use Rattle.theory.specs.Counted.{countOf}
@@ -92,12 +93,19 @@ module _ (w w′ : List ℕ) (p : ℕ) where
       (λ e. back (sizes w) (restricted-said w q f x (second (clear (rest e)))))
       r
 
-  forget-meets : (q f : ℕ) (o : Outcome) → Forgets p q f w w′ o → MeetsRule (forget p q f) w w′ o
-  forget-meets q f o r = wrote drawn (forget p q f .cases) (λ z. withoutOf f (getD (z .list) f 0) (at z q))
+  -- forgetting by any rule that agrees with the promised one
+  pub forget-by : (q f : ℕ) (o : Outcome) {g : Rule} → (f < features w → Agree (sizes w) (without q f w) g) → Writes (forget-cases p q f g w) p g w w′ o → MeetsRule (forget p q f) w w′ o
+  forget-by q f o {g} a r = wrote drawn (forget p q f .cases) (λ z. withoutOf f (getD (z .list) f 0) (at z q))
       (keep Damaged (λ ns. keep BadPlace (λ np. more BadArgument (λ h. omega (arith, h, length-sizes w)) (λ h. omega (arith, h, length-sizes w)) (λ na.
-      room-like (matched drawn w ns) (without-said w q f (second np) (omega (arith, na, length-sizes w)))))))
-      (λ e. let na = clear (rest (rest e)) in back (sizes w) (without-said w q f (second (clear (rest e))) (omega (arith, na))))
+      room-like (matched drawn w ns) (agrees (second np) (omega (arith, na, length-sizes w)))))))
+      (λ e. let na = clear (rest (rest e)) in back (sizes w) (agrees (second (clear (rest e))) (omega (arith, na))))
       r
+    where
+      agrees : q < 32 → f < features w → Agree (sizes w) (withoutOf f (getD (sizes w) f 0) (at (stated w) q)) g
+      agrees hq hf s v = without-said w q f hq hf s v ∙ a hf s v
+
+  forget-meets : (q f : ℕ) (o : Outcome) → Forgets p q f w w′ o → MeetsRule (forget p q f) w w′ o
+  forget-meets q f o r = forget-by q f o (λ h s v. refl) r
 
   read-meets : (s : List ℕ) (o : Outcome) → ReadsSheet p s w w′ o → MeetsRule (read p s) w w′ o
   read-meets s o r =

@@ -144,7 +144,7 @@ restrict p q f x =
     else room-cases (restricted f x (at z q)) z)
     (λ z. puts p (restricted f x (at z q)))
 
--- the largest number over the n values of feature f
+-- what is left of the numbers over the n values of feature f
 abbrev pub withoutOf : ℕ → ℕ → Rule → Rule
 withoutOf f n g = λ s. says (forgottenOf (tab (λ v. g (set s f v) .end) n))
 

@@ -157,7 +157,7 @@ pub joint-phrases : (w : List ℕ) (o f n k m x : ℕ) (l : List ℕ) → Operan
 unfolding joint
 joint-phrases w o f n k m x l p q h e =
     let each = phrases w f n k m l p q h in
-    let small : x < 65536 = rw e (op-any (λ b. b < 65536) o n (listed l) (omega arith) (omega arith) each) in
+    let small : x < 65536 = rw e (op-any (λ b. b < 65536) o n (listed l) (omega arith) (omega arith) (omega arith) each) in
     result-there w k x (joint w o f n k l) (p .holds)
     (built-there w k x (joint w o f n k l) (p .holds) (rw (decode-phrase x small) tt)
     (λ s. rw (decode-phrase x small) (value-phrase (nodes w) k x s ∙ ap says (e
@@ -179,7 +179,7 @@ joint-short w o f n k x l p q e = mean-result w k (joint w o f n k l) x (p .hold
     phrase-good b h = rw (decode-phrase b h) tt
 
     good : Good w k x
-    good = rw e (op-any (λ b. Good w k b) o n (listed l) (phrase-good 0 (omega arith)) (phrase-good 1 (omega arith)) (p .each))
+    good = rw e (op-any (λ b. Good w k b) o n (listed l) (phrase-good 0 (omega arith)) (phrase-good 1 (omega arith)) (phrase-good 65535 (omega arith)) (p .each))
 
     right : (s : List ℕ) → Valid (drop k (sizes w)) s → value (nodes w) k (decode x) s ≡ joint w o f n k l s
     right s v =

@@ -91,7 +91,7 @@ pub extern "C" fn lampgrotto_restrict(
     outcome_number(operations::restrict(t, place, from, feature, value))
 }
 
-// The rule of the place becomes another with a feature removed: the largest number over its values.
+// The rule of the place becomes another with a feature removed: 0, the one other number over its values, or 65,535 where two differ.
 #[no_mangle]
 pub extern "C" fn lampgrotto_forget(
     t: &mut [u32],

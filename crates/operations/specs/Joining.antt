@@ -52,20 +52,21 @@ case-cases p q l w =
 abbrev pub Chooses : ℕ → ℕ → List ℕ → List ℕ → List ℕ → Outcome → Type 0
 Chooses p q l w w′ o = Writes (case-cases p q l w) p (chosen q l w) w w′ o
 
--- ---- FORGET: the rule of place q with feature f removed, the largest number over its values, into place p
+-- ---- FORGET: the rule of place q with feature f removed, what is left of the numbers over its values, into place p
 abbrev pub without : ℕ → ℕ → List ℕ → Rule
 without q f w = λ s. says (forgottenOf (tab (λ v. ruleOf w q (set s f v) .end) (size w f)))
 
-abbrev pub forget-cases : ℕ → ℕ → ℕ → List ℕ → Cases
-forget-cases p q f w =
+-- g is the rule to write
+abbrev pub forget-cases : ℕ → ℕ → ℕ → Rule → List ℕ → Cases
+forget-cases p q f g w =
     Damaged when (Sound w → ⊥)
     else BadPlace when ((32 ≤ p) ⊎ (32 ≤ q))
     else BadArgument when (features w ≤ f)
-    else NoRoom when (Exceeds w (without q f w))
+    else NoRoom when (Exceeds w g)
     else taken
 
 abbrev pub Forgets : ℕ → ℕ → ℕ → List ℕ → List ℕ → Outcome → Type 0
-Forgets p q f w w′ o = Writes (forget-cases p q f w) p (without q f w) w w′ o
+Forgets p q f w w′ o = Writes (forget-cases p q f (without q f w) w) p (without q f w) w w′ o
 
 -- ---- the operands of CASE
 -- x is the root word of the place p; or the selector q gives the index j at no setting, and x is 0

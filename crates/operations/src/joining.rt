@@ -146,7 +146,7 @@ pub fn case(
     put_joint(t, scratch, place, 6, 16, m + 1, ops)
 }
 
-// The rule of the place becomes another with a feature removed: the largest number over its values.
+// The rule of the place becomes another with a feature removed: 0, the one other number over its values, or 65,535 where two differ.
 pub fn forget(
     t: &mut [u32],
     scratch: &mut [u32],

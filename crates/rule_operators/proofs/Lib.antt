@@ -1,1 +1,2 @@
 pub mod Operating
+pub mod Forgetting

@@ -13,7 +13,7 @@ use borrow.Author.Tests.{lt-ltb, le-ltb, eq-eqb, ne-eqb}
 use Rattle.words.specs.Tab.{tab}
 use Rattle.words.specs.Words.{pick}
 use Rattle.words.proofs.Tab.{split, length-tab, getD-tab}
-use Rattle.rule_operators.specs.Operators.{largerOf, pairOf, caseOf, forgottenOf, opOf}
+use Rattle.rule_operators.specs.Operators.{mergedOf, pairOf, caseOf, forgottenOf, opOf}
 
 -- ---- which operator
 pub op-pair : (o n : ℕ) (f : ℕ → ℕ) → 2 ≤ n → o < 6 → opOf o (tab f n) ≡ pairOf o (f 0) (f 1)
@@ -44,10 +44,10 @@ unfolding forgottenOf
 forgotten-none f n =
     ap forgottenOf (sym (ap (λ (m : ℕ). drop m (tab f n)) (sym (length-tab f n)) ∙ drop-length (tab f n)))
 
-pub forgotten-more : (f : ℕ → ℕ) (n i j b : ℕ) → i + 1 ≡ j → i < n → b ≡ forgottenOf (drop j (tab f n)) → largerOf (f i) b ≡ forgottenOf (drop i (tab f n))
+pub forgotten-more : (f : ℕ → ℕ) (n i j b : ℕ) → i + 1 ≡ j → i < n → b ≡ forgottenOf (drop j (tab f n)) → mergedOf (f i) b ≡ forgottenOf (drop i (tab f n))
 unfolding forgottenOf
 forgotten-more f n i j b e h q =
-    ap₂ largerOf (sym (getD-tab f n i 0 h)) (q ∙ ap (λ (m : ℕ). forgottenOf (drop m (tab f n))) (sym e ∙ add-one i))
+    ap₂ mergedOf (sym (getD-tab f n i 0 h)) (q ∙ ap (λ (m : ℕ). forgottenOf (drop m (tab f n))) (sym e ∙ add-one i))
     ∙ sym (ap forgottenOf (drop-cons (tab f n) i 0 (omega (arith, length-tab f n))))
 
 -- ---- what holds of 0, of 1 and of the numbers holds of the operator's
@@ -67,19 +67,21 @@ case-any : (P : ℕ → Type 0) (i : ℕ) (l : List ℕ) → ((j : ℕ) → P (g
 unfolding caseOf
 case-any P i l h = h i
 
-forgotten-any : (P : ℕ → Type 0) (l : List ℕ) → P 0 → ((j : ℕ) → P (getD l j 0)) → P (forgottenOf l)
+forgotten-any : (P : ℕ → Type 0) (l : List ℕ) → P 0 → P 65535 → ((j : ℕ) → P (getD l j 0)) → P (forgottenOf l)
 unfolding forgottenOf
-forgotten-any P [] h0 h = h0
-forgotten-any P (x ∷ l) h0 h = pick-any P (ltb x (forgottenOf l)) (forgottenOf l) x (forgotten-any P l h0 (λ j. h (suc j))) (h 0)
+forgotten-any P [] h0 h2 h = h0
+forgotten-any P (x ∷ l) h0 h2 h =
+    let r : P (forgottenOf l) = forgotten-any P l h0 h2 (λ j. h (suc j)) in
+    pick-any P (eqb x 0) (forgottenOf l) _ r (pick-any P (eqb (forgottenOf l) 0) x _ (h 0) (pick-any P (eqb x (forgottenOf l)) x 65535 (h 0) h2))
 
-op-list : (P : ℕ → Type 0) (o : ℕ) (l : List ℕ) → P 0 → P 1 → ((j : ℕ) → P (getD l j 0)) → P (opOf o l)
+op-list : (P : ℕ → Type 0) (o : ℕ) (l : List ℕ) → P 0 → P 1 → P 65535 → ((j : ℕ) → P (getD l j 0)) → P (opOf o l)
 unfolding opOf
-op-list P o l h0 h1 h =
+op-list P o l h0 h1 h2 h =
     pick-any P (ltb o 6) _ _ (pair-any P o (getD l 0 0) (getD l 1 0) h0 h1 (h 0) (h 1))
-    (pick-any P (eqb o 6) _ _ (case-any P (getD l 0 0) (drop 1 l) (λ j. rw (getD-drop 1 l j 0) (h (1 + j)))) (forgotten-any P l h0 h))
+    (pick-any P (eqb o 6) _ _ (case-any P (getD l 0 0) (drop 1 l) (λ j. rw (getD-drop 1 l j 0) (h (1 + j)))) (forgotten-any P l h0 h2 h))
 
-pub op-any : (P : ℕ → Type 0) (o n : ℕ) (f : ℕ → ℕ) → P 0 → P 1 → ((j : ℕ) → j < n → P (f j)) → P (opOf o (tab f n))
-op-any P o n f h0 h1 h = op-list P o (tab f n) h0 h1 (λ j. ⊎-elim
+pub op-any : (P : ℕ → Type 0) (o n : ℕ) (f : ℕ → ℕ) → P 0 → P 1 → P 65535 → ((j : ℕ) → j < n → P (f j)) → P (opOf o (tab f n))
+op-any P o n f h0 h1 h2 h = op-list P o (tab f n) h0 h1 h2 (λ j. ⊎-elim
     (λ l. rw (getD-tab f n j 0 l) (h j l))
     (λ l. let z : getD (tab f n) j 0 ≡ 0 = List·getD-eq-default (tab f n) 0 (omega (arith, length-tab f n)) in rw z h0)
     (split j n))

@@ -29,10 +29,14 @@ pairOf o x y =
 unfoldable pub caseOf : ℕ → List ℕ → ℕ
 caseOf i l = getD l i 0
 
--- FORGET: what stands for the numbers over the values of the forgotten feature: the largest
+-- two numbers as one: 0 gives way, equal numbers stay, and two that differ are 65,535
+abbrev pub mergedOf : ℕ → ℕ → ℕ
+mergedOf x y = pick (eqb x 0) y (pick (eqb y 0) x (pick (eqb x y) x 65535))
+
+-- FORGET: what stands for the numbers over the values of the forgotten feature: 0 where no other occurs, the other where one does, else 65,535
 unfoldable pub forgottenOf : List ℕ → ℕ
 forgottenOf [] = 0
-forgottenOf (x ∷ l) = largerOf x (forgottenOf l)
+forgottenOf (x ∷ l) = mergedOf x (forgottenOf l)
 
 -- the engine's operator o on a list: up to 5 apply's, on the first two; 6 CASE, the first chooses among the others; else forget
 unfoldable pub opOf : ℕ → List ℕ → ℕ

@@ -5,7 +5,7 @@ ghost use Prim.Native.Nat.{_≤_};
 ghost use lib.ListN.{drop};
 ghost use Rattle.words.specs.Tab.{tab};
 ghost use Rattle.words.specs.Words.{listed};
-ghost use Rattle.rule_operators.specs.Operators.{smallerOf, largerOf, truthOf, pairOf, caseOf, forgottenOf, opOf};
+ghost use Rattle.rule_operators.specs.Operators.{smallerOf, largerOf, truthOf, pairOf, caseOf, mergedOf, forgottenOf, opOf};
 
 // The smaller of two numbers.
 pub fn smaller(x: u32, y: u32) -> u32
@@ -50,18 +50,34 @@ fn chosen(vals: [u32; 9], n: usize) -> u32
     if i < n { vals[i] } else { 0 }
 }
 
-// FORGET's rule: the number that stands for those over the values of the forgotten feature. The largest.
+// Two numbers as one: 0 gives way, and two others that differ are 65,535.
+fn merged(x: u32, y: u32) -> u32
+    ensures { λ r. ⌜ r ≡ mergedOf x y ⌝ }
+{
+    if x == 0 {
+        return y;
+    }
+    if y == 0 {
+        return x;
+    }
+    if x == y {
+        return y;
+    }
+    65535
+}
+
+// FORGET's rule: the number that stands for those over the values of the forgotten feature.
 fn forgotten(vals: [u32; 9], n: usize) -> u32
     requires { ⌜ n ≤ 9 ⌝ }
     ensures { λ r. ⌜ r ≡ forgottenOf (tab (listed vals) n) ⌝ }
 {
-    let mut best: u32 = 0;
+    let mut left: u32 = 0;
     let mut j = n;
     while 0 < j {
         j -= 1;
-        best = larger(vals[j], best);
+        left = merged(vals[j], left);
     }
-    best
+    left
 }
 
 // The operator o on the first n numbers.

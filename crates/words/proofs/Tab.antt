@@ -1,7 +1,7 @@
 -- The laws of `tab`, and numbers compared. Assumes nothing.
-use mathlib.Core.Path.{_≡_, refl, sym, ap₂, _∙_, subst}
+use mathlib.Core.Path.{_≡_, refl, sym, ap, ap₂, _∙_, subst}
 use mathlib.Core.Logic.{_⊎_, inl, inr, ⊎-elim}
-use mathlib.Core.List.{List, [], _∷_, _++_}
+use mathlib.Core.List.{List, [], _∷_, _++_, List·Memᴰ, List·Memᴰ·head, List·Memᴰ·not-nil, List·Memᴰ·eq-of-singleton, List·Memᴰ·append-cases, Memᴰ·append-left, Memᴰ·append-right}
 use Prim.Native.Nat.{ℕ, zero, suc, _≤_, _<_}
 use native.Mathlib.Nat.{not-suc-le-zero}
 use native.Mathlib.Decide.{decLt, ℕ-discrete}
@@ -55,3 +55,20 @@ module _ {A : Type 0} where
       let e : length (take m (tab f n)) ≡ m = length-take-le m (tab f n) (omega (arith, length-tab f n)) in
       ext-getD d (take m (tab f n)) (tab f m) (e ∙ sym (length-tab f m))
       (λ i l. getD-take m (tab f n) i d (omega arith) ∙ getD-tab f n i d (omega arith) ∙ sym (getD-tab f m i d (omega arith)))
+
+  -- what occurs in it
+  pub tab-occurs : (f : ℕ → A) (n i : ℕ) → i < n → List·Memᴰ (f i) (tab f n)
+  unfolding tab
+  tab-occurs f zero i h = absurd (not-suc-le-zero h)
+  tab-occurs f (suc n) i h = ⊎-elim
+      (λ l. Memᴰ·append-left (f n ∷ []) (tab-occurs f n i l))
+      (λ l. let e : i ≡ n = omega arith in Memᴰ·append-right (tab f n) (List·Memᴰ·head (ap f e)))
+      (split i n)
+
+  pub occurs-tab : (f : ℕ → A) (n : ℕ) {x : A} → List·Memᴰ x (tab f n) → (i : ℕ) × (i < n) × (x ≡ f i)
+  unfolding tab
+  occurs-tab f zero m = absurd (List·Memᴰ·not-nil m)
+  occurs-tab f (suc n) m = ⊎-elim
+      (λ k. let r = occurs-tab f n k in (r .0, omega (arith, r .1), r .2))
+      (λ k. (n, omega arith, List·Memᴰ·eq-of-singleton k))
+      (List·Memᴰ·append-cases (tab f n) m)

@@ -1,10 +1,11 @@
-//! Examples over the sizes 2, 3, with answers worked out by hand: document 01's of rules, of costs, of both, and the laws of cost arithmetic.
+//! Examples with answers worked out by hand: document 01's of rules, of costs, of both; forgetting; the laws of cost arithmetic.
 
 use crate::desk::{Desk, Expected};
 use crate::scope::Scope;
 
-const TEXTS: [(Scope, &str); 4] = [
+const TEXTS: [(Scope, &str); 5] = [
     (Scope::Rules, include_str!("../examples.txt")),
+    (Scope::Rules, include_str!("../forget_examples.txt")),
     (Scope::Apart, include_str!("../cost_examples.txt")),
     (Scope::Apart, include_str!("../arithmetic_examples.txt")),
     (Scope::All, include_str!("../both_examples.txt")),

@@ -77,9 +77,22 @@ impl Maker {
                 let k = self.args.feature(Rules);
                 line(name, &[p, self.rich(Rules), k, self.args.value(k)])
             }
-            _ => line(name, &[p, self.rich(Rules), self.args.feature(Rules)]),
+            _ => self.forget(p),
         };
         self.say(text);
+    }
+
+    /// A feature is forgotten; often the rule has got a phrase at some of its values just before, so that numbers differ there.
+    fn forget(&mut self, p: i64) -> String {
+        let (from, k) = (self.rich(Rules), self.args.feature(Rules));
+        if !self.args.rng.once_in(3) {
+            let (phrase, values) = (self.poor(Rules), self.poor(Rules));
+            let (number, bits) = (self.args.number(), self.args.bits(k));
+            self.say(line("constant", &[phrase, number]));
+            self.say(line("literal", &[values, k, bits]));
+            self.say(line("case", &[from, values, from, phrase]));
+        }
+        line("forget", &[p, from, k])
     }
 
     /// A call that only reads.

@@ -227,7 +227,7 @@ mod tests {
     use super::*;
     use crate::kind::MOST_COST;
     use crate::model::Cost;
-    use std::collections::HashMap;
+    use std::collections::{HashMap, HashSet};
 
     /// What commands on costs may be answered: taken, and every refusal that document 01 has for them.
     const ENDINGS: [(&str, &[&str]); 17] = [
@@ -341,6 +341,37 @@ mod tests {
         }
         let least = [sums.inner, sums.misleading, sums.at_the_end, sums.past_by_one].into_iter().min();
         assert!(least > Some(30), "{sums:?}");
+    }
+
+    /// What a line that forgets finds over the values, at some setting: 0 alone, one other beside 0, one other alone, two that differ.
+    fn forgotten(desk: &Desk, line: &str) -> Option<[bool; 4]> {
+        let table = desk.rules.table()?;
+        let numbers: Vec<usize> = line.strip_prefix("forget ")?.split(' ').filter_map(|n| n.parse().ok()).collect();
+        let &[_, from, k] = numbers.as_slice() else { return None };
+        let (rule, size) = (table.places.get(from)?, *table.shape.sizes.get(k)?);
+        let mut found = [false; 4];
+        for i in 0..rule.len() {
+            let met: HashSet<u16> = (0..size).map(|v| rule[table.shape.with(i, k, v)]).collect();
+            let zero = usize::from(met.contains(&0));
+            let kind = if met.len() - zero == 1 { 2 - zero } else { 3 * usize::from(met.len() > zero) };
+            found[kind] = true;
+        }
+        Some(found)
+    }
+
+    #[test]
+    fn forgetting_meets_every_sentence() {
+        let mut met = [0; 4];
+        for seed in 1000..1160 {
+            let mut desk = Desk::new();
+            for line in script(seed, Scope::All) {
+                let found = forgotten(&desk, &line);
+                if ending(&mut desk, &line) == "0" {
+                    (0..4).for_each(|kind| met[kind] += usize::from(found.is_some_and(|f| f[kind])));
+                }
+            }
+        }
+        assert!(met.into_iter().min() > Some(50), "{met:?}");
     }
 
     #[test]

@@ -12,10 +12,10 @@ use Rattle.rule_operators.proofs.forgotten.Statement.{statement}
 use Rattle.rule_operators.proofs.forgotten.Tie as tie
 
 abbrev Inv-loop : tie.InvT-loop
-Inv-loop n vals best₀ j₀ best j = (j ≤ n) × (best ≡ forgottenOf (drop j (tab (listed vals) n)))
+Inv-loop n vals left₀ j₀ left j = (j ≤ n) × (left ≡ forgottenOf (drop j (tab (listed vals) n)))
 
 abbrev μ-loop : tie.MeasureT-loop
-μ-loop n vals best₀ j₀ best j = j
+μ-loop n vals left₀ j₀ left j = j
 
 loop-holds : tie.Need-loop-holds Inv-loop μ-loop
 loop-holds c = (omega arith, forgotten-none (listed ((c) .args .t1)) ((c) .args .n))
@@ -23,20 +23,20 @@ loop-holds c = (omega arith, forgotten-none (listed ((c) .args .t1)) ((c) .args 
 sub-j : tie.Need-sub-j Inv-loop μ-loop
 sub-j c = search needs
 
-mul-larger : tie.Need-mul-larger Inv-loop μ-loop
-mul-larger c = search needs
+mul-merged : tie.Need-mul-merged Inv-loop μ-loop
+mul-merged c = search needs
 
-array-read-larger : tie.Need-array-read-larger Inv-loop μ-loop
-array-read-larger c = search needs
+array-read-merged : tie.Need-array-read-merged Inv-loop μ-loop
+array-read-merged c = search needs
 
-larger-requires : tie.Need-larger-requires Inv-loop μ-loop
-larger-requires c κs = search needs
+merged-requires : tie.Need-merged-requires Inv-loop μ-loop
+merged-requires c κs = search needs
 
 loop-less : tie.Need-loop-less Inv-loop μ-loop
 loop-less c = search needs
 
 loop-again : tie.Need-loop-again Inv-loop μ-loop
-loop-again c = let l = (c .before .before .loop) in (omega arith, (c .larger) .ensures ∙ forgotten-more (listed ((c .before .before .before) .args .t1)) ((c .before .before .before) .args .n) (l .j - 1) (l .j) (l .best) (omega arith) (omega arith) (l .inv .1))
+loop-again c = let l = (c .before .before .loop) in (omega arith, (c .merged) .ensures ∙ forgotten-more (listed ((c .before .before .before) .args .t1)) ((c .before .before .before) .args .n) (l .j - 1) (l .j) (l .left) (omega arith) (omega arith) (l .inv .1))
 
 returns : tie.Need-returns Inv-loop μ-loop
 returns c = let l = (c .before .loop) in
@@ -51,9 +51,9 @@ forgotten-spec =
     μ-loop
     loop-holds
     sub-j
-    mul-larger
-    array-read-larger
-    larger-requires
+    mul-merged
+    array-read-merged
+    merged-requires
     loop-less
     loop-again
     returns)
