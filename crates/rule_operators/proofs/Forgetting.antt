@@ -182,7 +182,7 @@ unfolding rows
 forgotten-swap f m n = under-both (rows-under f m n) (rows-under (λ v u. f u v) n m)
 
 -- ---- EXAMPLES
-pub examples : (forgottenOf (0 ∷ 0 ∷ []) ≡ 0) × (forgottenOf (0 ∷ 12 ∷ []) ≡ 12) × (forgottenOf (12 ∷ 0 ∷ 12 ∷ []) ≡ 12) × (forgottenOf (12 ∷ 40 ∷ []) ≡ 65535)
+pub forgotten-examples : (forgottenOf (0 ∷ 0 ∷ []) ≡ 0) × (forgottenOf (0 ∷ 12 ∷ []) ≡ 12) × (forgottenOf (12 ∷ 0 ∷ 12 ∷ []) ≡ 12) × (forgottenOf (12 ∷ 40 ∷ []) ≡ 65535)
     × (forgottenOf (0 ∷ 65535 ∷ []) ≡ 65535) × (forgottenOf (40 ∷ 12 ∷ 40 ∷ []) ≡ 65535)
 unfolding forgottenOf
-examples = (refl, refl, refl, refl, refl, refl)
+forgotten-examples = (refl, refl, refl, refl, refl, refl)
