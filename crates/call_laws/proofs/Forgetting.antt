@@ -107,7 +107,7 @@ module _ {a m p n q f e : ℕ} where
       let y = subst (λ (R : List ℕ). Valid R s) (P .list) x in
       P .gives s y ∙ gone-swap (sizes w) e f (ruleOf w a) s ∙ sym (Q .gives s y))
 
--- ---- 0/1 RULES: the promise of document 01 and the one of now have one ending and one outcome, word for word
+-- ---- 0/1 RULES: a call that keeps document 01's promise and one that keeps the promise of now end alike and leave the same words
 yes-no-same : {w : List ℕ} {q f : ℕ} → f < features w → YesNo w q → Agree (sizes w) (without q f w) (largest q f w)
 yes-no-same {w} {q} {f} h y s x = ap says (forgotten-largest (over w q f s) (λ n m.
     let r = occurs-tab (λ v. ruleOf w q (set s f v) .end) (size w f) m in

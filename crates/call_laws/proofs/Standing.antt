@@ -66,7 +66,7 @@ module _ {K : Kind} {D : Drawing K} {own : List ℕ → ℕ → Fun K} {Sound : 
   pub at-once : {l : List ℕ} {Call : List ℕ → List ℕ → Outcome → Type 0} {w v : List ℕ} → Sound w → Call w v Taken → Next own Sound l Call w v
   at-once {w = w} s c = record { found = w; still = λ p m. still-itself s; taken = c }
 
-  -- and leaves what it does not write
+  -- and what it does not write stands
   pub next-stands : {l : List ℕ} {Call : List ℕ → List ℕ → Outcome → Type 0} {w v : List ℕ} {j : Cases} {p r : ℕ} {g : Fun K} (t : Next own Sound l Call w v) →
       Writes D j p g (t .found) v Taken → Among r l → r < D .places → (r ≡ p → ⊥) → Still own Sound r w v
   next-stands {r = r} t c m h n = still-on (t .still r m) (written-elsewhere (c .becomes refl) r h n)

@@ -353,7 +353,12 @@ mod tests {
         for i in 0..rule.len() {
             let met: HashSet<u16> = (0..size).map(|v| rule[table.shape.with(i, k, v)]).collect();
             let zero = usize::from(met.contains(&0));
-            let kind = if met.len() - zero == 1 { 2 - zero } else { 3 * usize::from(met.len() > zero) };
+            let kind = match (met.len() - zero, zero) {
+                (0, _) => 0,
+                (1, 1) => 1,
+                (1, _) => 2,
+                _ => 3,
+            };
             found[kind] = true;
         }
         Some(found)
