@@ -165,20 +165,6 @@ static void agree(const struct job *j) {
 #endif
 }
 
-/* the tables have 0/1 rules: forgetting is compared on one with the phrases 12 and 40, by feature 0, where feature 1 is 1, as well */
-static void phrases_agree(void) {
-    uint32_t both[2] = {1, 2}, some[2] = {0, 5};
-    length = LAMPGROTTO_WORDS(16);
-    memset(features, SIZE, sizeof features);
-    expect(!lampgrotto_open(words, length, features, 16, 16), "open");
-    expect(!lampgrotto_constant(words, length, 1, 12) && !lampgrotto_constant(words, length, 2, 40), "constant");
-    expect(!lampgrotto_literal(words, length, 3, 0, 2, out, 1) && !lampgrotto_literal(words, length, 4, 1, 2, out, 1), "literal");
-    expect(!lampgrotto_case(words, length, scratch, 0, 5, 3, both, 2) && !lampgrotto_case(words, length, scratch, 0, 6, 4, some, 2), "CASE");
-    for (unsigned f = 0; f < 2; f++) expect(!lampgrotto_forget(words, length, scratch, 0, 7 + f, 6, f), "forget");
-    plain_load(words);
-    for (unsigned f = 0; f < 2; f++) expect(plain_forget(plain_root(6), f) == plain_root(7 + f), "forget of phrases");
-}
-
 static double times[JOBS][SIZES], plains[JOBS][SIZES], tested[JOBS][SIZES], checks[SIZES], sums[SIZES];
 #ifdef BUDDY
 static double buddies[JOBS][SIZES];
@@ -262,7 +248,6 @@ static void tables(void) {
 
 int main(void) {
     static const size_t capacities[SIZES] = {16, 64, 256, 1024, 4096};
-    phrases_agree();
     for (int c = 0; c < SIZES; c++) measure(SIZE, capacities[c], c);
     tables();
     return 0;

@@ -1,4 +1,4 @@
-/* Rules made, joined and read from C: document 01's examples over a feature of size 2 and one of size 3, with what is refused.
+/* Rules made, joined and read from C: examples over a feature of size 2 and one of size 3, document 01's and one of forgetting, with what is refused.
    It writes what it gets, call by call; the file expected has what it must get. */
 #include "lampgrotto.h"
 #include <stdio.h>
@@ -42,7 +42,7 @@ static void say_rule(const char *name, size_t place) {
     printf("; nodes in use %u\n", (unsigned)out[0]);
 }
 
-/* ---- document 01's examples */
+/* ---- the examples */
 
 static void the_rules(void) {
     say("open", lampgrotto_open(table, WORDS, features, 2, CAPACITY));

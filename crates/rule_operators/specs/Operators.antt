@@ -1,4 +1,4 @@
--- Document 01's operators on phrase numbers: apply's five by number, CASE, forget. Assumes nothing.
+-- The operators on phrase numbers: document 01's five of apply by number and its CASE, and what forgetting leaves. Assumes nothing.
 use mathlib.Core.Bool.{Bool, not}
 use mathlib.Core.List.{List, [], _∷_}
 use Prim.Native.Nat.{ℕ}

@@ -1,5 +1,5 @@
-//! A table as plain numbers: for each place the number of every setting, by rank. Each call answers what document 01
-//! says, or the lowest refusal number that applies. Here are the calls that rules and costs share.
+//! A table as plain numbers: for each place the number of every setting, by rank. Each call answers what the documents
+//! say, or the lowest refusal number that applies. Here are the calls that rules and costs share.
 
 use crate::kind::Number;
 use crate::rests;
