@@ -3,3 +3,4 @@ pub mod Settling
 pub mod Sounding
 pub mod Theorems
 pub mod Lists
+pub mod Ways

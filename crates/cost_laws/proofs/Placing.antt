@@ -8,13 +8,13 @@ use lib.IntN.{ℤ, _+ℤ_, _-ℤ_, +ℤ-idr, +ℤ-assoc}
 use lib.ListN.{length, drop}
 use Rattle.theory.specs.Settings.{Pos, Valid, zeros}
 use Rattle.theory.specs.Functions.{held, lift}
-use Rattle.theory.specs.Diagrams.{Branch, Node, Target, next, value}
+use Rattle.theory.specs.Diagrams.{Branch, Node, Target, value}
 use Rattle.theory.specs.WellFormed.{Ok, Under, WF}
 use Rattle.theory.specs.Build.{Ext, build}
 use Rattle.theory.specs.Costs.{costs}
 use Rattle.theory.proofs.Lists.{drop-head}
 use Rattle.theory.proofs.Ranges.{zeros-valid}
-use Rattle.theory.proofs.Values.{value-ext, value-next, value-wait, value-zeros}
+use Rattle.theory.proofs.Values.{value-ext, value-wait, value-zeros}
 use Rattle.theory.proofs.Lifting.{build-adds}
 use Rattle.cost_laws.specs.Integers.{Fit}
 use Rattle.cost_laws.specs.Range.{Within}
@@ -28,9 +28,6 @@ use Rattle.cost_laws.proofs.Spreads.{spread-lower, within-agree, within
 -- what is added up so far is the cost where the features that are left are 0
 pub adds-fits : {B : ℕ} (S : List ℕ) (N : List (Node costs)) → WF S N → (k : ℕ) (ns : List ℕ) → Pos ns → (b : Branch costs) → Ok N k b → Within B ns (value N k b) → Fit B (b .adds)
 adds-fits {B} S N w k ns p b o h = subst (Fit B) (value-zeros S N w k ns b o) (h .fits (zeros ns) (zeros-valid ns p))
-
-pub within-next : {B : ℕ} (N : List (Node costs)) (k n : ℕ) (ns : List ℕ) (b : Branch costs) → Within B (n ∷ ns) (value N k b) → (v : ℕ) → v < n → Within B ns (value N (suc k) (next N k b v))
-within-next {B} N k n ns b h v l = record { fits = λ s x. subst (Fit B) (offs (value-next N k b v s)) (h .fits (v ∷ s) (l, x)) }
 
 pub within-wait : {B : ℕ} (N : List (Node costs)) (k n : ℕ) (ns : List ℕ) → 0 < n → (b : Branch costs) → Ok N (suc k) b → Within B (n ∷ ns) (value N k b) → Within B ns (value N (suc k) b)
 within-wait {B} N k n ns p b o h = record { fits = λ s x. subst (Fit B) (offs (value-wait N k b 0 s o)) (h .fits (0 ∷ s) (p, x)) }

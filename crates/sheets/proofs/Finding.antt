@@ -8,64 +8,63 @@ use lib.ListN.{length, getD}
 use Rattle.theory.specs.Settings.{Valid}
 use Rattle.theory.specs.Diagrams.{at, blank}
 use Rattle.theory.specs.Rules.{Node, Phrase, node, says}
-use Rattle.theory.proofs.Ways.{OnWay, way-start, way-end, way-node, way-feature, way-value, way-step}
+use Rattle.theory.specs.WellFormed.{WF}
+use Rattle.theory.proofs.Ways.{OnWay, way-start, way-end, way-node, way-feature, way-value, way-on}
 use Rattle.sheet_bytes.specs.Bytes.{byte, sizesOf, count, feature, width, branch, root}
 use Rattle.sheet_check.specs.Diagram.{branchOf, nodesOf, ruleOf, Good}
 use Rattle.sheet_check.proofs.Diagrams.{nodes-length, nodes-at, feature-at, branches-length, branches-at, branch-phrase, branch-node, below-ok, ordered-wf}
 
 -- the branch word b stands on the way of the setting t
 abbrev pub Way : List ℕ → List ℕ → ℕ → Type 0
-Way s t b = OnWay (nodesOf s) t (ruleOf s t) (branchOf b)
+Way s t b = OnWay (sizesOf s) (nodesOf s) (ruleOf s) t (branchOf b)
 
-module _ {s : List ℕ} (g : Good s) (t : List ℕ) where
+module _ {s : List ℕ} (g : Good s) (t : List ℕ) (valid : Valid (sizesOf s) t) where
   pub find-start : (b : ℕ) → b ≡ root s → Way s t b
-  find-start b e = rw e (way-start (nodesOf s) t (branchOf (root s)) (below-ok s (count s) 0 (root s) (omega arith) (g .top)))
+  find-start b e = rw e (way-start (sizesOf s) (nodesOf s) t (branchOf (root s)) (below-ok s (count s) 0 (root s) (omega arith) (g .top)))
 
   -- a phrase is the end of the way
   pub find-end : (b : ℕ) → b < 65536 → Way s t b → b ≡ ruleOf s t .end
-  find-end b h o = ap (λ (x : Phrase). x .end) (way-end (nodesOf s) t (ruleOf s t) (says b) (subst (OnWay (nodesOf s) t (ruleOf s t)) (branch-phrase b h) o))
+  find-end b h o = ap (λ (x : Phrase). x .end) (way-end (sizesOf s) (nodesOf s) (ruleOf s) t valid (says b) (subst (OnWay (sizesOf s) (nodesOf s) (ruleOf s) t) (branch-phrase b h) o))
+
+  wf : WF (sizesOf s) (nodesOf s)
+  wf = ordered-wf (g .ordered)
 
   -- a node goes on
-  module _ (valid : Valid (sizesOf s) t) (b : ℕ) (h : 65536 ≤ b) (o : Way s t b) where
+  module _ (b : ℕ) (h : 65536 ≤ b) (o : Way s t b) where
     abbrev i : ℕ
     i = b - 65536
 
-    here : OnWay (nodesOf s) t (ruleOf s t) (node i)
-    here = subst (OnWay (nodesOf s) t (ruleOf s t)) (branch-node b h) o
+    here : OnWay (sizesOf s) (nodesOf s) (ruleOf s) t (node i)
+    here = subst (OnWay (sizesOf s) (nodesOf s) (ruleOf s) t) (branch-node b h) o
 
     pub find-node : b - 65536 < count s
-    find-node = omega (arith, way-node (sizesOf s) (nodesOf s) (ordered-wf (g .ordered)) t valid (ruleOf s t) tt i here, nodes-length s)
+    find-node = omega (arith, way-node (sizesOf s) (nodesOf s) (ruleOf s) t valid wf tt i here, nodes-length s)
 
     module _ (k : ℕ) (ek : k ≡ feature s (b - 65536)) where
       same-feature : at (nodesOf s) i .feature ≡ k
       same-feature = feature-at s i find-node ∙ sym ek
 
       pub find-feature : k < length t
-      find-feature = omega (arith, way-feature (sizesOf s) (nodesOf s) (ordered-wf (g .ordered)) t valid (ruleOf s t) tt i here, same-feature)
+      find-feature = omega (arith, way-feature (sizesOf s) (nodesOf s) (ruleOf s) t valid wf tt i here, same-feature)
 
       module _ (v : ℕ) (ev : v ≡ byte t k) where
-        same-value : getD t (at (nodesOf s) i .feature) 0 ≡ v
-        same-value = ap (byte t) same-feature ∙ sym ev
-
         pub find-value : v < width s (b - 65536)
         find-value =
             omega (
               arith,
-              way-value (sizesOf s) (nodesOf s) (ordered-wf (g .ordered)) t valid (ruleOf s t) tt i here,
-              same-value,
+              way-value (sizesOf s) (nodesOf s) (ruleOf s) t valid wf tt i here,
+              ap (byte t) same-feature,
+              ev,
               ap (λ (x : Node). length (x .branches)) (nodes-at s i find-node),
               branches-length s i,
             )
 
         module _ (c : ℕ) (ec : c ≡ branch s (b - 65536) v) where
-          next-branch : getD (at (nodesOf s) i .branches) (getD t (at (nodesOf s) i .feature) 0) blank ≡ branchOf c
-          next-branch =
-              ap (λ (u : ℕ). getD (at (nodesOf s) i .branches) u blank) same-value
-              ∙ ap (λ (x : Node). getD (x .branches) v blank) (nodes-at s i find-node)
-              ∙ branches-at s i v find-value ∙ ap branchOf (sym ec)
+          next-branch : getD (at (nodesOf s) i .branches) v blank ≡ branchOf c
+          next-branch = ap (λ (x : Node). getD (x .branches) v blank) (nodes-at s i find-node) ∙ branches-at s i v find-value ∙ ap branchOf (sym ec)
 
           pub find-on : Way s t c
-          find-on = subst (OnWay (nodesOf s) t (ruleOf s t)) next-branch (way-step (sizesOf s) (nodesOf s) (ordered-wf (g .ordered)) t valid (ruleOf s t) tt i here)
+          find-on = way-on (sizesOf s) (nodesOf s) (ruleOf s) t valid wf tt i here k v (branchOf c) same-feature ev next-branch
 
           pub find-less : c < b
           find-less = go (decLt c 65536)

@@ -1,10 +1,10 @@
 -- Laws of feature lists and their settings: place by place, of all zeros, and that both can be decided. Assumes nothing.
 use mathlib.Core.Path.{_≡_, refl, ap}
-use mathlib.Core.List.{List, [], _∷_}
+use mathlib.Core.List.{List, [], _∷_, _++_}
 use Prim.Native.Nat.{ℕ, zero, suc, _≤_, _<_}
 use native.Mathlib.Decide.{decLe, decLt}
 use native.Mathlib.Omega.{arith}
-use lib.ListN.{length, getD, replicate}
+use lib.ListN.{length, getD, drop, take, replicate}
 use Rattle.theory.specs.Settings.{FeatureList, Valid, Pos, zeros}
 use Rattle.theory.specs.Deciding.{all?}
 use Rattle.theory.proofs.Lists.{pos-of}
@@ -29,6 +29,22 @@ valid-from [] [] e h = tt
 valid-from [] (v ∷ s) e h = absurd (omega arith)
 valid-from (n ∷ ns) [] e h = absurd (omega arith)
 valid-from (n ∷ ns) (v ∷ s) e h = (h 0 (omega arith), valid-from ns s (omega arith) (λ k l. h (suc k) (omega arith)))
+
+-- the values from k on are a setting of the features from k on
+pub valid-drop : (k : ℕ) (S s : List ℕ) → Valid S s → Valid (drop k S) (drop k s)
+valid-drop zero S s h = h
+valid-drop (suc k) [] [] h = h
+valid-drop (suc k) [] (v ∷ s) h = absurd h
+valid-drop (suc k) (n ∷ S) [] h = absurd h
+valid-drop (suc k) (n ∷ S) (v ∷ s) h = valid-drop k S s (h .1)
+
+-- the values below k before a setting of the features from k on are a setting
+pub valid-fixed : (k : ℕ) (S s r : List ℕ) → Valid S s → Valid (drop k S) r → Valid S (take k s ++ r)
+valid-fixed zero S s r h x = x
+valid-fixed (suc k) [] [] r h x = x
+valid-fixed (suc k) [] (v ∷ s) r h x = absurd h
+valid-fixed (suc k) (n ∷ S) [] r h x = absurd h
+valid-fixed (suc k) (n ∷ S) (v ∷ s) r h x = (h .0, valid-fixed k S s r (h .1) x)
 
 pub zeros-valid : (S : List ℕ) → Pos S → Valid S (zeros S)
 zeros-valid [] h = tt

@@ -1,12 +1,11 @@
 -- What a branch means: one step, more nodes, an offset, a node. Assumes nothing.
 use mathlib.Core.Path.{_≡_, refl, sym, ap, _∙_, subst}
 use mathlib.Core.List.{List, [], _∷_, _++_}
-use Prim.Native.Nat.{ℕ, zero, suc, _+_, _≤_, _<_}
+use Prim.Native.Nat.{ℕ, zero, suc, _+_, _<_}
 use native.Mathlib.Nat.{le-of-suc-le-suc, not-suc-le-zero, add-zero, le-refl}
 use native.Mathlib.Decide.{ℕ-discrete}
 use native.Mathlib.Omega.{arith}
-use lib.ListN.{length, getD, length-append, drop}
-use lib.Seq.{drop-cons}
+use lib.ListN.{length, getD, length-append}
 use Rattle.theory.specs.Kind.{Kind}
 use Rattle.theory.specs.Settings.{Valid, zeros}
 use Rattle.theory.specs.Functions.{Amount, Fun, held, lift, parts, zero-fun}
@@ -216,14 +215,3 @@ module _ {K : Kind} where
 
   pub next-ext : (N M : List (Node K)) (k : ℕ) (b : Branch K) (v : ℕ) → Ext N M → Ok N k b → next M k b v ≡ next N k b v
   next-ext N M k b v e o = rw (e .ends) (next-more N (e .more) k b v o)
-
-  -- features that the branch does not test are passed over
-  pub value-jump : (N : List (Node K)) (b : Branch K) (s : List ℕ) (j d : ℕ) → Ok N (j + d) b → j + d ≤ length s → value N j b (drop j s) ≡ value N (j + d) b (drop (j + d) s)
-  value-jump N b s j zero o h = rw add-zero refl
-  value-jump N b s j (suc d) o h =
-      let e : j + suc d ≡ suc j + d = omega arith in
-      let p : Ok N (suc j + d) b = subst (λ (k : ℕ). Ok N k b) e o in
-      ap (value N j b) (drop-cons s j 0 (omega arith))
-      ∙ value-wait N j b (getD s j 0) (drop (suc j) s) (under-weaken N (length N) (length N) (suc j + d) (suc j) (b .to) (le-refl _) (omega arith) p)
-      ∙ value-jump N b s (suc j) d p (omega arith)
-      ∙ rw e refl

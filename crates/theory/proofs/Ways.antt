@@ -1,69 +1,105 @@
 -- The way of a setting from a root, from one node to the branch of its value: a lookup that passes over what is not tested. Assumes nothing.
-use mathlib.Core.Path.{_≡_, refl, sym, ap, _∙_}
-use mathlib.Core.List.{List}
-use Prim.Native.Nat.{ℕ, suc, _+_, _-_, _≤_, _<_}
-use native.Mathlib.Nat.{le-refl}
+use mathlib.Core.Path.{_≡_, refl, sym, ap, subst, _∙_}
+use mathlib.Core.List.{List, [], _∷_, _++_}
+use Prim.Native.Nat.{ℕ, zero, suc, _+_, _-_, _≤_, _<_}
+use native.Mathlib.Nat.{add-zero, le-of-suc-le-suc, le-refl, not-suc-le-zero}
 use native.Mathlib.Omega.{arith}
-use lib.ListN.{length, getD, drop}
+use lib.ListN.{length, getD, drop, take, take-append-drop}
 use lib.Seq.{drop-cons}
 use Rattle.theory.specs.Kind.{Kind}
 use Rattle.theory.specs.Settings.{Valid}
-use Rattle.theory.specs.Functions.{Amount}
+use Rattle.theory.specs.Functions.{Amount, Fun}
 use Rattle.theory.specs.Diagrams.{Branch, Node, at, blank, ending, node, up, value}
-use Rattle.theory.specs.WellFormed.{Ok, WF}
-use Rattle.theory.proofs.Ranges.{valid-at, valid-length}
+use Rattle.theory.specs.Rests.{after}
+use Rattle.theory.specs.WellFormed.{Mean, Ok, WF}
+use Rattle.theory.proofs.Ranges.{valid-at, valid-drop, valid-length}
 use Rattle.theory.proofs.WellFormed.{under-weaken}
-use Rattle.theory.proofs.Values.{value-ending, value-here, value-jump}
+use Rattle.theory.proofs.Values.{mean-here, mean-wait, value-ending}
+
+-- one more value of a setting before the rest
+take-more : (k : ℕ) (t s : List ℕ) → k < length t → take k t ++ (getD t k 0 ∷ s) ≡ take (suc k) t ++ s
+take-more k [] s h = absurd (not-suc-le-zero h)
+take-more zero (v ∷ t) s h = refl
+take-more (suc k) (v ∷ t) s h = ap (λ (l : List ℕ). v ∷ l) (take-more k t s (le-of-suc-le-suc h))
+
+module _ {K : Kind} (S : List ℕ) (N : List (Node K)) (g : Fun K) (t : List ℕ) where
+  -- the branch b stands at feature k on the way of the setting t: it means what is left of g with the features below k fixed as in t
+  pub record At (k : ℕ) (b : Branch K) : Type 0 where
+    pub upTo : k ≤ length t
+    pub means : Mean N k (drop k S) b (after (take k t) g)
+
+  -- it stands there at some feature
+  abbrev pub OnWay : Branch K → Type 0
+  OnWay b = (k : ℕ) × At k b
 
 module _ {K : Kind} where
-  -- the branch b stands on the way of the setting t to the amount x
-  pub record OnWay (N : List (Node K)) (t : List ℕ) (x : Amount K) (b : Branch K) : Type 0 where
-    pub level : ℕ
-    pub upTo : level ≤ length t
-    pub good : Ok N level b
-    pub says : value N level b (drop level t) ≡ x
+  -- a root stands on the way through what it means
+  pub way-start : (S : List ℕ) (N : List (Node K)) (t : List ℕ) (b : Branch K) → Ok N 0 b → OnWay S N (value N 0 b) t b
+  way-start S N t b o = (0, record { upTo = omega arith; means = record { ok = o; says = λ s x. refl } })
 
-  -- a root stands on the way to what it means
-  pub way-start : (N : List (Node K)) (t : List ℕ) (b : Branch K) → Ok N 0 b → OnWay N t (value N 0 b t) b
-  way-start N t b o = record { level = 0; upTo = omega arith; good = o; says = refl }
+  module _ (S : List ℕ) (N : List (Node K)) (g : Fun K) (t : List ℕ) (valid : Valid S t) where
+    -- an end is the end of the way
+    pub way-end : (y : Amount K) → OnWay S N g t (ending y) → y ≡ g t
+    way-end y o =
+        sym (value-ending N (o .0) y (drop (o .0) t))
+        ∙ o .1 .means .says (drop (o .0) t) (valid-drop (o .0) S t valid)
+        ∙ ap g (take-append-drop (o .0) t)
 
-  -- an end is the end of the way
-  pub way-end : (N : List (Node K)) (t : List ℕ) (x y : Amount K) → OnWay N t x (ending y) → y ≡ x
-  way-end N t x y o = sym (value-ending N (o .level) y (drop (o .level) t)) ∙ o .says
+    module _ (k : ℕ) (h : k < length t) where
+      -- feature k has a size, and a value below it
+      sized : drop k S ≡ getD S k 0 ∷ drop (suc k) S
+      sized = drop-cons S k 0 (omega (arith, valid-length S t valid))
 
-  module _ (S : List ℕ) (N : List (Node K)) (w : WF S N) (t : List ℕ) (valid : Valid S t) (x : Amount K) (a : K .Off) (i : ℕ)
-      (o : OnWay N t x (record { adds = a; to = node i })) where
-    abbrev k : ℕ
-    k = at N i .feature
+      small : getD t k 0 < getD S k 0
+      small = valid-at S t valid k (omega (arith, valid-length S t valid))
 
-    pub way-node : i < length N
-    way-node = o .good .0
+      -- what is left at feature k, by that feature's value
+      left : {b : Branch K} → At S N g t k b → Mean N k (getD S k 0 ∷ drop (suc k) S) b (after (take k t) g)
+      left {b} p = subst (λ (l : List ℕ). Mean N k l b (after (take k t) g)) sized (p .means)
 
-    pub way-feature : at N i .feature < length t
-    way-feature = omega (arith, w .fits i way-node .known, valid-length S t valid)
+      -- with that value fixed too
+      fixed : {b : Branch K} → Mean N (suc k) (drop (suc k) S) b (λ s. g (take k t ++ (getD t k 0 ∷ s))) → At S N g t (suc k) b
+      fixed m = record { upTo = h; means = record { ok = m .ok; says = λ s x. m .says s x ∙ ap g (take-more k t s h) } }
 
-    pub way-value : getD t (at N i .feature) 0 < length (at N i .branches)
-    way-value = omega (arith, w .fits i way-node .full, valid-at S t valid k (w .fits i way-node .known))
+      -- a feature that the branch does not test is passed over
+      past : (b : Branch K) → Ok N (suc k) b → At S N g t k b → At S N g t (suc k) b
+      past b o p = fixed (mean-wait (left p) o (getD t k 0) small)
 
-    -- a node goes on with the branch of its feature's value
-    pub way-step : OnWay N t x (up a (getD (at N i .branches) (getD t (at N i .feature) 0) blank))
-    way-step =
-        record {
-          level = suc k;
-          upTo = way-feature;
-          good = under-weaken N i (length N) (suc k) (suc k) (getD (at N i .branches) (getD t k 0) blank .to) (omega (arith, way-node)) (le-refl _) (w .fits i way-node .lower (getD t k 0));
-          says = sym down ∙ o .says;
-        }
-      where
-        jump : o .level + (k - o .level) ≡ k
-        jump = omega (arith, o .good .1)
+      -- at a node of feature k the way goes on with the branch of its value
+      on : WF S N → (a : K .Off) (i : ℕ) → at N i .feature ≡ k → At S N g t k (record { adds = a; to = node i }) →
+          At S N g t (suc k) (up a (getD (at N i .branches) (getD t k 0) blank))
+      on w a i e p = fixed (mean-here S w (left p) e (getD t k 0) small)
 
-        here : Ok N (o .level + (k - o .level)) (record { adds = a; to = node i })
-        here = (way-node, omega (arith, jump))
+    -- features that the branch does not test are passed over
+    along : (b : Branch K) (k d : ℕ) → Ok N (k + d) b → k + d ≤ length t → At S N g t k b → At S N g t (k + d) b
+    along b k zero o h p = rw add-zero p
+    along b k (suc d) o h p =
+        let e : k + suc d ≡ suc k + d = omega arith in
+        let q : Ok N (suc k + d) b = subst (λ (j : ℕ). Ok N j b) e o in
+        rw e (along b (suc k) d q (omega arith) (past k (omega arith) b (under-weaken N (length N) (length N) (suc k + d) (suc k) (b .to) (le-refl _) (omega arith) q) p))
 
-        down : value N (o .level) (record { adds = a; to = node i }) (drop (o .level) t) ≡ value N (suc k) (up a (getD (at N i .branches) (getD t k 0) blank)) (drop (suc k) t)
-        down =
-            value-jump N (record { adds = a; to = node i }) t (o .level) (k - o .level) here (omega (arith, jump, way-feature))
-            ∙ ap (λ (j : ℕ). value N j (record { adds = a; to = node i }) (drop j t)) jump
-            ∙ ap (value N k (record { adds = a; to = node i })) (drop-cons t k 0 way-feature)
-            ∙ value-here N k i (getD t k 0) a (drop (suc k) t) refl
+    module _ (w : WF S N) (a : K .Off) (i : ℕ) (o : OnWay S N g t (record { adds = a; to = node i })) where
+      pub way-node : i < length N
+      way-node = o .1 .means .ok .0
+
+      pub way-feature : at N i .feature < length t
+      way-feature = omega (arith, w .fits i way-node .known, valid-length S t valid)
+
+      pub way-value : getD t (at N i .feature) 0 < length (at N i .branches)
+      way-value = omega (arith, w .fits i way-node .full, valid-at S t valid (at N i .feature) (w .fits i way-node .known))
+
+      -- what the code reads: the node's feature k, the setting's value v there, the branch d of that value
+      pub way-on : (k v : ℕ) (d : Branch K) → at N i .feature ≡ k → v ≡ getD t k 0 → getD (at N i .branches) v blank ≡ d → OnWay S N g t (up a d)
+      way-on k v d ek ev ed =
+          (suc k, subst (λ (b : Branch K). At S N g t (suc k) (up a b)) (ap (λ (u : ℕ). getD (at N i .branches) u blank) (sym ev) ∙ ed) (on k h w a i ek here))
+        where
+          h : k < length t
+          h = omega (arith, way-feature, ek)
+
+          jump : o .0 + (k - o .0) ≡ k
+          jump = omega (arith, o .1 .means .ok .1, ek)
+
+          here : At S N g t k (record { adds = a; to = node i })
+          here =
+              subst (λ (j : ℕ). At S N g t j (record { adds = a; to = node i })) jump
+              (along (record { adds = a; to = node i }) (o .0) (k - o .0) (way-node, omega (arith, ek, jump)) (omega (arith, jump, h)) (o .1))

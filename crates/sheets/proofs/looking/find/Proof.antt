@@ -16,7 +16,7 @@ root-of-requires : tie.Need-root-of-requires Inv-loop μ-loop
 root-of-requires c κs = (c .before .before) .pre .0 .laid .lie
 
 loop-holds : tie.Need-loop-holds Inv-loop μ-loop
-loop-holds c = find-start ((c .before .before .before) .pre .0 .good) ((c .before .before .before) .args .t .now) ((c .root-of) .result) ((c .root-of) .ensures .0)
+loop-holds c = find-start ((c .before .before .before) .pre .0 .good) ((c .before .before .before) .args .t .now) ((c .before .before .before) .pre .1) ((c .root-of) .result) ((c .root-of) .ensures .0)
 
 feature-at-requires : tie.Need-feature-at-requires Inv-loop μ-loop
 feature-at-requires c κs = let a = (c .before .before .before .before .before) in let l = (c .before .loop) in (a .pre .0 .laid, find-node (a .pre .0 .good) (a .args .t .now) (a .pre .1) (l .b) (omega arith) (l .inv))
@@ -43,7 +43,7 @@ narrow-requires : tie.Need-narrow-requires Inv-loop μ-loop
 narrow-requires c κs = search needs
 
 returns : tie.Need-returns Inv-loop μ-loop
-returns c = let l = (c .before .before .loop) in (c .narrow) .ensures ∙ find-end ((c .before .before .before .before .before .before) .pre .0 .good) ((c .before .before .before .before .before .before) .args .t .now) (l .b) (omega arith) (l .inv)
+returns c = let l = (c .before .before .loop) in (c .narrow) .ensures ∙ find-end ((c .before .before .before .before .before .before) .pre .0 .good) ((c .before .before .before .before .before .before) .args .t .now) ((c .before .before .before .before .before .before) .pre .1) (l .b) (omega arith) (l .inv)
 
 pub find-spec : {M : Type 1} → statement M
 find-spec =
