@@ -1,4 +1,5 @@
 /* A rule is made in a table, its sheet is written to a file, and phrases are looked up in the sheet's bytes, as a phone does it.
+   The table's own look up also tells how many questions each phrase takes: "how many" matters only to the polite.
    Feature 0 is "polite" (no, yes), feature 1 "how many" (one, two, more); the rule is "polite and not two". */
 #include "lampgrotto.h"
 #include <stdio.h>
@@ -7,7 +8,7 @@ enum { CAPACITY = 16, WORDS = 8192 + 32 * CAPACITY, SCRATCH = 256, SHEET = 256 }
 enum { POLITE, NOT_TWO, BOTH }; /* places of the table */
 enum { SMALLER = 1 };           /* of two rules that give 0 or 1: both */
 
-static uint32_t table[WORDS], scratch[SCRATCH], out[1];
+static uint32_t table[WORDS], scratch[SCRATCH], out[2];
 static uint8_t sheet[SHEET];
 
 /* every call answers 0, or why it was refused */
@@ -44,7 +45,9 @@ int main(int count, char **words) {
     for (uint8_t p = 0; p < 2; p++)
         for (uint8_t m = 0; m < 3; m++) {
             const uint8_t setting[2] = {p, m};
-            printf("%s, %s: phrase %u\n", polite[p], many[m], (unsigned)lampgrotto_look_up(sheet, length, setting, 2));
+            unsigned phrase = (unsigned)lampgrotto_look_up(sheet, length, setting, 2);
+            lampgrotto_rule_look_up(table, WORDS, BOTH, setting, 2, out, 2);
+            printf("%s, %s: phrase %u, features asked %u\n", polite[p], many[m], phrase, (unsigned)out[1]);
         }
     return 0;
 }

@@ -94,7 +94,8 @@ uint32_t lampgrotto_restrict(uint32_t *t, size_t t_len, size_t place, size_t fro
 uint32_t lampgrotto_forget(uint32_t *t, size_t t_len, uint32_t *scratch, size_t scratch_len, size_t place, size_t from,
                            size_t feature);
 
-/* out[0]: the number that the place gives the setting.
+/* out[0]: the number that the place gives the setting. out[1]: how many features were asked for it: those on which the rule still
+   depends once the features before them are fixed as in the setting, so 0 for a constant.
    Refuses: BAD_PLACE; BAD_ARGUMENT, no setting of the table's features. */
 uint32_t lampgrotto_rule_look_up(const uint32_t *t, size_t t_len, size_t place, const uint8_t *setting, size_t setting_len,
                                  uint32_t *out, size_t out_len);
@@ -169,7 +170,7 @@ uint32_t lampgrotto_larger(uint32_t *t, size_t t_len, uint32_t *scratch, size_t 
    Refuses: BAD_PLACE; BAD_ARGUMENT, a factor beyond 1,000,000,000 or below -1,000,000,000; RANGE; NO_ROOM. */
 uint32_t lampgrotto_scale(uint32_t *t, size_t t_len, uint32_t *scratch, size_t scratch_len, size_t place, size_t a, int64_t factor);
 
-/* out[0]: the cost that the place gives the setting.
+/* out[0]: the cost that the place gives the setting. out[1]: how many features were asked for it, as of rules.
    Refuses: BAD_PLACE; BAD_ARGUMENT, no setting of the table's features. */
 uint32_t lampgrotto_cost_look_up(const uint32_t *t, size_t t_len, size_t place, const uint8_t *setting, size_t setting_len,
                                  uint32_t *out, size_t out_len);

@@ -28,18 +28,22 @@ static void say_results(const char *what, uint32_t ending, int n) {
     memset(out, 85, sizeof out);
 }
 
-/* what a place of either table gives each setting: the stepper goes through them */
+/* what a place of either table gives each setting, and how many features it asks there: the stepper goes through them */
 static void say_settings(const char *name, int cost, size_t place) {
     uint8_t setting[2] = {0, 0};
+    uint32_t asked[6], n = 0;
     printf("%s =", name);
     do {
-        if (cost) lampgrotto_cost_look_up(costs, WORDS, place, setting, 2, out, 1);
-        else lampgrotto_rule_look_up(rules, WORDS, place, setting, 2, out, 1);
+        if (cost) lampgrotto_cost_look_up(costs, WORDS, place, setting, 2, out, 2);
+        else lampgrotto_rule_look_up(rules, WORDS, place, setting, 2, out, 2);
         printf(" %ld", (long)(int32_t)out[0]);
+        asked[n++] = out[1];
         lampgrotto_step(features, 2, setting, 2, out, 17);
         setting[0] = (uint8_t)out[1];
         setting[1] = (uint8_t)out[2];
-    } while (!out[0]);
+    } while (!out[0] && n < 6);
+    printf("; asked");
+    for (uint32_t i = 0; i < n; i++) printf(" %u", (unsigned)asked[i]);
     memset(out, 85, sizeof out);
     printf("\n");
 }
@@ -170,8 +174,9 @@ static void room(void) {
 static void short_results(void) {
     static const uint8_t setting[2] = {0, 2};
     fresh();
-    say_results("look up, no room for it", lampgrotto_cost_look_up(costs, WORDS, Q, setting, 2, out, 0), 1);
+    say_results("look up, no room for it", lampgrotto_cost_look_up(costs, WORDS, Q, setting, 2, out, 0), 2);
     say_results("look up, one word", lampgrotto_cost_look_up(costs, WORDS, Q, setting, 2, out, 1), 2);
+    say_results("look up, two words", lampgrotto_cost_look_up(costs, WORDS, Q, setting, 2, out, 2), 3);
     say_results("lowest, two words", lampgrotto_lowest(costs, WORDS, rules, WORDS, scratch, SCRATCH, Q, ALL, out, 2), 3);
     say_results("lowest, refused, two words", lampgrotto_lowest(costs, WORDS, rules, WORDS, scratch, SCRATCH, Q, NOTHING, out, 2), 3);
 }
@@ -199,8 +204,8 @@ static void bad_arguments(void) {
     say("price, too high", lampgrotto_price(costs, WORDS, OTHER, 1, high, 3));
     say("scale, too high", lampgrotto_scale(costs, WORDS, scratch, SCRATCH, OTHER, P, MOST + 1));
     say("scale, of 64 bits", lampgrotto_scale(costs, WORDS, scratch, SCRATCH, OTHER, P, INT64_MIN));
-    say_results("look up, no such value", lampgrotto_cost_look_up(costs, WORDS, P, setting, 2, out, 17), 1);
-    say_results("look up, a value short", lampgrotto_cost_look_up(costs, WORDS, P, setting, 1, out, 17), 1);
+    say_results("look up, no such value", lampgrotto_cost_look_up(costs, WORDS, P, setting, 2, out, 17), 2);
+    say_results("look up, a value short", lampgrotto_cost_look_up(costs, WORDS, P, setting, 1, out, 17), 2);
 }
 
 /* the calls that are lent both tables; w words of costs and v of rules are lent, and the places are beyond the tables by p and q */
@@ -221,7 +226,7 @@ static void each_call(size_t w, size_t p) {
     say("smaller", lampgrotto_smaller(costs, w, scratch, SCRATCH, P + p, P, P));
     say("larger", lampgrotto_larger(costs, w, scratch, SCRATCH, Q, Q, Q + p));
     say("scale", lampgrotto_scale(costs, w, scratch, SCRATCH, SUM, SUM + p, 1));
-    say_results("look up", lampgrotto_cost_look_up(costs, w, SUM + p, setting, 2, out, 17), 1);
+    say_results("look up", lampgrotto_cost_look_up(costs, w, SUM + p, setting, 2, out, 17), 2);
     say_results("same", lampgrotto_cost_same(costs, w, P, P + p, out, 17), 1);
     say_results("tally", lampgrotto_cost_tally(costs, w, out, 17), 1);
     both_calls(w, WORDS, p, 0);

@@ -58,6 +58,21 @@ static int leaves(void) {
     return 0;
 }
 
+/* how many features a place asks at setting s: those k such that, with the features below k fixed as in s, what is left depends on k */
+static uint32_t asked(int cost, size_t place, int s) {
+    uint32_t count = 0;
+    for (int k = 0, span = SETTINGS; k < FEATURES; k++) {
+        int first = s - s % span, depends = 0, part = span / features[k];
+        for (int i = 0; i < span; i++) {
+            int a = first + i, b = first + i % part;
+            depends |= cost ? amounts[place][a] != amounts[place][b] : numbers[place][a] != numbers[place][b];
+        }
+        count += (uint32_t)depends;
+        span = part;
+    }
+    return count;
+}
+
 /* ---- after a call with each length: all ended alike and left the same words; what is stored is the new where it was taken */
 static void compare(const char *what, const uint32_t *endings, int cost, size_t place, size_t words) {
     uint32_t(*tables)[WORDS] = cost ? costs : rules;
@@ -74,9 +89,10 @@ static void compare(const char *what, const uint32_t *endings, int cost, size_t 
     for (int n = 0; n < LOOKS; n++) {
         int s = (int)any(SETTINGS);
         setting_of(s, setting);
-        if (cost) lampgrotto_cost_look_up(costs[0], words, place, setting, FEATURES, out, 1);
-        else lampgrotto_rule_look_up(rules[0], words, place, setting, FEATURES, out, 1);
+        if (cost) lampgrotto_cost_look_up(costs[0], words, place, setting, FEATURES, out, 2);
+        else lampgrotto_rule_look_up(rules[0], words, place, setting, FEATURES, out, 2);
         if (cost ? (int32_t)out[0] != amounts[place][s] : out[0] != numbers[place][s]) fail("another answer", out[0]);
+        if (out[1] != asked(cost, place, s)) fail("another number of features asked", out[1]);
         looks++;
     }
 }

@@ -27,17 +27,21 @@ static void say_results(const char *what, uint32_t ending, int n) {
     memset(out, 255, sizeof out);
 }
 
-/* the number that a place gives each setting: the stepper goes through them */
+/* the number that a place gives each setting, and how many features it asks there: the stepper goes through them */
 static void say_rule(const char *name, size_t place) {
     uint8_t setting[2] = {0, 0};
+    uint32_t asked[6], n = 0;
     printf("%s =", name);
     do {
-        lampgrotto_rule_look_up(table, WORDS, place, setting, 2, out, 1);
+        lampgrotto_rule_look_up(table, WORDS, place, setting, 2, out, 2);
         printf(" %u", (unsigned)out[0]);
+        asked[n++] = out[1];
         lampgrotto_step(features, 2, setting, 2, out, 17);
         setting[0] = (uint8_t)out[1];
         setting[1] = (uint8_t)out[2];
-    } while (!out[0]);
+    } while (!out[0] && n < 6);
+    printf("; asked");
+    for (uint32_t i = 0; i < n; i++) printf(" %u", (unsigned)asked[i]);
     lampgrotto_tally(table, WORDS, out, 1);
     printf("; nodes in use %u\n", (unsigned)out[0]);
 }
@@ -199,7 +203,7 @@ static void each_call(size_t w, size_t p, uint32_t x) {
     say("restrict, feature", lampgrotto_restrict(table, w, RESULT, C + p, x, 1));
     say("restrict, value", lampgrotto_restrict(table, w, RESULT, C + p, 0, x));
     say("forget", lampgrotto_forget(table, w, scratch, SCRATCH, RESULT, C + p, x));
-    say_results("look up", lampgrotto_rule_look_up(table, w, SEVEN + p, setting, 2, out, 17), 1);
+    say_results("look up", lampgrotto_rule_look_up(table, w, SEVEN + p, setting, 2, out, 17), 2);
     say_results("same", lampgrotto_same(table, w, A, A + p, out, 17), 1);
     say_results("count", lampgrotto_count(table, w, B + p, 1 + 65536 * x, out, 17), 2);
     say_results("next, number", lampgrotto_next(table, w, B + p, 1 + 65536 * x, zeros, 2, out, 17), 3);

@@ -61,6 +61,14 @@ pub fn put(out: &mut [u32], x: u32)
     put_at(out, 0, x);
 }
 
+// Two result words.
+pub fn put_two(out: &mut [u32], x: u32, y: u32)
+    ensures { λ _. ⌜ now (out .exit) ≡ placed (x ∷ y ∷ []) (now (out .entry)) ⌝ }
+{
+    put_at(out, 0, x);
+    put_at(out, 1, y);
+}
+
 // A length as one word.
 pub fn put_length(out: &mut [u32], n: usize)
     requires { ⌜ n < 4294967296 ⌝ }
@@ -80,8 +88,7 @@ pub fn put_flag(out: &mut [u32], b: bool)
 pub fn put_number(out: &mut [u32], x: u64)
     ensures { λ _. ⌜ now (out .exit) ≡ placed (halves x) (now (out .entry)) ⌝ }
 {
-    put_at(out, 0, low(x));
-    put_at(out, 1, high(x));
+    put_two(out, low(x), high(x));
 }
 
 // The values from word i on.

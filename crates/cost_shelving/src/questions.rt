@@ -26,6 +26,7 @@ fn look(n: &[u64], table: &[u32]) {
     let outcome = looked.outcome;
     say(outcome);
     say_amount(looked.cost);
+    say_word(looked.asked);
 }
 
 // `csame P Q`

@@ -8,6 +8,7 @@ use lib.IntN.{ℤ, pos}
 use Rattle.theory.specs.Functions.{Agree}
 use Rattle.theory.specs.Diagrams.{Branch, meaning}
 use Rattle.theory.specs.Tally.{tally}
+use Rattle.theory.specs.Asked.{asked}
 use Rattle.theory.specs.Costs.{costs, Cost, amount, to-end}
 use Rattle.theory.specs.WellFormed.{Ok}
 use Rattle.theory.proofs.Canonical.{canonical-unique}
@@ -29,6 +30,7 @@ use Rattle.cost_words.specs.Words.{branch, nodes, root, base, rootAt, costOf, c
 use Rattle.cost_words.specs.Picture.{Becomes}
 use Rattle.cost_words.proofs.Packing.{target-end, target-one}
 use Rattle.cost_sound.specs.Sound.{Sound}
+use Rattle.costs.specs.declared.reading.Looked.{Looked}
 use Rattle.costs.specs.Reading.{Looks, Compares, Tallies, look-cases, same-cases, tally-cases}
 use Rattle.costs.proofs.Sounding.{sound-pos, sound-wf, sound-root}
 
@@ -65,11 +67,12 @@ module _ (w : List ℕ) (q x a : ℕ) (ex : x ≡ root w q) (ea : a ≡ base w q
   copy-becomes {p} {w′} b = subst (λ (c : Branch costs). Becomes p (meaning (nodes w) c) w w′) (sym place-branch) b
 
 -- ---- calls that read
-pub look-refused : {p : ℕ} {s w : List ℕ} {x : Refusal} → Ends (look-cases p s w) (Refused x) → Looks p s w (record { outcome = Refused x; cost = pos 0 })
-look-refused e = record { ends = e; gives = not-taken; refused = λ y q. refl }
+pub look-refused : {p : ℕ} {s w : List ℕ} {x : Refusal} → Ends (look-cases p s w) (Refused x) → Looks p s w (record { outcome = Refused x; cost = pos 0; asked = 0 })
+look-refused e = record { ends = e; gives = not-taken; asks = not-taken; refused = λ y q. (refl, refl) }
 
-pub look-taken : {p : ℕ} {z : ℤ} {s w : List ℕ} → Ends (look-cases p s w) Taken → z ≡ costOf w p s .off → Looks p s w (record { outcome = Taken; cost = z })
-look-taken e g = record { ends = e; gives = λ q. g; refused = λ y. not-refused }
+pub look-taken : {p : ℕ} {s w : List ℕ} {r : Looked} → Ends (look-cases p s w) Taken → r .outcome ≡ Taken → r .cost ≡ costOf w p s .off → r .asked ≡ asked (sizes w) (costOf w p) s → Looks p s w r
+look-taken {p} {s} {w} {r} e t g a =
+    record { ends = subst (Ends (look-cases p s w)) (sym t) e; gives = λ q. g; asks = λ q. a; refused = λ y q. not-refused (sym t ∙ q) }
 
 pub same-refused : {p q : ℕ} {w : List ℕ} {x : Refusal} → Ends (same-cases p q w) (Refused x) → Compares p q w (record { outcome = Refused x; same = false })
 same-refused e = record { ends = e; gives = not-taken; refused = λ y q. refl }

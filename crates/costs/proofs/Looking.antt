@@ -1,7 +1,7 @@
 -- The way from a root to the end, by the words that the code reads, with what its branches add. Assumes nothing.
 use mathlib.Core.Path.{_≡_, sym, ap, subst}
 use mathlib.Core.List.{List, _++_}
-use Prim.Native.Nat.{ℕ, suc, _-_, _<_}
+use Prim.Native.Nat.{ℕ, suc, _+_, _-_, _<_}
 use native.Mathlib.Omega.{arith}
 use lib.IntN.{_+ℤ_}
 use lib.ListN.{length, getD, drop, take}
@@ -9,6 +9,7 @@ use Rattle.theory.specs.Settings.{Valid}
 use Rattle.theory.specs.Functions.{Amount}
 use Rattle.theory.specs.Costs.{costs, amount, to-end, to-node}
 use Rattle.theory.specs.Diagrams.{Branch, up, value}
+use Rattle.theory.specs.Asked.{asked}
 use Rattle.theory.proofs.Lists.{pos-drop}
 use Rattle.theory.proofs.Ranges.{valid-fixed}
 use Rattle.theory.proofs.Ways as W
@@ -16,7 +17,7 @@ use Rattle.cost_laws.specs.Integers.{Fit, int}
 use Rattle.cost_laws.specs.Range.{Within, addMost, costMost}
 use Rattle.cost_laws.proofs.Integers.{fit-more}
 use Rattle.cost_laws.proofs.Placing.{adds-fits}
-use Rattle.words.specs.Words.{count, sizes, feature, body}
+use Rattle.words.specs.Words.{features, count, sizes, feature, body}
 use Rattle.calls.proofs.Ways as C
 use Rattle.cost_words.specs.Words.{target, branch, goes, added, code, nodes, root, base, costOf}
 use Rattle.cost_words.proofs.Packing.{target-end, target-node}
@@ -24,23 +25,28 @@ use Rattle.cost_words.proofs.Reading.{under-word}
 use Rattle.cost_sound.specs.Sound.{Sound}
 use Rattle.costs.proofs.Sounding.{sound-pos, sound-wf, sound-root}
 
--- the branch b, with what was added before it, stands on the way of the setting s from the root of place p
-abbrev pub OnWay : List ℕ → ℕ → List ℕ → Branch costs → Type 0
-OnWay w p s b = W.OnWay (sizes w) (nodes w) (costOf w p) s b
+-- the branch b, with what was added before it, stands on the way of the setting s from the root of place p, where n features were asked
+abbrev pub OnWay : List ℕ → ℕ → List ℕ → ℕ → Branch costs → Type 0
+OnWay w p s n b = W.OnWay (sizes w) (nodes w) (costOf w p) s n b
 
 module _ (w s : List ℕ) (p : ℕ) (ok : Sound w) (hp : p < 16) (valid : Valid (sizes w) s) where
-  pub way-start : (x a : ℕ) → x ≡ root w p → a ≡ base w p → OnWay w p s (branch x a)
+  pub way-start : (x a : ℕ) → x ≡ root w p → a ≡ base w p → OnWay w p s 0 (branch x a)
   way-start x a ex ea = rw (ex, ea) (W.way-start (sizes w) (nodes w) s (branch (root w p) (base w p)) (sound-root ok p hp))
 
   -- at the end all is added up
-  pub way-end : (x a : ℕ) → x ≡ 0 → OnWay w p s (branch x a) → int a ≡ costOf w p s .off
-  way-end x a e o =
-      let ends : branch x a ≡ to-end (int a) = λ i. record { adds = int a; to = target-end x e i } in
-      ap (λ (y : Amount costs). y .off) (W.way-end (sizes w) (nodes w) (costOf w p) s valid (amount (int a)) (subst (OnWay w p s) ends o))
+  module _ (n x a : ℕ) (e : x ≡ 0) (o : OnWay w p s n (branch x a)) where
+    ending : OnWay w p s n (to-end (int a))
+    ending = subst (OnWay w p s n) (let ends : branch x a ≡ to-end (int a) = λ i. record { adds = int a; to = target-end x e i } in ends) o
+
+    pub way-end : int a ≡ costOf w p s .off
+    way-end = ap (λ (y : Amount costs). y .off) (W.way-end (sizes w) (nodes w) (costOf w p) s valid n (amount (int a)) ending)
+
+    pub way-asked : n ≡ asked (sizes w) (costOf w p) s
+    way-asked = W.way-asked (sizes w) (nodes w) (costOf w p) s valid n (amount (int a)) ending
 
   -- what is added up so far is a cost of the place
-  sum-fits : (b : Branch costs) → OnWay w p s b → Fit costMost (b .adds)
-  sum-fits b (k, o) = adds-fits (sizes w) (nodes w) (sound-wf ok) k (drop k (sizes w)) (pos-drop k (sizes w) (sound-pos ok)) b (o .means .ok) within
+  sum-fits : (n : ℕ) (b : Branch costs) → OnWay w p s n b → Fit costMost (b .adds)
+  sum-fits n b (k, o) = adds-fits (sizes w) (nodes w) (sound-wf ok) k (drop k (sizes w)) (pos-drop k (sizes w) (sound-pos ok)) b (o .means .ok) within
     where
       within : Within costMost (drop k (sizes w)) (value (nodes w) k b)
       within =
@@ -49,26 +55,29 @@ module _ (w s : List ℕ) (p : ℕ) (ok : Sound w) (hp : p < 16) (valid : Valid 
           }
 
   -- what the code reads: node i of the target word x, its feature k, the setting's value v there
-  module _ (x a i : ℕ) (h : 0 < x) (o : OnWay w p s (branch x a)) (ei : i ≡ x - 1) where
-    here : OnWay w p s (to-node (int a) i)
+  module _ (n x a i : ℕ) (h : 0 < x) (o : OnWay w p s n (branch x a)) (ei : i ≡ x - 1) where
+    here : OnWay w p s n (to-node (int a) i)
     here =
         let there : branch x a ≡ to-node (int a) i = λ j. record { adds = int a; to = target-node x i (let e : x ≡ suc i = omega arith in e) j } in
-        subst (OnWay w p s) there o
+        subst (OnWay w p s n) there o
 
     pub read-node : i < count w
-    read-node = C.read-node code w (sound-wf ok) (costOf w p) s valid (int a) i here
+    read-node = C.read-node code w (sound-wf ok) (costOf w p) s valid n (int a) i here
+
+    pub read-room : n < features w
+    read-room = C.read-room code w (sound-wf ok) (costOf w p) s valid n (int a) i here
 
     module _ (k : ℕ) (ek : k ≡ feature w i) where
       pub read-feature : k < length s
-      read-feature = C.read-feature code w (sound-wf ok) (costOf w p) s valid (int a) i here k ek
+      read-feature = C.read-feature code w (sound-wf ok) (costOf w p) s valid n (int a) i here k ek
 
       module _ (v : ℕ) (ev : v ≡ getD s k 0) where
         pub read-value : v < 8
         read-value =
             omega (
               arith,
-              C.read-value code w (sound-wf ok) (costOf w p) s valid (int a) i here k ek v ev,
-              ok .header .fit .large k (C.read-known code w (sound-wf ok) (costOf w p) s valid (int a) i here k ek) .1,
+              C.read-value code w (sound-wf ok) (costOf w p) s valid n (int a) i here k ek v ev,
+              ok .header .fit .large k (C.read-known code w (sound-wf ok) (costOf w p) s valid n (int a) i here k ek) .1,
             )
 
         abbrev g : ℕ
@@ -78,15 +87,15 @@ module _ (w s : List ℕ) (p : ℕ) (ok : Sound w) (hp : p < 16) (valid : Valid 
         d = added (body w i) v
 
         pub read-less : g < x
-        read-less = omega (arith, under-word (nodes w) i (suc k) g (C.read-under code w (sound-wf ok) (costOf w p) s valid (int a) i here k ek v ev))
+        read-less = omega (arith, under-word (nodes w) i (suc k) g (C.read-under code w (sound-wf ok) (costOf w p) s valid n (int a) i here k ek v ev))
 
-        way-step : OnWay w p s (up (int a) (branch g d))
-        way-step = C.read-on code w (sound-wf ok) (costOf w p) s valid (int a) i here k ek v ev
+        way-step : OnWay w p s (n + 1) (up (int a) (branch g d))
+        way-step = C.read-on code w (sound-wf ok) (costOf w p) s valid n (int a) i here k ek v ev
 
         -- the sum so far lies in range
         pub read-fits : Fit addMost (int a +ℤ int d)
-        read-fits = fit-more costMost addMost (int a +ℤ int d) (omega arith) (sum-fits (up (int a) (branch g d)) way-step)
+        read-fits = fit-more costMost addMost (int a +ℤ int d) (omega arith) (sum-fits (n + 1) (up (int a) (branch g d)) way-step)
 
         -- the next target word, and the word of the sum
-        pub read-on : (y c : ℕ) → y ≡ g → int c ≡ int a +ℤ int d → OnWay w p s (branch y c)
-        read-on y c ey ec = subst (OnWay w p s) (λ j. record { adds = sym ec j; to = target (sym ey j) }) way-step
+        pub read-on : (y c : ℕ) → y ≡ g → int c ≡ int a +ℤ int d → OnWay w p s (n + 1) (branch y c)
+        read-on y c ey ec = subst (OnWay w p s (n + 1)) (λ j. record { adds = sym ec j; to = target (sym ey j) }) way-step

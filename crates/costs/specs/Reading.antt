@@ -8,6 +8,7 @@ use lib.IntN.{pos}
 use Rattle.theory.specs.Settings.{Valid}
 use Rattle.theory.specs.Functions.{Agree}
 use Rattle.theory.specs.Tally.{tally}
+use Rattle.theory.specs.Asked.{asked}
 use Rattle.settings.specs.Tells.{Tells}
 use Rattle.settings.specs.Refusals.{Cases, Ends, _when_else_, taken}
 use Rattle.settings.specs.declared.refusals.Refusal.{Refusal}
@@ -20,14 +21,15 @@ use Rattle.costs.specs.declared.reading.Looked.{Looked}
 use Rattle.costs.specs.declared.reading.Compared.{Compared}
 use Rattle.costs.specs.declared.reading.Tallied.{Tallied}
 
--- the cost of place p at the setting s
+-- the cost of place p at the setting s, and how many features it asks there
 abbrev pub look-cases : ℕ → List ℕ → List ℕ → Cases
 look-cases p s w = Damaged when (Sound w → ⊥) else BadPlace when (16 ≤ p) else BadArgument when (Valid (sizes w) s → ⊥) else taken
 
 pub record Looks (p : ℕ) (s w : List ℕ) (r : Looked) : Type 0 where
   pub ends : Ends (look-cases p s w) (r .outcome)
   pub gives : r .outcome ≡ Taken → r .cost ≡ costOf w p s .off
-  pub refused : (x : Refusal) → r .outcome ≡ Refused x → r .cost ≡ pos 0
+  pub asks : r .outcome ≡ Taken → r .asked ≡ asked (sizes w) (costOf w p) s
+  pub refused : (x : Refusal) → r .outcome ≡ Refused x → (r .cost ≡ pos 0) × (r .asked ≡ 0)
 
 -- whether the costs of places p and q agree at every setting
 abbrev pub same-cases : ℕ → ℕ → List ℕ → Cases

@@ -16,16 +16,18 @@ use words::wide;
 ghost use mathlib.Core.Path.{_≡_};
 ghost use Prim.Native.Nat.{_<_};
 ghost use Rattle.theory.specs.Settings.{Valid};
-ghost use Rattle.cost_laws.specs.Integers.{int};
+ghost use Rattle.theory.specs.Asked.{asked};
+ghost use Rattle.settings.specs.declared.refusals.Outcome.the-variants.{Taken};
 ghost use Rattle.words.specs.Words.{sizes};
 ghost use Rattle.cost_words.specs.Words.{costOf};
 ghost use Rattle.cost_sound.specs.Sound.{Sound};
 ghost use Rattle.costs.specs.Reading.{Looks, Compares, Tallies};
 
-// What a look up gives.
+// What a look up gives: the cost, and how many features were asked.
 pub struct Looked {
     pub outcome: Outcome,
     pub cost: i64,
+    pub asked: u32,
 }
 
 // Whether two places agree.
@@ -40,24 +42,30 @@ pub struct Tallied {
     pub count: u32,
 }
 
-// The word of the cost that the place gives the setting: from the root, branch by branch, adding up.
-fn sum_at(t: &[u32], place: usize, setting: &[u8]) -> u32
+// The cost that the place gives the setting: from the root, branch by branch, adding up, each node a feature asked.
+fn walk(t: &[u32], place: usize, setting: &[u8]) -> Looked
     requires { ⌜ (Sound (now t)) × (place < 16) × (Valid (sizes (now t)) (now setting)) ⌝ }
-    ensures { λ r. ⌜ int r ≡ costOf (now (t .entry)) place (now (setting .entry)) .off ⌝ }
+    ensures { λ r. ⌜ (r .outcome ≡ Taken) × (r .cost ≡ costOf (now (t .entry)) place (now (setting .entry)) .off) × (r .asked ≡ asked (sizes (now (t .entry))) (costOf (now (t .entry)) place) (now (setting .entry))) ⌝ }
 {
     let mut x = root_word(t, place);
     let mut a = base_word(t, place);
+    let mut asked: u32 = 0;
     while 0 < x {
         let i = wide(x - 1);
         let k = wide(record_word(t, i, 0));
         let v = index(setting[k]);
         a = sum_word(a, adds_at(t, i, v));
         x = goes_to(t, i, v);
+        asked += 1;
     }
-    a
+    Looked {
+        outcome: Outcome::Taken,
+        cost: cost_of(a),
+        asked,
+    }
 }
 
-// The cost that the place gives the setting.
+// The cost that the place gives the setting, and how many features were asked.
 pub fn look_up(t: &[u32], place: usize, setting: &[u8]) -> Looked
     ensures { λ r. ⌜ Looks place (now (setting .entry)) (now (t .entry)) r ⌝ }
 {
@@ -65,24 +73,24 @@ pub fn look_up(t: &[u32], place: usize, setting: &[u8]) -> Looked
         return Looked {
             outcome: Outcome::Refused(Refusal::Damaged),
             cost: 0,
+            asked: 0,
         };
     }
     if 16 <= place {
         return Looked {
             outcome: Outcome::Refused(Refusal::BadPlace),
             cost: 0,
+            asked: 0,
         };
     }
     if !setting_fits(t, setting) {
         return Looked {
             outcome: Outcome::Refused(Refusal::BadArgument),
             cost: 0,
+            asked: 0,
         };
     }
-    Looked {
-        outcome: Outcome::Taken,
-        cost: cost_of(sum_at(t, place, setting)),
-    }
+    walk(t, place, setting)
 }
 
 // Whether the costs of two places agree at every setting: exactly if their roots are the same word, and their bases.

@@ -16,6 +16,7 @@ use Rattle.theory.specs.Comparing.{agree?}
 use Rattle.theory.specs.Counted.{countOf}
 use Rattle.theory.specs.First.{FirstFrom, NoneFrom}
 use Rattle.theory.specs.Tally.{tally}
+use Rattle.theory.specs.Asked.{asked}
 use Rattle.theory.specs.Rules.{Rule, says}
 use Rattle.theory.specs.Costs.{Cost, amount}
 use Rattle.theory.proofs.First.{first-or-none}
@@ -29,6 +30,7 @@ use Rattle.settings.specs.declared.refusals.Outcome.the-variants.{Taken, Refuse
 use Rattle.settings.specs.declared.steps.Setting.{Setting}
 use Rattle.settings.proofs.Endings.{not-taken}
 use Rattle.operations.specs.Literal.{setSize}
+use Rattle.sheet_bytes.specs.Bytes.{sizesOf}
 use Rattle.sheet_bytes.specs.Sheet.{sheetOf}
 use Rattle.sheet_check.specs.Diagram.{ruleOf}
 use Rattle.rule_sheets.specs.Writing.{begun}
@@ -118,12 +120,14 @@ module _ {K : Kind} {said : List ℕ → List (Fun K)} {Sound : List ℕ → Typ
     copy-has : (p q : ℕ) → Always (copy {said = said} {Sound = Sound} n p q)
     copy-has p q = brief (λ z. (or? (decLe n p) (decLe n q), λ k. tt))
 
-    look-up-has : {A : Type 0} (R : Answer A) → Full R → (x : A) (get : Amount K → A) (p : ℕ) (s : List ℕ) → Always (look-up {said = said} {Sound = Sound} n R x get p s)
-    look-up-has R f x get p s =
+    look-up-has : {A : Type 0} (R : Answer (A × ℕ)) → Full R → (x : A) (get : Amount K → A) (p : ℕ) (s : List ℕ) → Always (look-up {said = said} {Sound = Sound} n R x get p s)
+    look-up-has {A} R f x get p s =
         record {
           sure-of = λ z. (decLe n p, λ k. (not? (valid? (z .list) s), λ i. tt));
-          given = λ z e. (R .made Taken (get (at z p s)), f .ended Taken (get (at z p s)), f .valued Taken (get (at z p s)));
-          refuses = λ y. f .ended (Refused y) x;
+          given = λ z e.
+              let a : A × ℕ = (get (at z p s), asked (z .list) (at z p) s) in
+              (R .made Taken a, f .ended Taken a, (λ i. f .valued Taken a i .0, λ i. f .valued Taken a i .1));
+          refuses = λ y. f .ended (Refused y) (x, 0);
         }
 
     same-has : (R : Answer Bool) → Full R → (p q : ℕ) → Always (same {said = said} {Sound = Sound} n R p q)
@@ -240,7 +244,7 @@ byte-has (Y.Step S s) =
 byte-has (Y.LookUp s t) =
     record {
       sure-of = λ z. (newer? s, λ n. (not? (written? s), λ k. (not? (setting-of? s t), λ i. tt)));
-      given = λ z e. (YD.looked .made Taken (ruleOf s t .end), refl, refl);
+      given = λ z e. (YD.looked .made Taken (ruleOf s t .end, asked (sizesOf s) (ruleOf s) t), refl, (refl, refl));
       refuses = λ y. refl;
     }
 

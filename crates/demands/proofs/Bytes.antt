@@ -62,7 +62,7 @@ look-up-lawful s t =
       cases-like = λ z y a. like-refl (look-cases s t);
       writes-like = λ z y a e. tt;
       gives-like = λ z y a e r g. g;
-      one = λ z r q a b g h. answer-one looked r q (a ∙ sym b) (g ∙ sym h);
+      one = λ z r q a b g h. answer-one looked r q (a ∙ sym b) (λ i. ((g .0 ∙ sym (h .0)) i, (g .1 ∙ sym (h .1)) i));
     }
 
 -- bytes that some rule has as its sheet are the sheet of the rule that they say
@@ -78,9 +78,9 @@ look-up-meets s t r a =
     record {
       ends = pass (λ n. n tt) (a .ends);
       leaves = λ e. tt;
-      gives = λ e. a .gives e (sizesOf s) (ruleOf s) (looked-sheet a e);
+      gives = λ e. let x = looked-sheet a e in (a .gives e (sizesOf s) (ruleOf s) x, a .asks e (sizesOf s) (ruleOf s) x);
       kept = λ x e. refl;
-      refused = refused-as looked r (a .refused);
+      refused = refused-as looked r (λ x e i. (a .refused x e .0 i, a .refused x e .1 i));
     }
 
 -- EVERY CALL is lawful

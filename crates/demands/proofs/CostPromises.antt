@@ -73,6 +73,6 @@ keeps-word (Subtract p x y) w w′ r a = join-meets w w′ p r _-ℤ_ x y a
 keeps-word (Smaller p x y) w w′ r a = join-meets w w′ p r smallerOf x y a
 keeps-word (Larger p x y) w w′ r a = join-meets w w′ p r largerOf x y a
 keeps-word (Scale p x c) w w′ r a = scale-meets w w′ p r x c a
-keeps-word (LookUp p s) w w′ r a = look-up-meets drawn (a .1) looked (pos 0) (λ x. x .off) p s r (a .0 .ends) (a .0 .gives) (a .0 .refused)
+keeps-word (LookUp p s) w w′ r a = look-up-meets drawn (a .1) looked (pos 0) (λ x. x .off) p s r (a .0 .ends) (a .0 .gives) (a .0 .asks) (a .0 .refused)
 keeps-word (Same p q) w w′ r a = same-meets drawn (a .1) compared p q r (a .0 .ends) (a .0 .gives) (a .0 .refused)
 keeps-word Tally w w′ r a = tally-meets drawn (a .1) tallied r (a .0 .ends) (a .0 .gives) (a .0 .refused)

@@ -10,6 +10,7 @@ use Rattle.theory.specs.Kind.{Kind}
 use Rattle.theory.specs.Settings.{Valid}
 use Rattle.theory.specs.Functions.{Agree, Amount, Fun}
 use Rattle.theory.specs.Tally.{tally}
+use Rattle.theory.specs.Asked.{asked}
 use Rattle.theory.proofs.Ranges.{features?}
 use Rattle.settings.specs.Tells.{Tells}
 use Rattle.settings.specs.Refusals.{Cases, Ends, _when_else_, taken}
@@ -109,17 +110,20 @@ module _ {K : Kind} {D : Drawing K} {own : List ℕ → ℕ → Fun K} {Sound : 
       (like-refl (Damaged when (Sound w → ⊥) else BadPlace when ((D .places ≤ p) ⊎ (D .places ≤ q)) else taken)) (λ e. placed w q (second (clear (rest e)))) r
 
   module _ {w w′ : List ℕ} (k : w′ ≡ w) where
-    pub look-up-meets : {A : Type 0} (R : Answer A) (x : A) (get : Amount K → A) (p : ℕ) (s : List ℕ) (r : R .Result) →
+    pub look-up-meets : {A : Type 0} (R : Answer (A × ℕ)) (x : A) (get : Amount K → A) (p : ℕ) (s : List ℕ) (r : R .Result) →
         Ends (Damaged when (Sound w → ⊥) else BadPlace when (D .places ≤ p) else BadArgument when (Valid (sizes w) s → ⊥) else taken) (R .ending r) →
-        (R .ending r ≡ Taken → R .value r ≡ get (own w p s)) → ((y : Refusal) → R .ending r ≡ Refused y → R .value r ≡ x) →
+        (R .ending r ≡ Taken → R .value r .0 ≡ get (own w p s)) → (R .ending r ≡ Taken → R .value r .1 ≡ asked (sizes w) (own w p) s) →
+        ((y : Refusal) → R .ending r ≡ Refused y → (R .value r .0 ≡ x) × (R .value r .1 ≡ 0)) →
         Meets {L = table (D .said) Sound} (look-up (D .places) R x get p s) w w′ r
-    look-up-meets R x get p s r e g f =
+    look-up-meets R x get p s r e g a f =
         record {
           ends = e;
           leaves = λ t. k;
-          gives = λ t. g t ∙ ap (λ (h : Fun K). get (h s)) (sym (F .at-said w p (below (clear (rest (subst (Ends (Damaged when (Sound w → ⊥) else BadPlace when (D .places ≤ p) else BadArgument when (Valid (sizes w) s → ⊥) else taken)) t e))))));
+          gives = λ t.
+              let q = sym (F .at-said w p (below (clear (rest (subst (Ends (Damaged when (Sound w → ⊥) else BadPlace when (D .places ≤ p) else BadArgument when (Valid (sizes w) s → ⊥) else taken)) t e))))) in
+              (g t ∙ ap (λ (h : Fun K). get (h s)) q, a t ∙ ap (λ (h : Fun K). asked (sizes w) h s) q);
           kept = λ y t. k;
-          refused = refused-as R r f;
+          refused = refused-as R r (λ y t i. (f y t .0 i, f y t .1 i));
         }
 
     pub same-meets : (R : Answer Bool) (p q : ℕ) (r : R .Result) → Ends (Damaged when (Sound w → ⊥) else BadPlace when ((D .places ≤ p) ⊎ (D .places ≤ q)) else taken) (R .ending r) →

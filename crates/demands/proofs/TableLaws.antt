@@ -5,8 +5,11 @@ use mathlib.Core.List.{List}
 use Prim.Native.Nat.{ℕ}
 use native.Mathlib.Decide.{decLe}
 use native.Mathlib.Omega.{arith}
+use lib.ListN.{getD}
 use Rattle.theory.specs.Kind.{Kind}
-use Rattle.theory.specs.Functions.{Amount, Fun}
+use Rattle.theory.specs.Functions.{Amount, Fun, zero-fun}
+use Rattle.theory.specs.Settings.{Valid}
+use Rattle.theory.proofs.Asked.{asked-agree}
 use Rattle.theory.proofs.Ranges.{valid?, features-pos}
 use Rattle.settings.specs.declared.refusals.Refusal.the-variants.{BadPlace, BadArgument, BadOpening}
 use Rattle.settings.proofs.Answers.{retell, tells-decided}
@@ -49,7 +52,7 @@ module _ {K : Kind} {said : List ℕ → List (Fun K)} {Sound : List ℕ → Typ
       writes-like = λ cap m e. replaced p (m .each q);
     })
 
-    pub look-up-lawful : {A : Type 0} (R : Answer A) (x : A) (get : Amount K → A) (p : ℕ) (s : List ℕ) → Lawful (on-table said Sound) (look-up {said = said} {Sound = Sound} n R x get p s)
+    pub look-up-lawful : {A : Type 0} (R : Answer (A × ℕ)) (x : A) (get : Amount K → A) (p : ℕ) (s : List ℕ) → Lawful (on-table said Sound) (look-up {said = said} {Sound = Sound} n R x get p s)
     look-up-lawful R x get p s =
         steady-lawful (record {
           asks = refl;
@@ -57,8 +60,10 @@ module _ {K : Kind} {said : List ℕ → List (Fun K)} {Sound : List ℕ → Typ
           firm = λ z. (le, (neg, tt));
           cases-like = λ cap m. keep BadPlace (λ k. keep BadArgument (λ i. alike));
           writes-like = λ cap m e. kept;
-          gives-like = λ cap {S} m e r g. g ∙ ap get (m .each p s (sure (valid? S s) (clear (rest e))));
-          one = λ z r q a b g h. answer-one R r q (a ∙ sym b) (g ∙ sym h);
+          gives-like = λ cap {S} {gs} {hs} m e r g.
+              let v : Valid S s = sure (valid? S s) (clear (rest e)) in
+              (g .0 ∙ ap get (m .each p s v), g .1 ∙ asked-agree S (getD gs p zero-fun) (getD hs p zero-fun) (m .each p) s v);
+          one = λ z r q a b g h. answer-one R r q (a ∙ sym b) (λ i. ((g .0 ∙ sym (h .0)) i, (g .1 ∙ sym (h .1)) i));
         })
 
     pub same-lawful : (R : Answer Bool) (p q : ℕ) → Lawful (on-table said Sound) (same {said = said} {Sound = Sound} n R p q)

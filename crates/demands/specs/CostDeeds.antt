@@ -34,8 +34,8 @@ abbrev pub freshly : List ℕ → ℕ → State costs
 freshly S cap = state cap S fresh
 
 -- ---- what the calls answer
-abbrev pub looked : Answer ℤ
-looked = record { Result = Looked; ending = λ r. r .outcome; value = λ r. r .cost; made = λ o x. record { outcome = o; cost = x }; nothing-else = λ r. refl }
+abbrev pub looked : Answer (ℤ × ℕ)
+looked = record { Result = Looked; ending = λ r. r .outcome; value = λ r. (r .cost, r .asked); made = λ o a. record { outcome = o; cost = a .0; asked = a .1 }; nothing-else = λ r. refl }
 
 abbrev pub compared : Answer Bool
 compared = record { Result = Compared; ending = λ r. r .outcome; value = λ r. r .same; made = λ o b. record { outcome = o; same = b }; nothing-else = λ r. refl }

@@ -48,8 +48,8 @@ abbrev pub freshly : List ℕ → ℕ → State rules
 freshly S cap = state cap S fresh
 
 -- ---- what the calls answer
-abbrev pub looked : Answer ℕ
-looked = record { Result = Looked; ending = λ r. r .outcome; value = λ r. r .number; made = λ o n. record { outcome = o; number = n }; nothing-else = λ r. refl }
+abbrev pub looked : Answer (ℕ × ℕ)
+looked = record { Result = Looked; ending = λ r. r .outcome; value = λ r. (r .number, r .asked); made = λ o a. record { outcome = o; number = a .0; asked = a .1 }; nothing-else = λ r. refl }
 
 abbrev pub compared : Answer Bool
 compared = record { Result = Compared; ending = λ r. r .outcome; value = λ r. r .same; made = λ o b. record { outcome = o; same = b }; nothing-else = λ r. refl }

@@ -8,6 +8,7 @@ use Rattle.theory.specs.Kind.{Kind}
 use Rattle.theory.specs.Settings.{Valid}
 use Rattle.theory.specs.Functions.{Agree, Amount, Fun}
 use Rattle.theory.specs.Tally.{tally}
+use Rattle.theory.specs.Asked.{asked}
 use Rattle.settings.specs.Tells.{Tells}
 use Rattle.settings.specs.Refusals.{_when_else_, taken}
 use Rattle.settings.specs.declared.refusals.Refusal.the-variants.{BadPlace, BadArgument, BadOpening}
@@ -41,9 +42,11 @@ module _ {K : Kind} {said : List ℕ → List (Fun K)} {Sound : List ℕ → Typ
     abbrev pub copy : ℕ → ℕ → Deed (table said Sound)
     copy p q = plain (λ z. BadPlace when ((n ≤ p) ⊎ (n ≤ q)) else taken) (λ z. puts p (at z q))
 
-    -- what place p gives the setting s, read by get
-    abbrev pub look-up : {A : Type 0} (R : Answer A) → A → (Amount K → A) → ℕ → List ℕ → Deed (table said Sound)
-    look-up R x get p s = reads R x (λ z. BadPlace when (n ≤ p) else BadArgument when (Valid (z .list) s → ⊥) else taken) (λ z a. a ≡ get (at z p s))
+    -- what place p gives the setting s, read by get, and how many features it asks there
+    abbrev pub look-up : {A : Type 0} (R : Answer (A × ℕ)) → A → (Amount K → A) → ℕ → List ℕ → Deed (table said Sound)
+    look-up R x get p s =
+        reads R (x, 0) (λ z. BadPlace when (n ≤ p) else BadArgument when (Valid (z .list) s → ⊥) else taken)
+        (λ z a. (a .0 ≡ get (at z p s)) × (a .1 ≡ asked (z .list) (at z p) s))
 
     -- whether places p and q agree at every setting
     abbrev pub same : Answer Bool → ℕ → ℕ → Deed (table said Sound)

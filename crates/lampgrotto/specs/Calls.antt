@@ -25,8 +25,9 @@ Opened S cap w w′ r = Wrote (Opens S cap w w′) r
 abbrev pub Spelled : ℕ → ℕ → ℕ → List ℕ → List ℕ → List ℕ → List ℕ → ℕ → Type 0
 Spelled p f x w w′ = Gave (Literals p f x w w′) (λ (a : M.Made). a .outcome) (λ (a : M.Made). a .size ∷ [])
 
+-- the number, then how many features were asked
 abbrev pub Looked : ℕ → List ℕ → List ℕ → List ℕ → List ℕ → ℕ → Type 0
-Looked p s w = Gave (Looks p s w) (λ (a : R.Looked). a .outcome) (λ (a : R.Looked). a .number ∷ [])
+Looked p s w = Gave (Looks p s w) (λ (a : R.Looked). a .outcome) (λ (a : R.Looked). a .number ∷ a .asked ∷ [])
 
 abbrev pub Compared : ℕ → ℕ → List ℕ → List ℕ → List ℕ → ℕ → Type 0
 Compared p q w = Gave (Compares p q w) (λ (a : C.Compared). a .outcome) (λ (a : C.Compared). bit (a .same) ∷ [])

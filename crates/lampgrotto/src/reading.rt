@@ -3,12 +3,13 @@ use c_results::put;
 use c_results::put_flag;
 use c_results::put_number;
 use c_results::put_step;
+use c_results::put_two;
 use c_results::put_values;
 use settings::Setting;
 use settings::outcome_number;
 ghost use Rattle.lampgrotto.specs.Calls.{Looked, Compared, Tallied, Counted, Met, Stepped};
 
-// The number that the rule of the place gives the setting.
+// The number that the rule of the place gives the setting, then how many features were asked.
 #[no_mangle]
 pub extern "C" fn lampgrotto_rule_look_up(
     t: &[u32],
@@ -19,7 +20,7 @@ pub extern "C" fn lampgrotto_rule_look_up(
     ensures { λ r. ⌜ Looked place (now (setting .entry)) (now (t .entry)) (now (out .entry)) (now (out .exit)) r ⌝ }
 {
     let r = rules::look_up(t, place, setting);
-    put(out, r.number);
+    put_two(out, r.number, r.asked);
     let o = r.outcome;
     outcome_number(o)
 }

@@ -36,7 +36,7 @@ cost-fits p s w z sound place valid e = go (fit? costMost z)
 -- look up answers a cost, refused too
 pub looked-fits : (p : ℕ) (s w : List ℕ) (r : Looked) → Looks p s w r → Fit costMost (r .cost)
 looked-fits p s w r a =
-    ended (r .outcome) (λ e. done e (subst (Ends (look-cases p s w)) e (a .ends))) (λ x e. subst (Fit costMost) (sym (a .refused x e)) (fit-zero costMost))
+    ended (r .outcome) (λ e. done e (subst (Ends (look-cases p s w)) e (a .ends))) (λ x e. subst (Fit costMost) (sym (a .refused x e .0)) (fit-zero costMost))
   where
     done : r .outcome ≡ Taken → Ends (look-cases p s w) Taken → Fit costMost (r .cost)
     done e l = cost-fits p s w (r .cost) sound place (λ n. not-refused (l .1 sound .1 place .0 n)) (a .gives e)

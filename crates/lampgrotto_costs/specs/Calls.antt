@@ -11,8 +11,9 @@ use Rattle.c_results.specs.Results.{bit}
 use Rattle.c_results.specs.Calls.{Gave}
 use Rattle.lampgrotto_costs.specs.Signed.{signed}
 
+-- the cost, then how many features were asked
 abbrev pub Looked : ℕ → List ℕ → List ℕ → List ℕ → List ℕ → ℕ → Type 0
-Looked p s w = Gave (Looks p s w) (λ (a : R.Looked). a .outcome) (λ (a : R.Looked). signed (a .cost) ∷ [])
+Looked p s w = Gave (Looks p s w) (λ (a : R.Looked). a .outcome) (λ (a : R.Looked). signed (a .cost) ∷ a .asked ∷ [])
 
 abbrev pub Compared : ℕ → ℕ → List ℕ → List ℕ → List ℕ → ℕ → Type 0
 Compared p q w = Gave (Compares p q w) (λ (a : C.Compared). a .outcome) (λ (a : C.Compared). bit (a .same) ∷ [])

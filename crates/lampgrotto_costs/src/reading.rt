@@ -5,7 +5,7 @@ use c_results::put_flag;
 use settings::outcome_number;
 ghost use Rattle.lampgrotto_costs.specs.Calls.{Looked, Compared, Tallied};
 
-// The cost that the place gives the setting.
+// The cost that the place gives the setting, then how many features were asked.
 #[no_mangle]
 pub extern "C" fn lampgrotto_cost_look_up(
     t: &[u32],
@@ -16,7 +16,7 @@ pub extern "C" fn lampgrotto_cost_look_up(
     ensures { λ r. ⌜ Looked place (now (setting .entry)) (now (t .entry)) (now (out .entry)) (now (out .exit)) r ⌝ }
 {
     let r = costs::look_up(t, place, setting);
-    put_cost(out, r.cost);
+    put_cost(out, r.cost, r.asked);
     let o = r.outcome;
     outcome_number(o)
 }

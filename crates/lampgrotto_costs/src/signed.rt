@@ -1,6 +1,6 @@
 // Costs laid into lent words, as C reads signed numbers.
-use c_results::put;
 use c_results::put_before;
+use c_results::put_two;
 ghost use mathlib.Core.Path.{_≡_};
 ghost use mathlib.Core.List.{[], _∷_};
 ghost use Rattle.cost_laws.specs.Integers.{Fit};
@@ -19,12 +19,12 @@ fn signed_word(z: i64) -> u32
     z as u32
 }
 
-// A cost as one word.
-pub fn put_cost(out: &mut [u32], z: i64)
+// A cost as one word, then how many features were asked.
+pub fn put_cost(out: &mut [u32], z: i64, asked: u32)
     requires { ⌜ Fit costMost z ⌝ }
-    ensures { λ _. ⌜ now (out .exit) ≡ placed (signed z ∷ []) (now (out .entry)) ⌝ }
+    ensures { λ _. ⌜ now (out .exit) ≡ placed (signed z ∷ asked ∷ []) (now (out .entry)) ⌝ }
 {
-    put(out, signed_word(z));
+    put_two(out, signed_word(z), asked);
 }
 
 // A cost as one word, then the values of a setting.

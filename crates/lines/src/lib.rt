@@ -34,6 +34,7 @@ pub use saying::say_unknown;
 pub use saying::say_values;
 pub use saying::say_word;
 pub use words::Listed;
+pub use words::bytes_after;
 pub use words::bytes_listed;
 pub use words::bytes_of;
 pub use words::first_word;

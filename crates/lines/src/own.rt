@@ -8,6 +8,7 @@ use crate::saying::say;
 use crate::saying::say_flag;
 use crate::saying::say_unknown;
 use crate::saying::say_values;
+use crate::words::bytes_after;
 use crate::words::bytes_listed;
 use crate::words::first_word;
 use crate::words::size_at;
@@ -32,33 +33,20 @@ fn stepped(sizes: &[u8], values: &[u8]) {
     say_values(setting, setting.count);
 }
 
-// The values that a text lists, and the step from them over the sizes.
-fn step_from(sizes: &[u8], text: &[u8]) {
-    let mut values = [0u8; 64];
-    let listed = bytes_listed(text, b' ', &mut values);
-    if !listed.known {
-        say_unknown();
-        return;
-    }
-    let n = listed.count;
-    stepped(sizes, &values[..n]);
-}
-
 // `step S0,S1,.. V0 V1 ..`, of which the text is what follows the name.
 fn step(text: &[u8]) {
-    let to = first_word(text);
+    let end = first_word(text);
     let mut sizes = [0u8; 64];
-    let listed = bytes_listed(&text[..to], b',', &mut sizes);
-    if !listed.known {
+    let listed = bytes_listed(&text[..end], b',', &mut sizes);
+    let mut values = [0u8; 64];
+    let after = bytes_after(listed.known, text, end, &mut values);
+    if !after.known {
         say_unknown();
         return;
     }
     let n = listed.count;
-    if to == text.len() {
-        stepped(&sizes[..n], b"");
-        return;
-    }
-    step_from(&sizes[..n], &text[to + 1..]);
+    let m = after.count;
+    stepped(&sizes[..n], &values[..m]);
 }
 
 // `scratch LENGTH WORD`, `lend LENGTH` or `clend LENGTH`: what is lent from now on.

@@ -119,3 +119,17 @@ pub fn bytes_listed(text: &[u8], mark: u8, bytes: &mut [u8]) -> Listed
         count,
     }
 }
+
+// The numbers after a word that ends at `end`, each after a space, at most 64, as bytes, where that word is known itself.
+pub fn bytes_after(known: bool, text: &[u8], end: usize, bytes: &mut [u8]) -> Listed
+    requires { ⌜ end ≤ length (now text) ⌝ }
+    ensures { λ r. ⌜ Counts (r .count) (now (bytes .exit)) ⌝ }
+{
+    if !known {
+        return none();
+    }
+    if end == text.len() {
+        return Listed { known, count: 0 };
+    }
+    bytes_listed(&text[end + 1..], b' ', bytes)
+}

@@ -7,7 +7,9 @@ use native.Mathlib.Omega.{arith}
 use Rattle.theory.specs.Functions.{Agree}
 use Rattle.theory.specs.Rules.{Rule, Phrase}
 use Rattle.theory.specs.Settings.{Valid}
+use Rattle.theory.specs.Asked.{asked}
 use Rattle.theory.proofs.Ranges.{valid?}
+use Rattle.theory.proofs.Asked.{asked-agree}
 use Rattle.settings.specs.Refusals.{Ends}
 use Rattle.settings.specs.declared.refusals.Refusal.the-variants.{BadArgument, NoRoom}
 use Rattle.settings.specs.declared.refusals.Outcome.{Outcome}
@@ -17,14 +19,16 @@ use Rattle.words.specs.Words.{sizes}
 use Rattle.words.proofs.Tab.{split}
 use Rattle.rule_words.specs.Words.{ruleOf}
 use Rattle.rule_sound.specs.Sound.{Sound}
-use Rattle.rules.specs.Reading.{Looks}
+use Rattle.rules.specs.Reading.{Looks, look-cases}
 use Rattle.rules.specs.declared.reading.Looked.{Looked}
 use Rattle.rules.proofs.Theorems.{ended, becomes-sound, place-written, frame-kept}
 use Rattle.settling.specs.Settling.{Exceeds}
 use Rattle.settling.proofs.Settling.{exceeds-agree}
 use Rattle.sheet_bytes.specs.Sheet.{sheetOf, IsSheet, Written}
 use Rattle.sheet_check.proofs.Reading.{sheet-says}
+use Rattle.sheets.specs.Lookup as S
 use Rattle.sheets.specs.Lookup.{returned, Returns}
+use Rattle.sheets.specs.declared.looking.Looked as L
 use Rattle.sheets.proofs.Theorems.{agree-sheet, longest, newer-not, returns-argument, returns-number}
 use Rattle.rule_sheets.specs.Reading.{SheetExceeds, ReadsSheet}
 use Rattle.rule_sheets.specs.Writing.{sheetAt, write-cases, WritesSheet}
@@ -84,6 +88,22 @@ module _ {p : ℕ} {s w w′ : List ℕ} (hp : p < 32) (r : ReadsSheet p s w w�
           let e = later .1 (λ m. m (subst (λ (S : List ℕ). Valid S t) (sym list) v)) in
           returns-number b (r .sheet refl .is) v ∙ ap (λ (x : Phrase). x .end) (sym (says t v)) ∙ sym (a .gives e) ∙ sym (told e)
       go (no m) = returns-argument b (r .sheet refl .is) m ∙ sym (told (later .0 (λ v. m (subst (λ (S : List ℕ). Valid S t) list v))))
+
+  -- and asks as many features
+  pub look-up-asks : (t : List ℕ) (l : Looked) (k : L.Looked) → Looks p t w′ l → S.Looks s t k → l .outcome ≡ Taken → k .outcome ≡ Taken → l .asked ≡ k .asked
+  look-up-asks t l k a b el ek = go (valid? (sizes w) t)
+    where
+      ends : Ends (look-cases p t w′) Taken
+      ends = subst (Ends (look-cases p t w′)) el (a .ends)
+
+      valid : (Valid (sizes w′) t → ⊥) → ⊥
+      valid n = not-refused (ends .1 (λ d. not-refused (ends .0 d)) .1 (λ h. omega arith) .0 n)
+
+      go : Dec (Valid (sizes w) t) → l .asked ≡ k .asked
+      go (yes v) =
+          a .asks el ∙ ap (λ (S : List ℕ). asked S (ruleOf w′ p) t) list ∙ asked-agree (sizes w) (ruleOf w′ p) g says t v
+          ∙ sym (b .asks ek (sizes w) g (r .sheet refl .is))
+      go (no m) = absurd (valid (λ v. m (subst (λ (S : List ℕ). Valid S t) list v)))
 
 -- ---- SMALL: a written sheet has at most 102,428 bytes
 pub written-small : (p : ℕ) (w out out′ : List ℕ) (r : Wrote) → WritesSheet p w out out′ r → r .length ≤ 102428

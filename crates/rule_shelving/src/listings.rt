@@ -26,6 +26,7 @@ fn look(n: &[u64], table: &[u32]) {
     let outcome = looked.outcome;
     say(outcome);
     say_word(looked.number);
+    say_word(looked.asked);
 }
 
 // `next P NUMBER V0 V1 ..`: the setting is printed with as many values as there are features.

@@ -1,6 +1,8 @@
-// The commands of rule sheets: write, and read with its bytes as hex digits.
+// The commands of rule sheets: write, and read and slook with the bytes as hex digits.
 use crate::names::READ;
+use crate::names::SLOOK;
 use lines::as_size;
+use lines::bytes_after;
 use lines::bytes_in;
 use lines::first_word;
 use lines::next_word;
@@ -9,6 +11,7 @@ use lines::say;
 use lines::say_bytes;
 use lines::say_number;
 use lines::say_unknown;
+use lines::say_word;
 use lines::size_at;
 
 // What every byte of the output is before a sheet is written.
@@ -57,10 +60,39 @@ fn read(text: &[u8], table: &mut [u32]) {
     read_sheet(place.number, &text[from..], table);
 }
 
+// The number that the sheet gives the setting, and how many features were asked.
+fn looked(sheet: &[u8], setting: &[u8]) {
+    let looked = sheets::look_up(sheet, setting);
+    let outcome = looked.outcome;
+    say(outcome);
+    say_word(looked.number);
+    say_word(looked.asked);
+}
+
+// `slook HEX V0 V1 ..`, of which the text is what follows the name.
+fn look(text: &[u8]) {
+    let end = first_word(text);
+    let mut sheet = [0u8; 32768];
+    let listed = bytes_in(&text[..end], &mut sheet);
+    let mut values = [0u8; 64];
+    let after = bytes_after(listed.known, text, end, &mut values);
+    if !after.known {
+        say_unknown();
+        return;
+    }
+    let n = listed.count;
+    let m = after.count;
+    looked(&sheet[..n], &values[..m]);
+}
+
 // The one of this code.
 pub fn sheet(code: usize, text: &[u8], n: &[u64], table: &mut [u32]) {
     if code == READ {
         read(text, table);
+        return;
+    }
+    if code == SLOOK {
+        look(text);
         return;
     }
     write(n, table);

@@ -7,6 +7,7 @@ use lib.Dec.{eqb}
 use Rattle.theory.specs.Functions.{Agree}
 use Rattle.theory.specs.Diagrams.{meaning}
 use Rattle.theory.specs.Tally.{tally}
+use Rattle.theory.specs.Asked.{asked}
 use Rattle.theory.specs.Rules.{Rule, says}
 use Rattle.theory.proofs.Canonical.{canonical-unique}
 use Rattle.theory.proofs.Rules.{value-phrase}
@@ -22,6 +23,7 @@ use Rattle.rule_words.specs.Words.{decode, nodes, root, ruleOf, rulesOf}
 use Rattle.rule_words.specs.Picture.{Becomes}
 use Rattle.rule_words.proofs.Reading.{decode-phrase, decode-inj}
 use Rattle.rule_sound.specs.Sound.{Sound}
+use Rattle.rules.specs.declared.reading.Looked.{Looked}
 use Rattle.rules.specs.Reading.{Looks, Compares, Tallies, look-cases, same-cases, tally-cases}
 use Rattle.rules.proofs.Sounding.{sound-pos, sound-wf, sound-root}
 
@@ -36,11 +38,12 @@ pub copy-becomes : {p x : ℕ} {w w′ : List ℕ} (q : ℕ) → x ≡ root w q 
 copy-becomes {p} {x} {w} {w′} q e b = subst (λ (y : ℕ). Becomes p (meaning (nodes w) (decode y)) w w′) e b
 
 -- ---- calls that read
-pub look-refused : {p : ℕ} {s w : List ℕ} {x : Refusal} → Ends (look-cases p s w) (Refused x) → Looks p s w (record { outcome = Refused x; number = 0 })
-look-refused e = record { ends = e; gives = not-taken; refused = λ y q. refl }
+pub look-refused : {p : ℕ} {s w : List ℕ} {x : Refusal} → Ends (look-cases p s w) (Refused x) → Looks p s w (record { outcome = Refused x; number = 0; asked = 0 })
+look-refused e = record { ends = e; gives = not-taken; asks = not-taken; refused = λ y q. (refl, refl) }
 
-pub look-taken : {p n : ℕ} {s w : List ℕ} → Ends (look-cases p s w) Taken → n ≡ ruleOf w p s .end → Looks p s w (record { outcome = Taken; number = n })
-look-taken e g = record { ends = e; gives = λ q. g; refused = λ y. not-refused }
+pub look-taken : {p : ℕ} {s w : List ℕ} {r : Looked} → Ends (look-cases p s w) Taken → r .outcome ≡ Taken → r .number ≡ ruleOf w p s .end → r .asked ≡ asked (sizes w) (ruleOf w p) s → Looks p s w r
+look-taken {p} {s} {w} {r} e t g a =
+    record { ends = subst (Ends (look-cases p s w)) (sym t) e; gives = λ q. g; asks = λ q. a; refused = λ y q. not-refused (sym t ∙ q) }
 
 pub same-refused : {p q : ℕ} {w : List ℕ} {x : Refusal} → Ends (same-cases p q w) (Refused x) → Compares p q w (record { outcome = Refused x; same = false })
 same-refused e = record { ends = e; gives = not-taken; refused = λ y q. refl }

@@ -3,10 +3,11 @@ use mathlib.Core.Path.{_≡_}
 use mathlib.Core.Bool.{false}
 use mathlib.Core.Logic.{_⊎_}
 use mathlib.Core.List.{List}
-use Prim.Native.Nat.{ℕ, suc, _≤_}
+use Prim.Native.Nat.{ℕ, _≤_}
 use Rattle.theory.specs.Settings.{Valid}
 use Rattle.theory.specs.Functions.{Agree}
 use Rattle.theory.specs.Tally.{tally}
+use Rattle.theory.specs.Asked.{asked}
 use Rattle.settings.specs.Tells.{Tells}
 use Rattle.settings.specs.Refusals.{Cases, Ends, _when_else_, taken}
 use Rattle.settings.specs.declared.refusals.Refusal.{Refusal}
@@ -19,14 +20,15 @@ use Rattle.rules.specs.declared.reading.Looked.{Looked}
 use Rattle.rules.specs.declared.reading.Compared.{Compared}
 use Rattle.rules.specs.declared.reading.Tallied.{Tallied}
 
--- the number of the rule of place p at the setting s
+-- the number of the rule of place p at the setting s, and how many features it asks there
 abbrev pub look-cases : ℕ → List ℕ → List ℕ → Cases
 look-cases p s w = Damaged when (Sound w → ⊥) else BadPlace when (32 ≤ p) else BadArgument when (Valid (sizes w) s → ⊥) else taken
 
 pub record Looks (p : ℕ) (s w : List ℕ) (r : Looked) : Type 0 where
   pub ends : Ends (look-cases p s w) (r .outcome)
   pub gives : r .outcome ≡ Taken → r .number ≡ ruleOf w p s .end
-  pub refused : (x : Refusal) → r .outcome ≡ Refused x → r .number ≡ 0
+  pub asks : r .outcome ≡ Taken → r .asked ≡ asked (sizes w) (ruleOf w p) s
+  pub refused : (x : Refusal) → r .outcome ≡ Refused x → (r .number ≡ 0) × (r .asked ≡ 0)
 
 -- whether the rules of places p and q agree at every setting
 abbrev pub same-cases : ℕ → ℕ → List ℕ → Cases

@@ -11,15 +11,18 @@ use words::wide;
 ghost use mathlib.Core.Path.{_≡_};
 ghost use Prim.Native.Nat.{_<_};
 ghost use Rattle.theory.specs.Settings.{Valid};
+ghost use Rattle.theory.specs.Asked.{asked};
+ghost use Rattle.settings.specs.declared.refusals.Outcome.the-variants.{Taken};
 ghost use Rattle.words.specs.Words.{sizes};
 ghost use Rattle.rule_words.specs.Words.{ruleOf};
 ghost use Rattle.rule_sound.specs.Sound.{Sound};
 ghost use Rattle.rules.specs.Reading.{Looks, Compares, Tallies};
 
-// What a look up gives.
+// What a look up gives: the number, and how many features were asked.
 pub struct Looked {
     pub outcome: Outcome,
     pub number: u32,
+    pub asked: u32,
 }
 
 // Whether two places agree.
@@ -34,21 +37,27 @@ pub struct Tallied {
     pub count: u32,
 }
 
-// The number that the rule of the place gives the setting: from the root, branch by branch.
-fn number_at(t: &[u32], place: usize, setting: &[u8]) -> u32
+// The number that the rule of the place gives the setting: from the root, branch by branch, each node a feature asked.
+fn walk(t: &[u32], place: usize, setting: &[u8]) -> Looked
     requires { ⌜ (Sound (now t)) × (place < 32) × (Valid (sizes (now t)) (now setting)) ⌝ }
-    ensures { λ r. ⌜ r ≡ ruleOf (now (t .entry)) place (now (setting .entry)) .end ⌝ }
+    ensures { λ r. ⌜ (r .outcome ≡ Taken) × (r .number ≡ ruleOf (now (t .entry)) place (now (setting .entry)) .end) × (r .asked ≡ asked (sizes (now (t .entry))) (ruleOf (now (t .entry)) place) (now (setting .entry))) ⌝ }
 {
     let mut b = root_word(t, place);
+    let mut asked: u32 = 0;
     while 65536 <= b {
         let i = wide(b - 65536);
         let k = wide(record_word(t, i, 0));
         b = record_word(t, i, 1 + index(setting[k]));
+        asked += 1;
     }
-    b
+    Looked {
+        outcome: Outcome::Taken,
+        number: b,
+        asked,
+    }
 }
 
-// The number that the rule of the place gives the setting.
+// The number that the rule of the place gives the setting, and how many features were asked.
 pub fn look_up(t: &[u32], place: usize, setting: &[u8]) -> Looked
     ensures { λ r. ⌜ Looks place (now (setting .entry)) (now (t .entry)) r ⌝ }
 {
@@ -56,24 +65,24 @@ pub fn look_up(t: &[u32], place: usize, setting: &[u8]) -> Looked
         return Looked {
             outcome: Outcome::Refused(Refusal::Damaged),
             number: 0,
+            asked: 0,
         };
     }
     if 32 <= place {
         return Looked {
             outcome: Outcome::Refused(Refusal::BadPlace),
             number: 0,
+            asked: 0,
         };
     }
     if !setting_fits(t, setting) {
         return Looked {
             outcome: Outcome::Refused(Refusal::BadArgument),
             number: 0,
+            asked: 0,
         };
     }
-    Looked {
-        outcome: Outcome::Taken,
-        number: number_at(t, place, setting),
-    }
+    walk(t, place, setting)
 }
 
 // Whether the rules of two places agree at every setting: exactly if their roots are the same word.

@@ -4,6 +4,7 @@ use mathlib.Core.List.{List}
 use Prim.Native.Nat.{ℕ, _+_}
 use Rattle.theory.specs.Settings.{Valid}
 use Rattle.theory.specs.Rules.{Rule}
+use Rattle.theory.specs.Asked.{asked}
 use Rattle.settings.specs.Refusals.{numberOf, Cases, Ends, _when_else_, taken}
 use Rattle.settings.specs.declared.refusals.Refusal.{Refusal}
 use Rattle.settings.specs.declared.refusals.Refusal.the-variants.{BadArgument}
@@ -27,11 +28,12 @@ setting-cases s t = BadArgument when (SettingOf s t → ⊥) else taken
 abbrev pub look-cases : List ℕ → List ℕ → Cases
 look-cases s t = sheet-cases s (setting-cases s t)
 
--- the number that the rule of the sheet s gives the setting t
+-- the number that the rule of the sheet s gives the setting t, and how many features it asks there
 pub record Looks (s t : List ℕ) (r : Looked) : Type 0 where
   pub ends : Ends (look-cases s t) (r .outcome)
   pub gives : r .outcome ≡ Taken → (S : List ℕ) (g : Rule) → IsSheet S g s → r .number ≡ g t .end
-  pub refused : (x : Refusal) → r .outcome ≡ Refused x → r .number ≡ 0
+  pub asks : r .outcome ≡ Taken → (S : List ℕ) (g : Rule) → IsSheet S g s → r .asked ≡ asked S g t
+  pub refused : (x : Refusal) → r .outcome ≡ Refused x → (r .number ≡ 0) × (r .asked ≡ 0)
 
 -- what C gets: the phrase number, or 65,536 plus the refusal number
 abbrev pub returned : Outcome → ℕ → ℕ

@@ -1,4 +1,4 @@
--- Both kinds compute: document 01's a, b, c and P, Q, P + Q over sizes 2, 3, with their numbers of rests, and a's count of 1s. Assumes nothing.
+-- Both kinds compute: document 01's a, b, c and P, Q, P + Q over sizes 2, 3, with their numbers of rests, a's count of 1s, and the features that they ask. Assumes nothing.
 use mathlib.Core.Path.{_≡_, refl}
 use mathlib.Core.List.{List, [], _∷_}
 use Prim.Native.Nat.{ℕ, _+_, _*_}
@@ -10,8 +10,9 @@ use Rattle.theory.specs.Functions.{Amount, Fun, zero-fun}
 use Rattle.theory.specs.Comparing.{node-discrete}
 use Rattle.theory.specs.Build.{build, table}
 use Rattle.theory.specs.Tally.{tally}
-use Rattle.theory.specs.Rules.{unit-discrete, Rule, says, phrase, node}
+use Rattle.theory.specs.Rules.{unit-discrete, rules, Rule, says, phrase, node}
 use Rattle.theory.specs.Counted.{countOf}
+use Rattle.theory.specs.Asked.{asked}
 use Rattle.theory.specs.Costs.{int-discrete, Cost, amount, to-end, to-node}
 
 sizes : List ℕ
@@ -80,6 +81,16 @@ rests-of-costs = (refl, refl)
 ones-of-a : countOf sizes a 1 ≡ 4
 unfolding countOf ℕ-discrete sizes a
 ones-of-a = refl
+
+-- features asked: c feature 0 alone where that is 0, and both where it is 1; a feature 1 alone; a constant none
+asked-of-rules : (asked sizes c (0 ∷ 2 ∷ []) ≡ 1) × (asked sizes c (1 ∷ 2 ∷ []) ≡ 2) × (asked sizes a (1 ∷ 0 ∷ []) ≡ 1) × (asked sizes (zero-fun {K = rules}) (1 ∷ 0 ∷ []) ≡ 0)
+unfolding asked ℕ-discrete unit-discrete sizes a c
+asked-of-rules = (refl, refl, refl, refl)
+
+-- P feature 0 alone, though P is nowhere 0; P + Q both
+asked-of-costs : (asked sizes P (1 ∷ 2 ∷ []) ≡ 1) × (asked sizes P+Q (1 ∷ 2 ∷ []) ≡ 2)
+unfolding asked ℕ-discrete unit-discrete int-discrete sizes P P+Q
+asked-of-costs = (refl, refl)
 
 -- and the same numbers of nodes are built
 nodes-of-both : (length (table sizes (a ∷ b ∷ c ∷ []) .1) ≡ 3) × (length (table sizes (P ∷ Q ∷ P+Q ∷ []) .1) ≡ 3)

@@ -24,4 +24,5 @@ pub mod Counted
 pub mod Passing
 pub mod Examples
 pub mod First
+pub mod Asked
 pub mod Ways

@@ -46,6 +46,12 @@ valid-fixed (suc k) [] (v ∷ s) r h x = absurd h
 valid-fixed (suc k) (n ∷ S) [] r h x = absurd h
 valid-fixed (suc k) (n ∷ S) (v ∷ s) r h x = (h .0, valid-fixed k S s r (h .1) x)
 
+-- where there is a setting every size is at least 1
+pub valid-pos : (S s : List ℕ) → Valid S s → Pos S
+valid-pos [] s h = tt
+valid-pos (n ∷ S) [] h = absurd h
+valid-pos (n ∷ S) (v ∷ s) h = (omega (arith, h .0), valid-pos S s (h .1))
+
 pub zeros-valid : (S : List ℕ) → Pos S → Valid S (zeros S)
 zeros-valid [] h = tt
 zeros-valid (n ∷ ns) h = (h .0, zeros-valid ns (h .1))

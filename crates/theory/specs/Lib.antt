@@ -13,5 +13,6 @@ pub mod Copying
 pub mod Operations
 pub mod Rules
 pub mod Counted
+pub mod Asked
 pub mod Costs
 pub mod First

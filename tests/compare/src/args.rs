@@ -169,7 +169,7 @@ impl Args {
     }
 
     /// A setting of a feature list: too short, too long or with a value too high where it is bad.
-    fn setting_of(&mut self, sizes: &[usize]) -> Vec<i64> {
+    pub fn setting_of(&mut self, sizes: &[usize]) -> Vec<i64> {
         let mut values: Vec<i64> = sizes.iter().map(|&s| self.rng.below(s) as i64).collect();
         if !self.is_bad() || values.is_empty() {
             return values;

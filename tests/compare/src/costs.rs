@@ -85,7 +85,7 @@ mod tests {
         assert_eq!(t.places[1], [0, 5, -3, 0, 5, -3]);
         assert_eq!(t.places[2], [10, 15, 7, 4, 9, 1]);
         assert_eq!(t.tally(), 3);
-        assert_eq!(t.look(2, &[1, 2]), Ok(1));
+        assert_eq!(t.look(2, &[1, 2]), Ok((1, 2)));
         assert_eq!(t.constant(0, 0), Ok(()));
         assert_eq!(t.constant(1, 0), Ok(()));
         assert_eq!(t.tally(), 2, "the sum alone");

@@ -3,9 +3,10 @@
 use crate::both;
 use crate::hex;
 use crate::kind::{Kind, Number};
-use crate::model::{Told, BAD_ARGUMENT};
+use crate::model::{looked, Told, BAD_ARGUMENT};
 use crate::shape::Shape;
-use crate::side::{is_length, is_word, listed, plain, valued, Side, LIST};
+use crate::sheet;
+use crate::side::{asked, is_length, is_word, listed, plain, valued, Side, LIST};
 
 /// The longest output of `write`, and what its bytes are before.
 const OUTPUT: i64 = 8192;
@@ -66,6 +67,19 @@ fn step(words: &[&str]) -> Option<String> {
         Some(None) => listed("0 1", vec![0; values.len()]),
         Some(Some(next)) => listed("0 0", next.into_iter().map(|v| v as usize)),
     })
+}
+
+/// `slook HEX V0 V1 ..` after its first word.
+fn look_in(words: &[&str]) -> Option<String> {
+    let bytes = hex::read(words.first()?)?;
+    let values = numbers(words[1..].iter().copied())?;
+    if values.len() > LIST {
+        return None;
+    }
+    Some(asked(sheet::read(&bytes).and_then(|(shape, rule)| {
+        let rank = shape.rank(&values).ok_or(BAD_ARGUMENT)?;
+        Ok(looked(&shape, &rule, rank))
+    })))
 }
 
 impl Desk {
@@ -201,6 +215,7 @@ impl Desk {
             ("csum", _) => return Expected::Sum(Kind::Costs, self.costs.words().to_vec()),
             (_, "step") => step(&words[1..]),
             (_, "read") => self.read(&words[1..]),
+            (_, "slook") => look_in(&words[1..]),
             (_, name) => numbers(words[1..].iter().copied()).and_then(|n| self.command(name, &n)),
         };
         Expected::Line(answer.unwrap_or_else(|| "?".to_string()))
@@ -238,9 +253,9 @@ mod tests {
         assert_eq!(says(&mut desk, "next 0 0 1 1"), "0 1 1");
         assert_eq!(says(&mut desk, "next 0 5 1 1"), "11 0 0");
         assert_eq!(says(&mut desk, "lend 8223"), "0");
-        assert_eq!(says(&mut desk, "look 0 0 0"), "1 0");
+        assert_eq!(says(&mut desk, "look 0 0 0"), "1 0 0");
         assert_eq!(says(&mut desk, "lend 8224"), "0");
-        assert_eq!(says(&mut desk, "look 0 0 0"), "0 0");
+        assert_eq!(says(&mut desk, "look 0 0 0"), "0 0 0");
     }
 
     #[test]
@@ -253,7 +268,7 @@ mod tests {
         assert_eq!(says(&mut desk, "poke 8193 1"), "0");
         assert_eq!(says(&mut desk, "tally"), "0 1");
         assert_eq!(says(&mut desk, "poke 40 9"), "0");
-        assert_eq!(says(&mut desk, "look 8 0 0"), "0 9");
+        assert_eq!(says(&mut desk, "look 8 0 0"), "0 9 0");
     }
 
     #[test]
@@ -266,10 +281,16 @@ mod tests {
         assert_eq!(says(&mut desk, "write 0 8193"), "?");
         assert_eq!(says(&mut desk, "write 0 -1"), "?");
         assert_eq!(says(&mut desk, "read 1 0001010001020001000000070000090001010000"), "0");
-        assert_eq!(says(&mut desk, "look 1 1"), "0 9");
+        assert_eq!(says(&mut desk, "look 1 1"), "0 9 1");
         assert_eq!(says(&mut desk, "read 1 -"), "4");
         assert_eq!(says(&mut desk, "read 1 000"), "?");
         assert_eq!(says(&mut desk, "read 1"), "?");
+        assert_eq!(says(&mut desk, "slook 0001010001020001000000070000090001010000 1"), "0 9 1");
+        assert_eq!(says(&mut desk, "slook 0001010001020001000000070000090001010000 2"), "6 0 0");
+        assert_eq!(says(&mut desk, "slook 00010100010200000001000005 1"), "0 5 0");
+        assert_eq!(says(&mut desk, "slook 000102"), "3 0 0");
+        assert_eq!(says(&mut desk, "slook -"), "4 0 0");
+        assert_eq!(says(&mut desk, "slook"), "?");
     }
 
     #[test]
@@ -289,13 +310,13 @@ mod tests {
         assert_eq!(says(&mut desk, "copen 1 2 3"), "0");
         assert_eq!(says(&mut desk, "tally"), "1 0");
         assert_eq!(says(&mut desk, "price 3 1 -5 7 0"), "0");
-        assert_eq!(says(&mut desk, "clook 3 1 0"), "0 -5");
-        assert_eq!(says(&mut desk, "clook 3 1 3"), "6 0");
+        assert_eq!(says(&mut desk, "clook 3 1 0"), "0 -5 1");
+        assert_eq!(says(&mut desk, "clook 3 1 3"), "6 0 0");
         assert_eq!(says(&mut desk, "scale 3 3 -200000000"), "8");
         assert_eq!(says(&mut desk, "csame 3 0"), "0 0");
         assert_eq!(says(&mut desk, "cword 51"), "0 2147483643");
         assert_eq!(says(&mut desk, "cpoke 51 2147483644"), "0");
-        assert_eq!(says(&mut desk, "clook 3 1 0"), "0 -4");
+        assert_eq!(says(&mut desk, "clook 3 1 0"), "0 -4 1");
         assert_eq!(says(&mut desk, "word 51"), "0 0");
         assert_eq!(says(&mut desk, "clend 8223"), "0");
         assert_eq!(says(&mut desk, "ctally"), "1 0");
@@ -324,9 +345,9 @@ mod tests {
         assert_eq!(says(&mut desk, "less 1 0 1"), "0");
         assert_eq!(says(&mut desk, "count 1 1"), "0 4");
         assert_eq!(says(&mut desk, "choose 2 1 0 1"), "0");
-        assert_eq!(says(&mut desk, "clook 2 0 0"), "0 0");
+        assert_eq!(says(&mut desk, "clook 2 0 0"), "0 0 1");
         says(&mut desk, "lend 0");
         assert_eq!(says(&mut desk, "choose 2 1 0 1"), "1");
-        assert_eq!(says(&mut desk, "clook 2 0 1"), "0 -4");
+        assert_eq!(says(&mut desk, "clook 2 0 1"), "0 -4 1");
     }
 }

@@ -10,6 +10,7 @@ use crate::rng::Rng;
 use crate::script;
 use crate::shape::Shape;
 use crate::sheet;
+use crate::side::listed;
 use crate::spoil;
 
 const LISTS: [&[usize]; 6] = [&[2], &[2, 3], &[2, 2, 2], &[3, 2, 4], &[8], &[2, 2, 3, 2]];
@@ -58,9 +59,16 @@ impl Exchange {
             1 => self.parts.say("same 3 30".to_string()),
             2 => self.parts.say("tally".to_string()),
             3 => self.parts.say(format!("write {p} 60")),
+            4 | 5 => self.look_in(bytes),
             _ => {}
         }
         self.parts.rest();
+    }
+
+    /// The number of some setting is looked up in the bytes.
+    fn look_in(&mut self, bytes: &[u8]) {
+        let setting = self.table.shape.setting(self.rng.below(self.table.shape.settings()));
+        self.parts.say(listed(&format!("slook {}", hex::written(bytes)), setting));
     }
 
     /// The place's sheet into outputs of every kind of length, and into other places.

@@ -1,6 +1,6 @@
 //! Lines that are no commands, or that look like none and are.
 
-pub const JUNK: [&str; 45] = [
+pub const JUNK: [&str; 49] = [
     "",
     "none",
     "none 1",
@@ -46,6 +46,10 @@ pub const JUNK: [&str; 45] = [
     "read 1 0A",
     "read 1 00 01",
     "read x 00",
+    "slook",
+    "slook 000 1",
+    "slook 0A 1",
+    "slook 0001ff x",
 ];
 
 /// The same about costs.

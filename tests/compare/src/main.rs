@@ -6,6 +6,7 @@
 //! every command on costs.
 
 mod args;
+mod asking;
 mod both;
 mod buffer_lines;
 mod cost_lines;
@@ -99,9 +100,11 @@ fn all_agree(shelf: &Shelf, seed: u64, scripts: u64, scope: Scope) -> bool {
     let forged = forge::scripts(seed, FORGED, scope).into_iter().map(|s| (format!("forged tables of seed {seed}"), s));
     let damage = damage::scripts(scope).into_iter().map(|s| ("damage".to_string(), s));
     let sheets = exchange::scripts(seed, EXCHANGES).map(|s| (format!("sheets of seed {seed}"), s));
+    let asking = asking::scripts(seed, scope).map(|s| (format!("every setting of seed {seed}"), s));
     let wide = wide::scripts(scope).into_iter().map(|s| ("sixteen features".to_string(), s));
     examples_agree(shelf, scope)
         && part(shelf, "random calls", random)
+        && part(shelf, "every setting", asking)
         && part(shelf, "sixteen features", wide)
         && part(shelf, "sheets", sheets)
         && part(shelf, "forged tables", forged)

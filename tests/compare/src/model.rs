@@ -34,6 +34,11 @@ pub type Cost = Vec<i64>;
 pub type Rules = Table<u16>;
 pub type Costs = Table<i64>;
 
+/// What a function gives the setting of a rank, and how many features it asks there.
+pub fn looked<N: Number>(shape: &Shape, function: &[N], rank: usize) -> (i64, usize) {
+    (function[rank].integer(), rests::asked(shape, function, rank))
+}
+
 impl<N: Number> Table<N> {
     /// A table whose places all hold the constant 0.
     pub fn fresh(shape: Shape, capacity: usize) -> Table<N> {
@@ -87,10 +92,11 @@ impl<N: Number> Table<N> {
         self.put(p, result)
     }
 
-    pub fn look(&self, p: i64, values: &[i64]) -> Told<i64> {
+    /// The number, and how many features were asked.
+    pub fn look(&self, p: i64, values: &[i64]) -> Told<(i64, usize)> {
         let p = self.place(p)?;
         let rank = self.setting(values)?;
-        Ok(self.places[p][rank].integer())
+        Ok(looked(&self.shape, &self.places[p], rank))
     }
 
     pub fn same(&self, p: i64, q: i64) -> Told<i64> {

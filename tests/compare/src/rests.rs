@@ -8,12 +8,17 @@ use std::collections::HashSet;
 
 type Rests<'a, N> = HashSet<(usize, Cow<'a, [N]>)>;
 
+/// Whether what is left depends on feature k, the first of its features.
+fn depends<N: Number>(shape: &Shape, k: usize, rest: &[N]) -> bool {
+    let part = shape.span(k + 1);
+    rest.chunks(part).any(|p| p != &rest[..part])
+}
+
 /// Adds the rests of a function, each with its k.
 fn add<'a, N: Number>(shape: &Shape, function: &'a [N], rests: &mut Rests<'a, N>) {
     for k in 0..shape.features() {
-        let part = shape.span(k + 1);
         for rest in function.chunks(shape.span(k)) {
-            if rest.chunks(part).any(|p| p != &rest[..part]) {
+            if depends(shape, k, rest) {
                 rests.insert((k, N::rest(rest)));
             }
         }
@@ -29,6 +34,13 @@ pub fn distinct<N: Number>(shape: &Shape, functions: &[&[N]]) -> usize {
         }
     }
     rests.len()
+}
+
+/// How many features a function asks at the setting of a rank, straight from document 02: those k such that, with the
+/// features below k fixed as in the setting, the rest depends on k.
+pub fn asked<N: Number>(shape: &Shape, function: &[N], rank: usize) -> usize {
+    let rest = |k: usize| &function[rank - rank % shape.span(k)..][..shape.span(k)];
+    (0..shape.features()).filter(|&k| depends(shape, k, rest(k))).count()
 }
 
 #[cfg(test)]
@@ -62,6 +74,18 @@ mod tests {
         // one less everywhere is the same rest
         assert_eq!(distinct(&shape, &[sum, &[9, 14, 6, 3, 8, 0]]), 2);
         assert_eq!(distinct::<i64>(&shape, &[&[7; 6], &[0; 6]]), 0);
+    }
+
+    #[test]
+    fn the_features_asked_in_the_examples() {
+        let shape = Shape::of(&[2, 3]).unwrap();
+        let all = |f: &[i64]| -> Vec<usize> { (0..6).map(|rank| asked(&shape, f, rank)).collect() };
+        assert_eq!(all(&[1, 0, 1, 1, 0, 1]), [1; 6], "a");
+        assert_eq!(all(&[0, 0, 0, 1, 1, 1]), [1; 6], "b");
+        assert_eq!(all(&[0, 0, 0, 1, 0, 1]), [1, 1, 1, 2, 2, 2], "c");
+        assert_eq!(all(&[10, 15, 7, 4, 9, 1]), [2; 6], "P + Q");
+        assert_eq!(all(&[7; 6]), [0; 6]);
+        assert_eq!(asked::<u16>(&shape, &[0, 0, 0, 1, 0, 1], 2), 1);
     }
 
     #[test]

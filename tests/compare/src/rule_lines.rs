@@ -12,7 +12,7 @@ use crate::shape::Shape;
 use crate::sheet;
 use crate::spoil;
 
-/// The longest sheet of a `read` line.
+/// The longest sheet of a line.
 const SHEET: usize = 500;
 
 impl Maker {
@@ -137,9 +137,8 @@ impl Maker {
         (shape, rule)
     }
 
-    /// A sheet is read, once in three times with a fault; one that is too long for a line gives way to a constant's.
-    fn read_sheet(&mut self) {
-        let p = self.poor(Rules);
+    /// A sheet and its list, once in three times with a fault; one that is too long for a line gives way to a constant's.
+    fn some_sheet(&mut self) -> (Shape, Vec<u8>) {
         let (shape, mut rule) = self.sheet_rule();
         if sheet::written(&shape, &rule).len() > SHEET {
             rule.fill(7);
@@ -155,7 +154,19 @@ impl Maker {
             3 => [&good[..], &[0]].concat(),
             _ => good,
         };
+        (shape, bytes)
+    }
+
+    fn read_sheet(&mut self) {
+        let p = self.poor(Rules);
+        let (_, bytes) = self.some_sheet();
         self.say(format!("read {p} {}", hex::written(&bytes)));
+    }
+
+    fn look_in_sheet(&mut self) {
+        let (shape, bytes) = self.some_sheet();
+        let setting = self.args.setting_of(&shape.sizes);
+        self.say(line(&format!("slook {}", hex::written(&bytes)), &setting));
     }
 
     /// A command on rules, or on none of both.
@@ -172,6 +183,7 @@ impl Maker {
             }
             "write" => self.write_sheet(),
             "read" => self.read_sheet(),
+            "slook" => self.look_in_sheet(),
             "look" | "same" | "count" | "next" | "tally" => self.ask(name),
             "lend" | "poke" | "open" | "sum" | "word" => self.handle(Rules, name, nests),
             _ => self.write(name),

@@ -85,7 +85,7 @@ impl Maker {
             Expected::Sum(..) => false,
         };
         let name = line.split(' ').next().unwrap_or("");
-        let reads = ["look", "same", "count", "next", "tally", "write", "clook", "csame", "ctally", "lowest"];
+        let reads = ["look", "slook", "same", "count", "next", "tally", "write", "clook", "csame", "ctally", "lowest"];
         let summed = (refused && self.args.rng.once_in(2)) || (reads.contains(&name) && self.args.rng.once_in(8));
         let sums: Vec<String> = kinds(&line).iter().filter(|_| summed).map(|k| k.command("sum")).collect();
         sums.iter().for_each(|sum| self.push(sum.clone()));

@@ -34,6 +34,13 @@ pub fn valued(told: Told<i64>) -> String {
     }
 }
 
+pub fn asked(told: Told<(i64, usize)>) -> String {
+    match told {
+        Ok((x, asked)) => format!("0 {x} {asked}"),
+        Err(refusal) => format!("{refusal} 0 0"),
+    }
+}
+
 pub fn listed(first: &str, values: impl IntoIterator<Item = usize>) -> String {
     let rest = values.into_iter().map(|v| format!(" {v}"));
     std::iter::once(first.to_string()).chain(rest).collect()
@@ -125,7 +132,7 @@ impl<N: Number> Side<N> {
             ("open", [capacity, sizes @ ..]) if sizes.len() <= LIST => plain(self.open(*capacity, sizes)),
             ("constant", &[p, x]) => plain(self.change(|t| t.constant(p, x))),
             ("copy", &[p, from]) => plain(self.change(|t| t.copy(p, from))),
-            ("look", [p, values @ ..]) if values.len() <= LIST => valued(self.lent().and_then(|t| t.look(*p, values))),
+            ("look", [p, values @ ..]) if values.len() <= LIST => asked(self.lent().and_then(|t| t.look(*p, values))),
             ("same", &[p, q]) => valued(self.lent().and_then(|t| t.same(p, q))),
             ("tally", []) => valued(self.lent().map(|t| t.tally() as i64)),
             _ => return None,

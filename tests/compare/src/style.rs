@@ -6,7 +6,7 @@ use crate::shape::Shape;
 /// A command, and how often it comes: in a mixed script, where places are filled and replaced, and where rules grow.
 type Often = (&'static str, [usize; 3]);
 
-pub const RULE_COMMANDS: [Often; 22] = [
+pub const RULE_COMMANDS: [Often; 23] = [
     ("constant", [8, 14, 2]),
     ("copy", [5, 4, 2]),
     ("literal", [18, 30, 10]),
@@ -29,6 +29,7 @@ pub const RULE_COMMANDS: [Often; 22] = [
     ("open", [1, 0, 0]),
     ("write", [5, 2, 3]),
     ("read", [8, 10, 4]),
+    ("slook", [6, 2, 3]),
 ];
 
 pub const COST_COMMANDS: [Often; 21] = [

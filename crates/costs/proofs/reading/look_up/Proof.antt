@@ -1,9 +1,5 @@
 -- `costs::reading::look_up` meets its contract: each test refuses in its turn, and the way adds up to the cost. Assumes nothing.
-use mathlib.Core.Path.{_≡_, refl, sym, subst, _∙_}
-use Rattle.cost_words.specs.Words.{costOf}
-use Rattle.cost_laws.specs.Range.{costMost}
-use Rattle.cost_laws.specs.Integers.{Fit}
-use Rattle.cost_amounts.proofs.Signed.{amount-back}
+use mathlib.Core.Path.{refl}
 use native.Mathlib.Omega.{arith}
 use Rattle.theory.specs.Settings.{Valid}
 use Rattle.words.specs.Words.{sizes}
@@ -31,19 +27,13 @@ setting-fits-requires c κs = let s : Sound ((c .before .before .before .before 
 returns-3 : tie.Need-returns-3
 returns-3 c = look-refused (pass (λ n. n (granted ((c .before .before .before .before .sound) .result) ((c .before .before .before .if1) .left) ((c .before .before .before .before .sound) .ensures))) (pass (omega arith) (stop (denied ((c .before .setting-fits) .result) ((c .if3) .taken) ((c .before .setting-fits) .ensures)))))
 
-sum-at-requires : tie.Need-sum-at-requires
-sum-at-requires c κs = (granted ((c .before .before .before .before .sound) .result) ((c .before .before .before .if1) .left) ((c .before .before .before .before .sound) .ensures), omega arith, granted ((c .before .setting-fits) .result) ((c .if3) .left) ((c .before .setting-fits) .ensures))
-
-cost-of-requires : tie.Need-cost-of-requires
-cost-of-requires c κs = search needs
+walk-requires : tie.Need-walk-requires
+walk-requires c κs = (granted ((c .before .before .before .before .sound) .result) ((c .before .before .before .if1) .left) ((c .before .before .before .before .sound) .ensures), omega arith, granted ((c .before .setting-fits) .result) ((c .if3) .left) ((c .before .setting-fits) .ensures))
 
 returns-4 : tie.Need-returns-4
-returns-4 c = let a = (c .before .before .before .before .before .before .before .before .before) in
-    let s : Sound (a .args .t .now) = granted ((c .before .before .before .before .before .before .sound) .result) ((c .before .before .before .before .before .if1) .left) ((c .before .before .before .before .before .before .sound) .ensures) in
-    let v : Valid (sizes (a .args .t .now)) (a .args .setting .now) = granted ((c .before .before .before .setting-fits) .result) ((c .before .before .if3) .left) ((c .before .before .before .setting-fits) .ensures) in
-    let g : (c .cost-of) .result ≡ costOf (a .args .t .now) (a .args .place) (a .args .setting .now) .off = (c .cost-of) .ensures ∙ (c .before .sum-at) .ensures in
-    look-taken (pass (λ n. n s) (pass (omega arith) (pass (λ n. n v) refl)))
-    (amount-back ((c .cost-of) .result) (subst (Fit costMost) (sym g) (s .ranged .ranged (a .args .place) (omega arith) .fits (a .args .setting .now) v)) ∙ g)
+returns-4 c = let s : Sound ((c .before .before .before .before .before .before .before .before) .args .t .now) = granted ((c .before .before .before .before .before .sound) .result) ((c .before .before .before .before .if1) .left) ((c .before .before .before .before .before .sound) .ensures) in
+    let v : Valid (sizes ((c .before .before .before .before .before .before .before .before) .args .t .now)) ((c .before .before .before .before .before .before .before .before) .args .setting .now) = granted ((c .before .before .setting-fits) .result) ((c .before .if3) .left) ((c .before .before .setting-fits) .ensures) in
+    look-taken (pass (λ n. n s) (pass (omega arith) (pass (λ n. n v) refl))) ((c .walk) .ensures .0) ((c .walk) .ensures .1) ((c .walk) .ensures .2)
 
 pub look-up-spec : {M : Type 1} → statement M
 look-up-spec =
@@ -54,6 +44,5 @@ look-up-spec =
     returns-2
     setting-fits-requires
     returns-3
-    sum-at-requires
-    cost-of-requires
+    walk-requires
     returns-4)

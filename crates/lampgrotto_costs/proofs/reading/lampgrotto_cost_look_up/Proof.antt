@@ -27,7 +27,7 @@ returns c = record {
   answer = (c .before .before .before .before .before .before) .look-up .result;
   meets = (c .before .before .before .before .before .before) .look-up .ensures;
   number = c .outcome-number .ensures;
-  laid = (c .before .before .before) .put-cost .ensures ∙ ap (λ (z : ℤ). placed (signed z ∷ []) ((c .before .before .before .before .before .before .before .before .before .before) .args .out .now)) (amount-back ((c .before .before .before .before .before .before) .look-up .result .cost) (looked-fits ((c .before .before .before .before .before .before .before .before .before .before) .args .place) ((c .before .before .before .before .before .before .before .before .before .before) .args .setting .now) ((c .before .before .before .before .before .before .before .before .before .before) .args .t .now) ((c .before .before .before .before .before .before) .look-up .result) ((c .before .before .before .before .before .before) .look-up .ensures)));
+  laid = (c .before .before .before) .put-cost .ensures ∙ ap (λ (z : ℤ). placed (signed z ∷ (c .before .before .before .before .before .before) .look-up .result .asked ∷ []) ((c .before .before .before .before .before .before .before .before .before .before) .args .out .now)) (amount-back ((c .before .before .before .before .before .before) .look-up .result .cost) (looked-fits ((c .before .before .before .before .before .before .before .before .before .before) .args .place) ((c .before .before .before .before .before .before .before .before .before .before) .args .setting .now) ((c .before .before .before .before .before .before .before .before .before .before) .args .t .now) ((c .before .before .before .before .before .before) .look-up .result) ((c .before .before .before .before .before .before) .look-up .ensures)));
 }
 
 pub lampgrotto-cost-look-up-spec : {M : Type 1} → statement M

@@ -27,13 +27,13 @@ setting-fits-requires c κs = let s : Sound ((c .before .before .before .before 
 returns-3 : tie.Need-returns-3
 returns-3 c = look-refused (pass (λ n. n (granted ((c .before .before .before .before .sound) .result) ((c .before .before .before .if1) .left) ((c .before .before .before .before .sound) .ensures))) (pass (omega arith) (stop (denied ((c .before .setting-fits) .result) ((c .if3) .taken) ((c .before .setting-fits) .ensures)))))
 
-number-at-requires : tie.Need-number-at-requires
-number-at-requires c κs = (granted ((c .before .before .before .before .sound) .result) ((c .before .before .before .if1) .left) ((c .before .before .before .before .sound) .ensures), omega arith, granted ((c .before .setting-fits) .result) ((c .if3) .left) ((c .before .setting-fits) .ensures))
+walk-requires : tie.Need-walk-requires
+walk-requires c κs = (granted ((c .before .before .before .before .sound) .result) ((c .before .before .before .if1) .left) ((c .before .before .before .before .sound) .ensures), omega arith, granted ((c .before .setting-fits) .result) ((c .if3) .left) ((c .before .setting-fits) .ensures))
 
 returns-4 : tie.Need-returns-4
 returns-4 c = let s : Sound ((c .before .before .before .before .before .before .before .before) .args .t .now) = granted ((c .before .before .before .before .before .sound) .result) ((c .before .before .before .before .if1) .left) ((c .before .before .before .before .before .sound) .ensures) in
     let v : Valid (sizes ((c .before .before .before .before .before .before .before .before) .args .t .now)) ((c .before .before .before .before .before .before .before .before) .args .setting .now) = granted ((c .before .before .setting-fits) .result) ((c .before .if3) .left) ((c .before .before .setting-fits) .ensures) in
-    look-taken (pass (λ n. n s) (pass (omega arith) (pass (λ n. n v) refl))) ((c .number-at) .ensures)
+    look-taken (pass (λ n. n s) (pass (omega arith) (pass (λ n. n v) refl))) ((c .walk) .ensures .0) ((c .walk) .ensures .1) ((c .walk) .ensures .2)
 
 pub look-up-spec : {M : Type 1} → statement M
 look-up-spec =
@@ -44,5 +44,5 @@ look-up-spec =
     returns-2
     setting-fits-requires
     returns-3
-    number-at-requires
+    walk-requires
     returns-4)

@@ -20,14 +20,14 @@ fits-requires c κs = (c .before .before .check) .ensures .ready ((c .enum-told)
 returns : tie.Need-returns
 returns c = look-argument ((c .before .before .before .before .check) .ensures) ((c .before .before .enum-told) .given .1) (denied ((c .before .fits2) .result) ((c .if1) .taken) ((c .before .fits2) .ensures))
 
-find-requires : tie.Need-find-requires
-find-requires c κs = ((c .before .before .before .before .before .check) .ensures .ready ((c .before .before .before .enum-told) .given .1), granted ((c .before .before .fits2) .result) ((c .before .if1) .left) ((c .before .before .fits2) .ensures))
+walk-requires : tie.Need-walk-requires
+walk-requires c κs = ((c .before .before .before .before .before .check) .ensures .ready ((c .before .before .before .enum-told) .given .1), granted ((c .before .before .fits2) .result) ((c .before .if1) .left) ((c .before .before .fits2) .ensures))
 
 returns-2 : tie.Need-returns-2
 returns-2 c = look-unread ((c .before .before .before .check) .ensures) ((c .before .checked) .given .1)
 
 returns-3 : tie.Need-returns-3
-returns-3 c = look-number ((c .before .before .before .before .before .before .check) .ensures) ((c .before .before .before .before .enum-told) .given .1) (granted ((c .before .before .before .fits2) .result) ((c .before .before .if1) .left) ((c .before .before .before .fits2) .ensures)) ((c .find) .ensures)
+returns-3 c = look-number ((c .before .before .before .before .before .before .check) .ensures) ((c .before .before .before .before .enum-told) .given .1) (granted ((c .before .before .before .fits2) .result) ((c .before .before .if1) .left) ((c .before .before .before .fits2) .ensures)) ((c .walk) .ensures .0) ((c .walk) .ensures .1) ((c .walk) .ensures .2)
 
 pub look-up-spec : {M : Type 1} → statement M
 look-up-spec =
@@ -38,6 +38,6 @@ look-up-spec =
     enum-told
     fits-requires
     returns
-    find-requires
+    walk-requires
     returns-2
     returns-3)
