@@ -29,7 +29,7 @@ static void expect(int holds, const char *what) {
 }
 
 /* ---- the library */
-static void library_look_up(void) { sink += lampgrotto_rule_look_up(words, length, at.largest, setting, 16, out, 1); }
+static void library_look_up(void) { sink += lampgrotto_rule_look_up(words, length, at.largest, setting, 16, out, 2); }
 static void library_constant(void) { sink += lampgrotto_constant(words, length, CONSTANT, 7); }
 static void library_apply(void) { sink += lampgrotto_apply(words, length, scratch, scratch_length, APPLIED, DIFFER, at.apply_a, at.apply_b); }
 static void library_case(void) {
@@ -156,6 +156,7 @@ static void agree(const struct job *j) {
     else if (j->library != library_next) expect(number == wanted, j->name);
     else
         for (int k = 0; k < 16; k++) expect(number && found[k] == out[k], j->name);
+    if (j->library == library_look_up) expect(out[1] == plain_asked(plain_root(at.largest), setting), j->name);
     if (j->library == library_write) expect(!memcmp(sheet, plain_sheet, sheet_length), j->name);
 #ifdef BUDDY
     if (!j->buddy) return;

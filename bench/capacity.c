@@ -10,8 +10,8 @@ static uint32_t turn;
 static void summing(void) { sum_words(words, length); }
 
 static void looking(void) {
-    uint32_t out[1];
-    sink += lampgrotto_rule_look_up(words, length, turn++ % 32, setting, 16, out, 1);
+    uint32_t out[2];
+    sink += lampgrotto_rule_look_up(words, length, turn++ % 32, setting, 16, out, 2);
 }
 
 static void writing(void) { sink += lampgrotto_constant(words, length, 31, turn++ % 65536); }

@@ -60,7 +60,7 @@ static void comparing(void) { sink += lampgrotto_less(rules, WORDS, costs, WORDS
 static void choosing(void) { sink += lampgrotto_choose(costs, WORDS, rules, WORDS, lent, lent_length, SMALLER, BELOW, FIRST, SECOND); }
 static void seeking(void) { sink += lampgrotto_lowest(costs, WORDS, rules, WORDS, lent, lent_length, LARGER, BELOW, out, 17); }
 static void seeking_all(void) { sink += lampgrotto_lowest(costs, WORDS, rules, WORDS, lent, lent_length, LARGER, ALL, out, 17); }
-static void looking(void) { sink += lampgrotto_cost_look_up(costs, WORDS, LARGER, setting, 16, out, 1); }
+static void looking(void) { sink += lampgrotto_cost_look_up(costs, WORDS, LARGER, setting, 16, out, 2); }
 static void constant(void) { sink += lampgrotto_cost_constant(costs, WORDS, RESULT, 7); }
 static void summing(void) { sum_words(costs, WORDS); }
 

@@ -11,6 +11,7 @@ void plain_load(const uint32_t *t);
 branch plain_root(size_t place);
 
 uint32_t plain_look_up(branch b, const uint8_t *setting);
+uint32_t plain_asked(branch b, const uint8_t *setting); /* how many features that asks */
 branch plain_apply(uint32_t op, branch a, branch b);
 branch plain_case(branch selector, const branch *branches, size_t count);
 branch plain_restrict(branch b, unsigned feature, unsigned value);

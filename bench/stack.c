@@ -59,7 +59,7 @@ static uint32_t ending;
         return none; \
     }
 THREAD(phone, lampgrotto_look_up(sheet, sheet_length, setting, 16))
-THREAD(looking, lampgrotto_rule_look_up(words, WORDS, FIRST, setting, 16, out, 1))
+THREAD(looking, lampgrotto_rule_look_up(words, WORDS, FIRST, setting, 16, out, 2))
 THREAD(constant, lampgrotto_constant(words, WORDS, RESULT, 7))
 THREAD(literal, lampgrotto_literal(words, WORDS, RESULT, 0, 5, out, 1))
 THREAD(applying, lampgrotto_apply(words, WORDS, scratch, SCRATCH, RESULT, 1, FIRST, SECOND))
@@ -74,7 +74,7 @@ THREAD(reading, lampgrotto_read(words, WORDS, RESULT, sheet, sheet_length))
 
 /* the cost calls, with no scratch: then those that join keep their remembered results on the stack */
 static const int64_t prices[8] = {0, 1, 2, 3, 4, 5, 6, 7};
-THREAD(cost_looking, lampgrotto_cost_look_up(cost_words, COST_WORDS, FIRST, setting, 16, out, 1))
+THREAD(cost_looking, lampgrotto_cost_look_up(cost_words, COST_WORDS, FIRST, setting, 16, out, 2))
 THREAD(cost_constant, lampgrotto_cost_constant(cost_words, COST_WORDS, RESULT, 7))
 THREAD(pricing, lampgrotto_price(cost_words, COST_WORDS, RESULT, 15, prices, 8))
 THREAD(adding, lampgrotto_add(cost_words, COST_WORDS, scratch, 0, RESULT, FIRST, SECOND))
