@@ -45,8 +45,8 @@ uint32_t lampgrotto_look_up(const uint8_t *sheet, size_t sheet_len, const uint8_
    65,535. Every call answers how it ended, and takes
      t         the table's words; words past LAMPGROTTO_WORDS(capacity) are neither read nor written;
      scratch   words for remembered results, any number of them, 0 too, with anything in them. No answer and no table depends on
-               them, only the time: all of them are cleared first. With fewer than 6,144 a call remembers on its own stack instead,
-               and in a large table that it writes in that table's spare words; so lending none does well;
+               them, only the time: all of them are cleared first. With fewer than 6,144 (5,632 in apply, case and forget) a call remembers on
+               its own stack instead, and in a large table that it writes in that table's spare words; so lending none does well;
      place     the place that gets the result; it may be one of those that the call reads;
      out       words for results. They are laid over its front, as many as fit; a refused call lays 0s. Words past them stay.
    Every call but open refuses DAMAGED words. A call that is lent scratch takes up to 42 KB of stack, any other up to

@@ -1,4 +1,4 @@
-/* Costs made, joined and read from C: document 01's examples over a feature of size 2 and one of size 3, with what is refused.
+/* Costs made, joined and read from C: the scope's examples over a feature of size 2 and one of size 3, with what is refused.
    It writes what it gets, call by call; the file expected has what it must get. */
 #include "lampgrotto.h"
 #include <stdio.h>
@@ -52,7 +52,7 @@ static void say_cost(const char *name, size_t place) { say_settings(name, 1, pla
 static void say_rule(const char *name, size_t place) { say_settings(name, 0, place); }
 static void say_tally(void) { say_results("tally", lampgrotto_cost_tally(costs, WORDS, out, 17), 1); }
 
-/* ---- document 01's examples */
+/* ---- the scope's examples */
 
 /* P, Q and P + Q, and the rules, in their places; no scratch will do too */
 static void fresh(void) {

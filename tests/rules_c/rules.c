@@ -1,4 +1,4 @@
-/* Rules made, joined and read from C: examples over a feature of size 2 and one of size 3, document 01's and one of forgetting, with what is refused.
+/* Rules made, joined and read from C: examples over a feature of size 2 and one of size 3, the scope's and one of forgetting, with what is refused.
    It writes what it gets, call by call; the file expected has what it must get. */
 #include "lampgrotto.h"
 #include <stdio.h>
@@ -236,7 +236,7 @@ static void refusals(void) {
 
 /* ---- sheets */
 
-/* document 01's sheet: one feature of size 2, phrases 7 and 9 */
+/* the scope's sheet: one feature of size 2, phrases 7 and 9 */
 static const uint8_t seven_nine[20] = {0, 1, 1, 0, 1, 2, 0, 1, 0, 0, 0, 7, 0, 0, 9, 0, 1, 1, 0, 0};
 static uint8_t bytes[64];
 

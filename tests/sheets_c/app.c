@@ -48,7 +48,7 @@ static void look_all(const struct sheet *s, const struct list *f) {
     }
 }
 
-/* ---- document 01's two whole sheets */
+/* ---- the scope's two whole sheets */
 static const uint8_t example[20] = {0, 1, 1, 0, 1, 2, 0, 1, 0, 0, 0, 7, 0, 0, 9, 0, 1, 1, 0, 0};
 static const uint8_t constant[13] = {0, 1, 1, 0, 1, 2, 0, 0, 0, 1, 0, 0, 5};
 

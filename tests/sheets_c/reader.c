@@ -1,4 +1,4 @@
-/* A reader of sheets, straight from document 01: sections, nodes, no equal branches, no twins, the order of a walk. */
+/* A reader of sheets, straight from docs/SCOPE.md: sections, nodes, no equal branches, no twins, the order of a walk. */
 #include "sheet.h"
 #include <string.h>
 

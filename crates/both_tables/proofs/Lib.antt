@@ -1,3 +1,5 @@
+pub mod Entering
+pub mod Edge
 pub mod Operands
 pub mod Finding
 pub mod Theorems

@@ -3,10 +3,10 @@ use mathlib.Core.Path.{sym, _∙_}
 use mathlib.Core.List.{List}
 use Prim.Native.Nat.{ℕ}
 use native.Mathlib.Omega.{arith}
-use Rattle.rule_sound.specs.Sound.{Sound as SoundRules}
 use Rattle.rule_sound.proofs.Unique.{sound-kind as rules-kind}
-use Rattle.cost_sound.specs.Sound.{Sound}
 use Rattle.cost_sound.proofs.Unique.{sound-kind}
+use Rattle.promises.specs.RuleSound.{RuleSound as SoundRules}
+use Rattle.promises.specs.CostSound.{CostSound as Sound}
 
 -- THEOREM: no rule table is a sound cost table, nor the other way round
 pub kinds-apart : {w : List ℕ} → SoundRules w → Sound w → ⊥

@@ -1,4 +1,2 @@
-pub mod Lending
-pub mod Choosing
-pub mod Comparing
-pub mod Seeking
+pub mod Door
+pub mod Found

@@ -6,8 +6,8 @@ use native.Mathlib.Nat.{add-suc}
 use native.Mathlib.Numerals.{add-one}
 use lib.ListN.{length, getD, drop, drop-of-length-le, set}
 use lib.Seq.{drop-cons}
-use Rattle.c_results.specs.Results.{placed}
 use Rattle.c_results.specs.Laying.{laid}
+use Rattle.promises.specs.ForC.{placed}
 
 laid-none : (i : ℕ) (l : List ℕ) → laid i l [] ≡ []
 laid-none i [] = refl

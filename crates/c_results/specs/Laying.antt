@@ -1,4 +1,4 @@
--- Results laid into lent words one after another. Assumes nothing.
+-- Contract between layers: results laid into lent words one after another. Assumes nothing.
 use mathlib.Core.List.{List, [], _∷_}
 use Prim.Native.Nat.{ℕ, suc}
 use lib.ListN.{set}

@@ -1,3 +1,1 @@
-pub mod Results
 pub mod Laying
-pub mod Calls

@@ -3,8 +3,8 @@ ghost use mathlib.Core.Path.{_≡_};
 ghost use mathlib.Core.List.{[], _∷_};
 ghost use Prim.Native.Nat.{_/_, _%_, _<_};
 ghost use lib.ListN.{set};
-ghost use Rattle.c_results.specs.Results.{placed, bit, halves};
 ghost use Rattle.c_results.specs.Laying.{laid};
+ghost use Rattle.promises.specs.ForC.{placed, bit, halves};
 
 // Yes is 1.
 fn flag(b: bool) -> u32

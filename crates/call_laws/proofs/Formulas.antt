@@ -2,33 +2,45 @@
 use mathlib.Core.Path.{refl, sym, ap, ap₂, _∙_}
 use mathlib.Core.List.{List}
 use Prim.Native.Nat.{ℕ, _<_}
+use native.Mathlib.Omega.{arith}
 use lib.IntN.{ℤ, _+ℤ_, _-ℤ_}
 use Rattle.theory.specs.Functions.{Agree, Amount}
 use Rattle.theory.specs.Costs.{costs, Cost, amount}
 use Rattle.settings.specs.declared.refusals.Outcome.the-variants.{Taken}
-use Rattle.words.specs.Words.{sizes}
-use Rattle.cost_laws.specs.Operations as O
+use Rattle.promises.specs.CostOperations as O
 use Rattle.cost_laws.proofs.Relative.{offs}
-use Rattle.cost_words.specs.Words.{costOf}
-use Rattle.cost_sound.specs.Sound.{Sound}
-use Rattle.cost_operations.specs.Joining.{Pairs, Scales}
+use Rattle.promises.specs.State.{on}
+use Rattle.promises.specs.Deed.{Meets}
+use Rattle.promises.specs.Table.{stateOf}
+use Rattle.promises.specs.CostDeeds.{cost-looked, costed, join, scale}
+use Rattle.calls.proofs.Like.{clear, rest}
 use Rattle.costs.proofs.Answering.{agree-roots, agree-bases}
-use Rattle.demands.proofs.Like.{clear, rest}
-use Rattle.demands.proofs.Promised.{first}
-use Rattle.demands.proofs.CostLaws.{drawn}
+use Rattle.costs.proofs.Edge.{drawn, placed}
 use Rattle.call_laws.specs.Formulas.{One, Formula, saidBy, Worked, source, stays, added, subtracted, smaller, larger, scaled}
-use Rattle.call_laws.proofs.Standing.{still-agrees, written-agrees}
+use Rattle.call_laws.proofs.Standing.{there, still-agrees, written-agrees}
+use Rattle.promises.specs.Words.{sizes}
+use Rattle.promises.specs.CostWords.{costOf}
+use Rattle.promises.specs.CostSound.{CostSound as Sound}
 
 -- what a taken call gives of places that agree with f and g
-pairs-give : (F : ℤ → ℤ → ℤ) {p a b : ℕ} {w v : List ℕ} {f g : Cost} → Agree (sizes w) (costOf w a) f → Agree (sizes w) (costOf w b) g → Pairs (O.joined F) p a b w v Taken → Agree (sizes v) (costOf v p) (O.joined F f g)
-pairs-give F i j c = written-agrees drawn (c .becomes refl) (first (clear (rest (c .ends)))) (λ s v. ap₂ (λ (k l : ℤ). amount (F k l)) (offs (i s v)) (offs (j s v)))
+on-agrees : (w : List ℕ) (a : ℕ) {f : Cost} → a < 16 → Agree (sizes w) (costOf w a) f → Agree (sizes w) (on (stateOf costed w) a) f
+on-agrees w a h i s v = sym (placed w a h s v) ∙ i s v
 
-scales-give : {p a : ℕ} {k : ℤ} {w v : List ℕ} {f : Cost} → Agree (sizes w) (costOf w a) f → Scales p a k w v Taken → Agree (sizes v) (costOf v p) (O.scaled k f)
-scales-give {k = k} i c = written-agrees drawn (c .becomes refl) (first (clear (rest (c .ends)))) (λ s v. ap (λ (x : Amount costs). O.scaled k (λ t. x) s) (i s v))
+pairs-give : (F : ℤ → ℤ → ℤ) {p a b : ℕ} {w v : List ℕ} {f g : Cost} → Agree (sizes w) (costOf w a) f → Agree (sizes w) (costOf w b) g → Meets (join F p a b) w v Taken →
+    Agree (sizes v) (costOf v p) (O.joined F f g)
+pairs-give F {p} {a} {b} {w} i j c =
+    let h = there (clear (rest (c .ends))) in
+    written-agrees cost-looked drawn refl c refl (h 0 (omega arith))
+    (λ s v. ap₂ (λ (k l : ℤ). amount (F k l)) (offs (on-agrees w a (h 1 (omega arith)) i s v)) (offs (on-agrees w b (h 2 (omega arith)) j s v)))
+
+scales-give : {p a : ℕ} {k : ℤ} {w v : List ℕ} {f : Cost} → Agree (sizes w) (costOf w a) f → Meets (scale p a k) w v Taken → Agree (sizes v) (costOf v p) (O.scaled k f)
+scales-give {a = a} {k = k} {w = w} i c =
+    let h = there (clear (rest (c .ends))) in
+    written-agrees cost-looked drawn refl c refl (h 0 (omega arith)) (λ s v. ap (λ (x : Amount costs). O.scaled k (λ t. x) s) (on-agrees w a (h 1 (omega arith)) i s v))
 
 pub worked-gives : {w : List ℕ} {p : ℕ} {x : Formula} → Worked w p x → Agree (sizes w) (costOf w p) (saidBy x)
 worked-gives (source w p) = λ s v. refl
-worked-gives (stays i k) = still-agrees drawn (worked-gives i) k
+worked-gives (stays i k) = still-agrees cost-looked drawn (worked-gives i) k
 worked-gives (added i j c) = pairs-give _+ℤ_ (worked-gives i) (worked-gives j) c
 worked-gives (subtracted i j c) = pairs-give _-ℤ_ (worked-gives i) (worked-gives j) c
 worked-gives (smaller i j c) = pairs-give O.smallerOf (worked-gives i) (worked-gives j) c

@@ -6,11 +6,12 @@ use lib.IntN.{ℤ}
 use Rattle.theory.specs.Costs.{Cost}
 use Rattle.settings.specs.declared.refusals.Outcome.{Outcome}
 use Rattle.settings.specs.declared.refusals.Outcome.the-variants.{Taken}
-use Rattle.cost_laws.specs.Operations as O
-use Rattle.cost_words.specs.Words.{root, base, costOf}
-use Rattle.cost_sound.specs.Sound.{Sound}
-use Rattle.cost_operations.specs.Joining.{Adds, Subtracts, TakesSmaller, TakesLarger, Scales}
+use Rattle.promises.specs.CostOperations as O
+use Rattle.promises.specs.Deed.{Meets}
+use Rattle.promises.specs.CostDeeds as D
 use Rattle.call_laws.specs.Standing as S
+use Rattle.promises.specs.CostWords.{costRoot as root, costBase as base, costOf}
+use Rattle.promises.specs.CostSound.{CostSound as Sound}
 
 -- of a cost table: a place that still holds its cost, and calls in turn
 abbrev pub Still : ℕ → List ℕ → List ℕ → Type 0
@@ -47,8 +48,8 @@ pub data Worked : List ℕ → ℕ → Formula → Type 0 where
   source : (w : List ℕ) (p : ℕ) → Worked w p (Given (costOf w p))
   -- whatever was called meanwhile
   stays : {p : ℕ} {w v : List ℕ} {x : Formula} → Worked w p x → Still p w v → Worked v p x
-  added : {p a b : ℕ} {w v : List ℕ} {x y : Formula} → Worked w a x → Worked w b y → Adds p a b w v Taken → Worked v p (Plus x y)
-  subtracted : {p a b : ℕ} {w v : List ℕ} {x y : Formula} → Worked w a x → Worked w b y → Subtracts p a b w v Taken → Worked v p (Minus x y)
-  smaller : {p a b : ℕ} {w v : List ℕ} {x y : Formula} → Worked w a x → Worked w b y → TakesSmaller p a b w v Taken → Worked v p (Smaller x y)
-  larger : {p a b : ℕ} {w v : List ℕ} {x y : Formula} → Worked w a x → Worked w b y → TakesLarger p a b w v Taken → Worked v p (Larger x y)
-  scaled : {p a : ℕ} {c : ℤ} {w v : List ℕ} {x : Formula} → Worked w a x → Scales p a c w v Taken → Worked v p (Times c x)
+  added : {p a b : ℕ} {w v : List ℕ} {x y : Formula} → Worked w a x → Worked w b y → Meets (D.add p a b) w v Taken → Worked v p (Plus x y)
+  subtracted : {p a b : ℕ} {w v : List ℕ} {x y : Formula} → Worked w a x → Worked w b y → Meets (D.subtract p a b) w v Taken → Worked v p (Minus x y)
+  smaller : {p a b : ℕ} {w v : List ℕ} {x y : Formula} → Worked w a x → Worked w b y → Meets (D.smaller p a b) w v Taken → Worked v p (Smaller x y)
+  larger : {p a b : ℕ} {w v : List ℕ} {x y : Formula} → Worked w a x → Worked w b y → Meets (D.larger p a b) w v Taken → Worked v p (Larger x y)
+  scaled : {p a : ℕ} {c : ℤ} {w v : List ℕ} {x : Formula} → Worked w a x → Meets (D.scale p a c) w v Taken → Worked v p (Times c x)

@@ -6,7 +6,7 @@ use Rattle.theory.specs.Kind.{Kind}
 use Rattle.theory.specs.Functions.{Agree, Fun}
 use Rattle.settings.specs.declared.refusals.Outcome.{Outcome}
 use Rattle.settings.specs.declared.refusals.Outcome.the-variants.{Taken}
-use Rattle.words.specs.Words.{sizes}
+use Rattle.promises.specs.Words.{sizes}
 
 -- p is one of the places l
 pub data Among (p : ℕ) : List ℕ → Type 0 where

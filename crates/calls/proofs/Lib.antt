@@ -4,3 +4,7 @@ pub mod Sounding
 pub mod Theorems
 pub mod Lists
 pub mod Ways
+pub mod Like
+pub mod Entering
+pub mod Meeting
+pub mod Drawn

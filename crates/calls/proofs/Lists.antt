@@ -3,10 +3,10 @@ use mathlib.Core.Path.{_≡_, sym, ap, _∙_}
 use mathlib.Core.List.{List}
 use Prim.Native.Nat.{ℕ, _<_}
 use lib.ListN.{length, getD}
-use Rattle.words.specs.Tab.{tab}
-use Rattle.words.specs.Words.{features, size, sizes}
 use Rattle.words.proofs.Tab.{tab-ext}
 use Rattle.words.proofs.Words.{length-sizes, at-sizes}
+use Rattle.promises.specs.Tab.{tab}
+use Rattle.promises.specs.Words.{features, size, sizes}
 
 module _ (w u : List ℕ) where
   pub lists-equal : features u ≡ features w → ((k : ℕ) → k < features w → size w k ≡ size u k) → sizes w ≡ sizes u

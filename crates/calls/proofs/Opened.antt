@@ -19,12 +19,13 @@ use Rattle.theory.proofs.WellFormed.{wf-empty}
 use Rattle.settings.specs.declared.refusals.Refusal.the-variants.{BadOpening}
 use Rattle.settings.specs.declared.refusals.Outcome.the-variants.{Taken, Refused}
 use Rattle.settings.proofs.Endings.{stop, pass, not-taken, not-refused}
-use Rattle.words.specs.Tab.{tab}
-use Rattle.words.specs.Words.{head, word, bound}
 use Rattle.words.specs.Picture.{Drawing, Shows, Pictures, Proper, nodeHash}
 use Rattle.words.proofs.Tab.{split, tab-none, tab-snoc, getD-tab, length-tab}
 use Rattle.words.proofs.Chains.{last-none}
-use Rattle.calls.specs.Opening.{Openable, fresh, Opens, Cleared, Based, Sized, Named}
+use Rattle.calls.specs.Opening.{fresh, Opens, Cleared, Based, Sized, Named}
+use Rattle.promises.specs.Tab.{tab}
+use Rattle.promises.specs.Words.{head, word, bound}
+use Rattle.promises.specs.TableDeeds.{Openable}
 
 -- the words that the steps of opening leave
 pub named : {S w u x w′ : List ℕ} {cap b : ℕ} (k c n : ℕ) → Openable S cap (length w) → c ≡ cap → n ≡ length S → Cleared (bound cap) w u → Based b u x → Sized S (set (set (set x 0 k) 1 c) 2 n) w′ → Named k b S cap w w′

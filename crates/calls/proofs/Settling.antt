@@ -22,7 +22,7 @@ use Rattle.settings.specs.declared.refusals.Outcome.{Outcome}
 use Rattle.words.specs.Coding.{Code, nodes}
 use Rattle.words.specs.Holding.{Layout, Result, built}
 use Rattle.words.specs.Picture.{Drawing, Pictures, Shows, Proper, Becomes}
-use Rattle.words.specs.Words.{head, capacity, features, sizes, count, bound, Zeros, Kept}
+use Rattle.words.specs.Words.{Kept}
 use Rattle.words.proofs.Filling.{grown-ext, built-ext, result-mean}
 use Rattle.words.proofs.Tab.{same, split}
 use Rattle.words.proofs.Words.{kept-features, kept-capacity, kept-sizes}
@@ -36,6 +36,7 @@ use Rattle.sweep.specs.Form.{Regular, funAt}
 use Rattle.sweep.specs.Tidy.{Untidy}
 use Rattle.calls.specs.Writing.{Exceeds, Puts, Settled}
 use Rattle.calls.proofs.Sounding.{formOf, tested-pos, tested-holds}
+use Rattle.promises.specs.Words.{head, capacity, features, sizes, count, bound, Zeros}
 
 module _ {K : Kind} {R : Reading K} (L : Read R) where
   abbrev C : Code K

@@ -11,13 +11,13 @@ use Rattle.theory.specs.Tally.{tally}
 use Rattle.theory.proofs.Ranges.{features-pos}
 use Rattle.theory.proofs.Rests.{nodes-tally}
 use Rattle.words.specs.Holding.{Holds}
-use Rattle.words.specs.Words.{word, count, sizes}
 use Rattle.words.proofs.Coding.{length-nodes}
 use Rattle.records.specs.Laid.{Laid}
 use Rattle.records.specs.Nodes.{layoutOf}
 use Rattle.checks.proofs.Pictures.{Reading, Read, Tested, tested-wf, tested-root, tested-list, tested-table}
 use Rattle.sweep.specs.Form.{Form}
 use Rattle.sweep.specs.Tidy.{Untidy}
+use Rattle.promises.specs.Words.{word, count, sizes}
 
 -- the form of the tables that are read so
 abbrev pub formOf : {K : Kind} → Reading K → Form K

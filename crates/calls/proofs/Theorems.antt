@@ -13,11 +13,11 @@ use Rattle.settings.specs.declared.refusals.Outcome.{Outcome}
 use Rattle.settings.specs.declared.refusals.Outcome.the-variants.{Taken, Refused}
 use Rattle.settings.proofs.Endings.{pass, not-taken, not-refused}
 use Rattle.words.specs.Picture.{Drawing, Becomes}
-use Rattle.words.specs.Words.{sizes}
 use Rattle.checks.proofs.Pictures.{Reading, Read}
 use Rattle.sweep.specs.Form.{funAt}
 use Rattle.calls.specs.Writing.{Writes, Puts}
 use Rattle.calls.proofs.Sounding.{formOf}
+use Rattle.promises.specs.Words.{sizes}
 
 -- how a call ended, taken apart
 pub ended : {A : Type 0} (o : Outcome) → (o ≡ Taken → A) → ((x : Refusal) → o ≡ Refused x → A) → A

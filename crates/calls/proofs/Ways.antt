@@ -11,10 +11,10 @@ use Rattle.theory.specs.Diagrams.{Branch, Node, at, blank, node, up}
 use Rattle.theory.specs.WellFormed.{Under, WF}
 use Rattle.theory.proofs.Ranges.{valid-at}
 use Rattle.theory.proofs.Ways.{OnWay, way-node, way-feature, way-room, way-on}
-use Rattle.words.specs.Words.{features, count, size, sizes, feature, body}
 use Rattle.words.specs.Coding.{Code, nodes}
 use Rattle.words.proofs.Words.{length-sizes, at-sizes}
 use Rattle.words.proofs.Coding.{length-nodes, at-nodes, branch-at}
+use Rattle.promises.specs.Words.{features, count, size, sizes, feature, body}
 
 module _ {K : Kind} (C : Code K) (w : List ℕ) (wf : WF (sizes w) (nodes C w)) (g : Fun K) (s : List ℕ) (valid : Valid (sizes w) s) (n : ℕ) (a : K .Off) (i : ℕ)
     (o : OnWay (sizes w) (nodes C w) g s n (record { adds = a; to = node i })) where

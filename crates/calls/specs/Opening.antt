@@ -1,26 +1,19 @@
--- The promise of opening, and what its steps leave, for every kind. Assumes nothing.
+-- Contract between layers: the promise of opening, and what its steps leave, for every kind. Assumes nothing.
 use mathlib.Core.Path.{_≡_}
 use mathlib.Core.List.{List}
 use Prim.Native.Nat.{ℕ, _+_, _≤_, _<_}
 use lib.ListN.{length, getD}
 use Rattle.theory.specs.Kind.{Kind}
-use Rattle.theory.specs.Settings.{FeatureList}
 use Rattle.theory.specs.Functions.{Fun, zero-fun}
 use Rattle.settings.specs.Refusals.{Ends, _when_else_, taken}
 use Rattle.settings.specs.declared.refusals.Refusal.{Refusal}
 use Rattle.settings.specs.declared.refusals.Refusal.the-variants.{BadOpening}
 use Rattle.settings.specs.declared.refusals.Outcome.{Outcome}
 use Rattle.settings.specs.declared.refusals.Outcome.the-variants.{Taken, Refused}
-use Rattle.words.specs.Tab.{tab}
-use Rattle.words.specs.Words.{bound}
 use Rattle.words.specs.Picture.{Drawing, Pictures, Proper}
-
--- inside document 01's numbers, and n words are enough
-pub record Openable (S : List ℕ) (cap n : ℕ) : Type 0 where
-  pub list : FeatureList S
-  pub some : 1 ≤ cap
-  pub most : cap ≤ 4096
-  pub room : bound cap ≤ n
+use Rattle.promises.specs.Tab.{tab}
+use Rattle.promises.specs.Words.{bound}
+use Rattle.promises.specs.TableDeeds.{Openable}
 
 -- n places, each with the constant 0
 abbrev pub fresh : {K : Kind} → ℕ → List (Fun K)

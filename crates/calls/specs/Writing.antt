@@ -1,4 +1,4 @@
--- The promise of calls that write into a place, NO ROOM, and the end of every call that builds, for every kind. Assumes nothing.
+-- Contract between layers: the promise of calls that write into a place, NO ROOM, and the end of every call that builds, for every kind. Assumes nothing.
 use mathlib.Core.Path.{_≡_}
 use mathlib.Core.List.{List, [], _∷_, _++_}
 use mathlib.Core.Option.{Option, none, some}
@@ -14,8 +14,8 @@ use Rattle.settings.specs.declared.refusals.Outcome.{Outcome}
 use Rattle.settings.specs.declared.refusals.Outcome.the-variants.{Taken, Refused}
 use Rattle.words.specs.Coding.{Code, nodes}
 use Rattle.words.specs.Picture.{Drawing, Becomes}
-use Rattle.words.specs.Words.{capacity, sizes}
 use Rattle.records.specs.Changes.{Rolled}
+use Rattle.promises.specs.Words.{capacity, sizes}
 
 module _ {K : Kind} (D : Drawing K) where
   -- a call with the refusals l that writes the function g into place p makes w into w′ and ends as o

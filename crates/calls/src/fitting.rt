@@ -6,7 +6,7 @@ ghost use Prim.Native.Nat.{_≤_, _<_};
 ghost use lib.ListN.{length};
 ghost use Rattle.theory.specs.Settings.{Valid};
 ghost use Rattle.settings.specs.Tells.{Tells};
-ghost use Rattle.words.specs.Words.{features, sizes};
+ghost use Rattle.promises.specs.Words.{features, sizes};
 
 // A byte as a word.
 fn small(x: u8) -> u32

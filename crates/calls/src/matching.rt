@@ -5,7 +5,7 @@ ghost use mathlib.Core.Path.{_≡_};
 ghost use Prim.Native.Nat.{_≤_};
 ghost use lib.ListN.{length};
 ghost use Rattle.settings.specs.Tells.{Tells};
-ghost use Rattle.words.specs.Words.{features, sizes};
+ghost use Rattle.promises.specs.Words.{features, sizes};
 
 // Whether the feature lists of two tables are equal.
 pub fn same_features(t: &[u32], u: &[u32]) -> bool

@@ -2,7 +2,8 @@
 use words::narrow;
 ghost use Prim.Native.Nat.{_≤_, _<_};
 ghost use lib.ListN.{length};
-ghost use Rattle.calls.specs.Opening.{Openable, Cleared, Based, Named, Sized};
+ghost use Rattle.calls.specs.Opening.{Cleared, Based, Named, Sized};
+ghost use Rattle.promises.specs.TableDeeds.{Openable};
 
 // Sets the first n words to 0.
 fn clear(t: &mut [u32], n: usize)

@@ -7,11 +7,12 @@ use native.Mathlib.Omega.{arith}
 use native.Mathlib.Numerals.{add-one}
 use lib.ListN.{length, getD, set, length-set}
 use lib.Seq.{getD-set-same, getD-set-other}
-use Rattle.words.specs.Words.{count, feature, body, link, hashOf, hashAt, lastOf}
 use Rattle.words.proofs.Tab.{same, split}
 use Rattle.words.proofs.Words.{hash-ext}
 use Rattle.words.proofs.Chains.{last-none, last-here, last-not, Last, last-is}
-use Rattle.checks.specs.Chained.{Same, Alone, Linked, Headed, Chained}
+use Rattle.checks.specs.Chained.{Headed}
+use Rattle.promises.specs.Words.{count, feature, body, link, hashOf, hashAt, lastOf}
+use Rattle.promises.specs.Sound.{Same, Alone, Linked, Chained}
 
 -- twins have one hash
 pub same-hash : (w : List ℕ) (i j : ℕ) → Same w i j → hashAt w i ≡ hashAt w j

@@ -1,8 +1,9 @@
 -- What a header says of its numbers and of the nodes' place. Assumes nothing.
 use mathlib.Core.List.{List}
 use Prim.Native.Nat.{ℕ}
-use Rattle.checks.specs.Header.{Front, Header}
+use Rattle.checks.specs.Header.{Front}
 use Rattle.checks.specs.Chained.{Framed}
+use Rattle.promises.specs.Sound.{Header}
 
 pub front : {k : ℕ} {w : List ℕ} → Header k w → Front k w
 front h = record { kind = h .kind; some = h .some; most = h .most; room = h .room; one = h .one; few = h .few; within = h .within }

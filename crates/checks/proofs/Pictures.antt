@@ -21,17 +21,15 @@ use Rattle.theory.proofs.Ordering.{tidy-is-table, table-is-tidy}
 use Rattle.theory.proofs.Tables.{table-mean}
 use Rattle.words.specs.Coding.{Faithful, Spared, branches, nodeAt, nodes}
 use Rattle.words.specs.Picture.{Drawing, nodeHash, Shows, Pictures, Proper}
-use Rattle.words.specs.Words.{word, head, capacity, features, size, count, sizes, feature, body, hashAt, lastOf}
 use Rattle.words.proofs.Chains.{last-ext}
 use Rattle.words.proofs.Coding.{length-nodes, at-nodes}
 use Rattle.words.proofs.Picture.{hash-shown}
 use Rattle.words.proofs.Tab.{tab-ext, tab-of}
 use Rattle.words.proofs.Words.{length-sizes, at-sizes, pos-sizes, sizes-show}
-use Rattle.checks.specs.Chained.{Chained}
-use Rattle.checks.specs.Header.{Sizes, Header}
-use Rattle.checks.specs.Sits.{Sits}
 use Rattle.checks.specs.Walk.{Going, Goes}
 use Rattle.checks.proofs.Sitting.{NodeFits, nodes-wf, sits-good, good-sits, wf-node, wf-alone}
+use Rattle.promises.specs.Words.{nodesBy, word, head, capacity, features, size, count, sizes, feature, body, hashAt, lastOf}
+use Rattle.promises.specs.Sound.{Chained, Sizes, Header, Sits}
 
 -- how the words of a kind of table are read: its nodes, its pictures, the root of a place and all roots
 pub record Reading (K : Kind) : Type 1 where
@@ -204,7 +202,7 @@ module _ {K : Kind} {R : Reading K} (L : Read R) where
               ∙ tab-of blank (at N i .branches) (size w (feature w i)) (size-says i h)
 
       nodes-show : nodes (R .going .code) w ≡ N
-      unfolding nodes
+      unfolding nodesBy
       nodes-show = tab-ext (nodeAt (R .going .code) w) (at N) (count w) (λ i h. node-shows i (omega (arith, d .used))) ∙ tab-of empty N (count w) (sym (d .used))
 
       roots-show : R .roots w ≡ Rs

@@ -13,16 +13,14 @@ use Rattle.theory.specs.Diagrams.{Branch, Node, at, blank, node}
 use Rattle.theory.specs.WellFormed.{Fits, Under, WF}
 use Rattle.theory.proofs.WellFormed.{under-weaken}
 use Rattle.words.specs.Coding.{Faithful, branches, nodeAt, nodes}
-use Rattle.words.specs.Words.{features, size, count, sizes, feature, body}
 use Rattle.words.proofs.Coding.{branch-past, length-nodes, at-nodes, bodies-same, node-is}
 use Rattle.words.proofs.Tab.{same, split, length-tab, getD-tab}
 use Rattle.words.proofs.Words.{length-sizes, at-sizes}
 use Rattle.settings.specs.Tells.{Tells}
 use Rattle.settings.proofs.Answers.{tells-leb}
-use Rattle.checks.specs.Chained.{Same, Alone, Chained}
-use Rattle.checks.specs.Header.{Sizes}
-use Rattle.checks.specs.Sits.{Sits}
 use Rattle.checks.specs.Walk.{Going, Goes, Good}
+use Rattle.promises.specs.Words.{features, size, count, sizes, feature, body}
+use Rattle.promises.specs.Sound.{Same, Alone, Chained, Sizes, Sits}
 
 pub tells-sits : (first : ℕ) (w : List ℕ) (m k b x : ℕ) → first ≤ b → b - first < m → x ≡ feature w (b - first) → Tells (leb k x) (Sits first w m k b)
 tells-sits first w m k b x hb hm e =

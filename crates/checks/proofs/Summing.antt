@@ -6,10 +6,10 @@ use Prim.Native.Nat.{ℕ, _+_, _*_, _≤_, _<_}
 use native.Mathlib.Omega.{arith}
 use lib.Dec.{eqb}
 use lib.ListN.{getD}
-use Rattle.words.specs.Words.{Zeros}
 use Rattle.words.proofs.Tab.{same, split}
 use Rattle.settings.specs.Tells.{Tells}
 use Rattle.settings.proofs.Answers.{tells-eqb}
+use Rattle.promises.specs.Words.{Zeros}
 
 -- s tells, as a sum, of the words from a to j: 0 exactly if they are, and at most 2^32 - 1 for each index passed
 pub record Summed (w : List ℕ) (a j s : ℕ) : Type 0 where

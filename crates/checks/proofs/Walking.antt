@@ -16,13 +16,13 @@ use Rattle.theory.proofs.Ordering.{close-same}
 use Rattle.theory.proofs.Scanning.{scan-leaf, scan-from, scan-done, scan-close, close-none, close-other, scans-step, scans-lost, scans-nil}
 use Rattle.theory.proofs.WellFormed.{under-weaken}
 use Rattle.words.specs.Coding.{branches, nodes}
-use Rattle.words.specs.Tab.{tab}
-use Rattle.words.specs.Words.{size, count, sizes, feature, body}
 use Rattle.words.proofs.Coding.{length-nodes, at-nodes, branch-at}
 use Rattle.words.proofs.Tab.{tab-none, tab-snoc}
 use Rattle.settings.specs.Tells.{Tells}
 use Rattle.settings.proofs.Answers.{tells-eqb}
 use Rattle.checks.specs.Walk.{Going, Goes, Good, Says, Visits, VisitsAll, scan-below}
+use Rattle.promises.specs.Tab.{tab}
+use Rattle.promises.specs.Words.{size, count, sizes, feature, body}
 
 -- ---- after the branches of node i
 says-close : (n d i : ℕ) (o : Option ℕ) → i < n → n ≤ 4096 → Says n d o → d ≡ i → Says n (i + 1) (close i o)

@@ -1,4 +1,3 @@
 pub mod Header
 pub mod Chained
-pub mod Sits
 pub mod Walk

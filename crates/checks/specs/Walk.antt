@@ -1,4 +1,4 @@
--- What the walk of the soundness test answers, for every kind: how many nodes are done, or that one was not met in its turn. Assumes nothing.
+-- Contract between layers: what the walk of the soundness test answers, for every kind: how many nodes are done, or that one was not met in its turn. Assumes nothing.
 use mathlib.Core.Path.{_≡_}
 use mathlib.Core.List.{List}
 use mathlib.Core.Option.{Option, none, some}
@@ -9,7 +9,7 @@ use Rattle.theory.specs.Diagrams.{Target, at, leaf, node}
 use Rattle.theory.specs.WellFormed.{Under}
 use Rattle.theory.specs.Walk.{scan, scans}
 use Rattle.words.specs.Coding.{Code, branches, nodes}
-use Rattle.words.specs.Words.{size, count, sizes, feature, body}
+use Rattle.promises.specs.Words.{size, count, sizes, feature, body}
 
 -- how the words of a kind say where branches go
 pub record Going (K : Kind) : Type 1 where

@@ -2,16 +2,16 @@
 ghost use mathlib.Core.Path.{_≡_};
 ghost use Prim.Native.Nat.{_+_, _*_, _≤_, _<_};
 ghost use lib.ListN.{length};
-ghost use Rattle.words.specs.Words.{features, count, Zeros};
 ghost use Rattle.settings.specs.Tells.{Tells};
-ghost use Rattle.checks.specs.Header.{Sizes, Front, Header};
-ghost use Rattle.checks.specs.Chained.{Framed, Same, Alone, Linked, Headed, Chained};
-ghost use Rattle.checks.specs.Sits.{Sits};
+ghost use Rattle.checks.specs.Header.{Front};
+ghost use Rattle.checks.specs.Chained.{Framed, Headed};
 use words::hash_at;
 use words::head_word;
 use words::narrow;
 use words::record_word;
 use words::wide;
+ghost use Rattle.promises.specs.Words.{features, count, Zeros};
+ghost use Rattle.promises.specs.Sound.{Sizes, Header, Same, Alone, Linked, Chained, Sits};
 
 // Whether the words from a to b are 0: they are exactly if their sum is. No early exit, so that the loop can be vectorised.
 pub fn zeros(t: &[u32], a: usize, b: usize) -> bool

@@ -8,10 +8,11 @@ use lib.Signed.{ltZ, mag}
 use mir.Syntax.{w64}
 use mir.Val.{SFits, toZ, ofZ}
 use mir.Facts.{toZ-ofZ}
-use Rattle.cost_laws.specs.Integers.{Fit, bias, wordFor}
-use Rattle.cost_laws.specs.Range.{costMost}
+use Rattle.cost_laws.specs.Integers.{wordFor}
 use Rattle.cost_laws.proofs.Integers.{rise-near, fall-near, test-lt, test-le}
 use Rattle.cost_laws.proofs.Words.{fits-signed, word-signed}
+use Rattle.promises.specs.Integers.{Fit, bias}
+use Rattle.promises.specs.Range.{costMost}
 
 -- ---- the two tests
 pub too-low : (z : ℤ) → ltZ z (negsuc 999999999) ≡ true → Fit costMost z → ⊥

@@ -1,8 +1,8 @@
 // Signed numbers at the public edge, and the words that stand for them inside.
 ghost use mathlib.Core.Path.{_≡_};
-ghost use Rattle.cost_laws.specs.Integers.{Fit, int};
-ghost use Rattle.cost_laws.specs.Range.{costMost};
 ghost use Rattle.settings.specs.Tells.{Tells};
+ghost use Rattle.promises.specs.Integers.{Fit, int};
+ghost use Rattle.promises.specs.Range.{costMost};
 
 // Whether a number lies within ±1,000,000,000.
 pub fn amount_ok(z: i64) -> bool

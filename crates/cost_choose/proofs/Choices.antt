@@ -11,15 +11,16 @@ use Rattle.theory.specs.Functions.{held, lift}
 use Rattle.theory.specs.Rules.{Rule, says}
 use Rattle.theory.specs.Settings.{Pos}
 use Rattle.theory.specs.WellFormed.{Under, WF}
-use Rattle.cost_laws.specs.Integers.{Fit}
 use Rattle.cost_laws.specs.Narrow.{Placed, Spread}
-use Rattle.cost_laws.specs.Operations.{chosenOf}
-use Rattle.cost_laws.specs.Range.{addMost, costMost}
-use Rattle.cost_laws.specs.Relative.{bare, branchAt, from, onward}
+use Rattle.cost_laws.specs.Relative.{branchAt, onward}
 use Rattle.cost_laws.proofs.Choosing.{Moves, chosen-moves, apart-step, apart-wait, apart-ext, apart-first, apart-second}
 use Rattle.cost_laws.proofs.Placing.{Takes, placed-spread, placed-adds}
 use Rattle.cost_laws.proofs.Range.{chosen-takes}
 use Rattle.cost_choose.specs.Choice.{by, choice, choiceOf}
+use Rattle.promises.specs.Integers.{Fit}
+use Rattle.promises.specs.CostOperations.{chosenOf}
+use Rattle.promises.specs.Range.{addMost, costMost}
+use Rattle.promises.specs.CostSound.{bare, from}
 
 -- ---- the operation on integers
 pub by-moves : (g : Rule) (s : List ℕ) → Moves (by g s)

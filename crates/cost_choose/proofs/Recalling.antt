@@ -10,15 +10,12 @@ use Rattle.theory.specs.WellFormed.{Mean}
 use Rattle.theory.proofs.Growing.{make-grows}
 use Rattle.theory.proofs.Values.{mean-more}
 use Rattle.theory.proofs.WellFormed.{ok-ext}
-use Rattle.cost_laws.specs.Integers.{int}
-use Rattle.cost_laws.specs.Relative.{bare}
-use Rattle.words.specs.Words.{size, sizes}
 use Rattle.words.proofs.Filling.{grown-nodes}
 use Rattle.words.proofs.Words.{kept-sizes}
 use Rattle.notes.specs.Far.{memory, Aside}
 use Rattle.notes.specs.Plain.{plain}
 use Rattle.rule_lending.specs.Lending.{lent}
-use Rattle.cost_words.specs.Words.{target, branch, nodes}
+use Rattle.rule_lending.proofs.Lending.{key-one}
 use Rattle.cost_nodes.specs.Nodes.{Holds, Good, Makes, Result, arms}
 use Rattle.cost_nodes.specs.declared.Answer.{Answer}
 use Rattle.cost_nodes.specs.declared.Answer.the-variants.{Is, NoRoom}
@@ -32,6 +29,10 @@ use Rattle.cost_notes.proofs.Remembering as N
 use Rattle.cost_choose.specs.Choice.{choice, Choices}
 use Rattle.cost_choose.specs.Memory.{Recalled, tagOf, Says, Remembers, Noted, Still, StillIf}
 use Rattle.cost_choose.proofs.Choices.{choice-ext}
+use Rattle.promises.specs.Integers.{int}
+use Rattle.promises.specs.CostSound.{bare}
+use Rattle.promises.specs.Words.{size, sizes}
+use Rattle.promises.specs.CostWords.{target, costBranch as branch, costNodes as nodes}
 
 -- ---- one result, in a table that holds more
 module _ (v w t : List ℕ) (k b x y d z e : ℕ) (ok : Holds w) (q : sizes t ≡ sizes w) (m : Ext (nodes w) (nodes t)) (hx : Good w k x) (hy : Good w k y) where
@@ -60,7 +61,7 @@ says-tag v w tag k b x y d z e h g c = record { recalled = go }
     go : (k′ b′ : ℕ) → k′ < 16 → tag ≡ tagOf k′ b′ → Recalled v w k′ b′ x y d z e
     go k′ b′ h′ g′ =
         let ek : k ≡ k′ = omega arith in
-        let eb : b ≡ b′ = omega arith in
+        let eb : b ≡ b′ = key-one b b′ (omega arith) in
         rw (← ek, ← eb) c
 
 -- after `make`

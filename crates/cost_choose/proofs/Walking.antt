@@ -1,6 +1,5 @@
 -- The walk over the two tables: what is chosen from one feature on, one value on, in a later table; its results. Assumes nothing.
 use mathlib.Core.Path.{_≡_, refl, sym, ap, ap₂, subst, _∙_}
-use mathlib.Core.Logic.{⊎-elim}
 use mathlib.Core.List.{List, _∷_}
 use Prim.Native.Nat.{ℕ, zero, suc, _+_, _-_, _≤_, _<_}
 use native.Mathlib.Numerals.{add-one}
@@ -18,11 +17,8 @@ use Rattle.theory.proofs.Canonical.{build-agree}
 use Rattle.theory.proofs.Lifting.{build-adds, build-lift}
 use Rattle.theory.proofs.Ranges.{zeros-valid}
 use Rattle.theory.proofs.WellFormed.{ok-ext}
-use Rattle.cost_laws.specs.Integers.{Fit, int}
 use Rattle.cost_laws.specs.Narrow.{Placed, Spread}
-use Rattle.cost_laws.specs.Operations.{chosen}
-use Rattle.cost_laws.specs.Range.{addMost, costMost}
-use Rattle.cost_laws.specs.Relative.{bare, branchAt, onward}
+use Rattle.cost_laws.specs.Relative.{branchAt, onward}
 use Rattle.cost_laws.proofs.Choosing.{apart-split}
 use Rattle.cost_laws.proofs.Integers.{fit-more}
 use Rattle.cost_laws.proofs.Placing.{adds-fits, placed-start, placed-wait, placed-step, placed-fits, placed-ahead, placed-ext}
@@ -30,16 +26,13 @@ use Rattle.cost_laws.proofs.Range.{chosen-within}
 use Rattle.cost_laws.proofs.Relative.{branch-under}
 use Rattle.cost_laws.proofs.Walks.{raised}
 use Rattle.words.specs.Holding.{built as builtOf}
-use Rattle.words.specs.Words.{features, size, sizes}
 use Rattle.words.proofs.Filling as F
-use Rattle.words.proofs.Tab.{split}
 use Rattle.words.proofs.Words.{length-sizes, kept-features, kept-sizes}
 use Rattle.calls.proofs.Lists.{as-long, as-large}
 use Rattle.notes.specs.Plain.{Resting, plain}
 use Rattle.notes.proofs.Plain.{plain-of}
-use Rattle.rule_lending.specs.Lending.{Lent, lent, Goes, Tops}
-use Rattle.rule_lending.proofs.Lending.{lent-up-to, lent-end, lent-phrase}
-use Rattle.cost_words.specs.Words.{target, branch, nodes}
+use Rattle.rule_lending.specs.Lending.{Lent, lent, Goes, Tops, Number, Says}
+use Rattle.rule_lending.proofs.Lending.{number-left, says-means}
 use Rattle.cost_words.proofs.Packing.{int-zero}
 use Rattle.cost_nodes.specs.Nodes.{Good, top, Place, built, Result, Filling}
 use Rattle.cost_nodes.specs.declared.Answer.{Answer}
@@ -49,6 +42,12 @@ use Rattle.cost_nodes.proofs.Stepping.{good-small, top-good, top-most}
 use Rattle.cost_nodes.proofs.Filling.{filling-ext, filling-narrow}
 use Rattle.cost_choose.specs.Choice.{by, Choosable, choice, choiceOf, endOf, Choices, Branches, Lowest}
 use Rattle.cost_choose.proofs.Choices.{by-moves, choice-step, choice-wait, choice-ext, choice-first, choice-second, choice-spread, choice-adds}
+use Rattle.promises.specs.Integers.{Fit, int}
+use Rattle.promises.specs.CostOperations.{chosen}
+use Rattle.promises.specs.Range.{addMost, costMost}
+use Rattle.promises.specs.CostSound.{bare}
+use Rattle.promises.specs.Words.{features, size, sizes}
+use Rattle.promises.specs.CostWords.{target, costBranch as branch, costNodes as nodes}
 
 -- ---- features that none of the three tests
 pub lowest-is : (v w : List ℕ) (b x y m n : ℕ) → ((k : ℕ) → Lent v k b → Tops v k b n) → m ≤ n → m ≤ top w x → m ≤ top w y → Lowest v w b x y m
@@ -111,12 +110,12 @@ module _ (v w : List ℕ) (b x y m : ℕ) (d : ℤ) (l : Lowest v w b x y m) whe
     choice-skip t a r = F.gives-eq lawful (skip-built (m - k) k (omega arith) p) r
 
 -- ---- where the rule has ended
-pub end-second : (b x y d : ℕ) → b ≡ 0 → Is y d ≡ endOf b x y d
-end-second b x y d e = sym (ap (λ (n : ℕ). endOf n x y d) e)
+pub end-second : (n x y d : ℕ) → n ≡ 0 → Is y d ≡ endOf n x y d
+end-second n x y d e = sym (ap (λ (m : ℕ). endOf m x y d) e)
 
-pub end-first : (b x y d : ℕ) → (b ≡ 0 → ⊥) → Is x 2147483648 ≡ endOf b x y d
-end-first zero x y d n = absurd (n refl)
-end-first (suc b) x y d n = refl
+pub end-first : (n x y d : ℕ) → (n ≡ 0 → ⊥) → Is x 2147483648 ≡ endOf n x y d
+end-first zero x y d h = absurd (h refl)
+end-first (suc n) x y d h = refl
 
 -- ---- two targets
 module _ (v w : List ℕ) (k b x y : ℕ) (d : ℤ) (p : Choices v w k b x y d) where
@@ -130,9 +129,9 @@ module _ (v w : List ℕ) (k b x y : ℕ) (d : ℤ) (p : Choices v w k b x y d) 
   second-place = record { holds = p .holds; good = p .second; upTo = p .upTo }
 
   -- the rule has ended
-  pub choice-ends : b < 65536 → (e : ℕ) → int e ≡ d → (a : Answer) → a ≡ endOf b x y e → Result w w k R a
+  pub choice-ends : (m e : ℕ) → Says b m → int e ≡ d → (a : Answer) → a ≡ endOf m x y e → Result w w k R a
   unfolding builtOf
-  choice-ends h e q a r = subst (λ (o : Answer). Result w w k R o) (sym r) (go b (λ s. lent-phrase v k b s h))
+  choice-ends m e h q a r = subst (λ (o : Answer). Result w w k R o) (sym r) (go m (says-means h v k))
     where
       go : (n : ℕ) → ((s : List ℕ) → lent v k b s ≡ says n) → Result w w k R (endOf n x y e)
       go zero f =
@@ -145,12 +144,8 @@ module _ (v w : List ℕ) (k b x y : ℕ) (d : ℤ) (p : Choices v w k b x y d) 
           ∙ ap (λ (z : ℤ). let o : Built costs = (record { adds = z; to = target x }, nodes w) in o) (sym int-zero))
 
   -- it has not: there is a feature left
-  pub still-left : (b < 65536 → ⊥) → k < features w
-  still-left n = ⊎-elim (λ l. l)
-      (λ l.
-      let e : k ≡ features v = omega (arith, lent-up-to (p .rule), as-long v w (p .alike)) in
-      absurd (n (lent-end (subst (λ (j : ℕ). Lent v j b) e (p .rule)))))
-      (split k (features w))
+  pub still-left : (Number b → ⊥) → k < features w
+  still-left n = omega (arith, number-left (p .rule) n, as-long v w (p .alike))
 
   pub choice-near : Spread addMost (drop k (sizes w)) R
   choice-near = choice-spread (lent v k b) (nodes w) k (target x) (target y) d (drop k (sizes w)) (p .placed)

@@ -1,4 +1,4 @@
--- CHOOSE by a lent rule: what the engine builds, and what it is asked on the way. Assumes nothing.
+-- Contract between layers: CHOOSE by a lent rule: what the engine builds, and what it is asked on the way. Assumes nothing.
 use mathlib.Core.Path.{_≡_}
 use mathlib.Core.List.{List, _∷_}
 use Prim.Native.Nat.{ℕ, zero, suc, _+_, _≤_, _<_}
@@ -8,18 +8,18 @@ use Rattle.theory.specs.Costs.{Cost, costs}
 use Rattle.theory.specs.Diagrams.{Branch, Node, Target}
 use Rattle.theory.specs.Functions.{lift}
 use Rattle.theory.specs.Rules.{Rule}
-use Rattle.cost_laws.specs.Integers.{Fit, int}
 use Rattle.cost_laws.specs.Narrow.{Placed, Narrow}
-use Rattle.cost_laws.specs.Operations.{chosenOf}
-use Rattle.cost_laws.specs.Range.{addMost, costMost}
 use Rattle.cost_laws.specs.Relative.{apartFrom, onward}
-use Rattle.words.specs.Words.{features, sizes}
 use Rattle.rule_lending.specs.Lending.{Lent, lent}
-use Rattle.cost_words.specs.Words.{target, branch, nodes}
 use Rattle.cost_notes.specs.Operand.{Operand}
 use Rattle.cost_nodes.specs.Nodes.{Holds, Good, built, top}
 use Rattle.cost_nodes.specs.declared.Answer.{Answer}
 use Rattle.cost_nodes.specs.declared.Answer.the-variants.{Is}
+use Rattle.promises.specs.Integers.{Fit, int}
+use Rattle.promises.specs.CostOperations.{chosenOf}
+use Rattle.promises.specs.Range.{addMost, costMost}
+use Rattle.promises.specs.Words.{features, sizes}
+use Rattle.promises.specs.CostWords.{target, costBranch as branch, costNodes as nodes}
 
 -- what `choose_costs` requires: a branch of the rule table v and two of the cost table w, which is at rest, over the same features, both costs in range
 pub record Choosable (v w : List ℕ) (b : ℕ) (x y : Branch costs) : Type 0 where
@@ -40,10 +40,10 @@ choice g N k t u d = apartFrom (by g) N k t u d
 unfoldable pub choiceOf : Rule → List (Node costs) → ℕ → Branch costs → Branch costs → ℤ → Cost
 choiceOf g N k b c d = λ s. lift (b .adds) (choice g N k (b .to) (c .to) (onward d (b .adds) (c .adds)) s)
 
--- the words of the choice where the rule has ended with the number b: the first target, or the second with d on it
+-- the words of the choice where the rule has ended with a number: the first target, or where it is 0 the second with d on it
 abbrev pub endOf : ℕ → ℕ → ℕ → ℕ → Answer
 endOf zero x y d = Is y d
-endOf (suc b) x y d = Is x 2147483648
+endOf (suc n) x y d = Is x 2147483648
 
 -- a branch word b of the rule table v and two target words of the cost table w, where features k and up are left
 pub record Choices (v w : List ℕ) (k b x y : ℕ) (d : ℤ) : Type 0 where

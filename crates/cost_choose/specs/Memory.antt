@@ -1,20 +1,20 @@
--- What is remembered of CHOOSE: under the tag of a feature and a branch of the rule, two targets and their difference, the result's words. Assumes nothing.
+-- Contract between layers: what is remembered of CHOOSE: under the tag of a feature and a branch of the rule, two targets and their difference, the result's words. Assumes nothing.
 use mathlib.Core.Bool.{Bool, true, false}
 use mathlib.Core.Path.{_≡_}
 use mathlib.Core.List.{List}
 use Prim.Native.Nat.{ℕ, _+_, _*_, _<_}
 use lib.ListN.{drop}
 use Rattle.theory.specs.WellFormed.{Mean}
-use Rattle.cost_laws.specs.Integers.{int}
-use Rattle.words.specs.Words.{sizes}
-use Rattle.rule_lending.specs.Lending.{lent}
-use Rattle.cost_words.specs.Words.{target, branch, nodes}
+use Rattle.rule_lending.specs.Lending.{lent, keyOf}
 use Rattle.cost_nodes.specs.Nodes.{Good}
 use Rattle.cost_nodes.specs.declared.Answer.{Answer}
 use Rattle.cost_nodes.specs.declared.Answer.the-variants.{Is, NoRoom}
 use Rattle.cost_memory.specs.Memory as M
 use Rattle.cost_notes.specs.Noted as N
 use Rattle.cost_choose.specs.Choice.{choice}
+use Rattle.promises.specs.Integers.{int}
+use Rattle.promises.specs.Words.{sizes}
+use Rattle.promises.specs.CostWords.{target, costBranch as branch, costNodes as nodes}
 
 -- the branch of the words z and e is the choice, by the rule's branch b, of the targets x and y with the difference d, from feature k on
 pub record Recalled (v w : List ℕ) (k b x y d z e : ℕ) : Type 0 where
@@ -24,7 +24,7 @@ pub record Recalled (v w : List ℕ) (k b x y d z e : ℕ) : Type 0 where
 
 -- the tag of feature k and the branch b
 abbrev pub tagOf : ℕ → ℕ → ℕ
-tagOf k b = k + 1 + 32 * b
+tagOf k b = k + 1 + 32 * keyOf b
 
 -- what an entry says
 pub record Says (v w : List ℕ) (tag x y d z e : ℕ) : Type 0 where

@@ -13,6 +13,9 @@ use cost_words::sum_word;
 use notes::clear;
 use notes::clear_far;
 use rule_lending::branch_at;
+use rule_lending::is_number;
+use rule_lending::key_of;
+use rule_lending::number_of;
 use rule_lending::top_at;
 use words::head_word;
 use words::narrow;
@@ -20,16 +23,16 @@ use words::wide;
 ghost use mathlib.Core.Path.{_≡_};
 ghost use Prim.Native.Nat.{_≤_, _<_};
 ghost use Rattle.theory.specs.Diagrams.{meaning};
-ghost use Rattle.cost_laws.specs.Integers.{int};
-ghost use Rattle.cost_laws.specs.Operations.{chosen};
-ghost use Rattle.words.specs.Words.{features, count};
 ghost use Rattle.records.specs.Laid.{Laid};
 ghost use Rattle.notes.specs.Plain.{plain};
-ghost use Rattle.rule_lending.specs.Lending.{lent, Lends};
-ghost use Rattle.cost_words.specs.Words.{target, branch, nodes};
+ghost use Rattle.rule_lending.specs.Lending.{lent, Lends, keyOf, keys};
 ghost use Rattle.cost_nodes.specs.Nodes.{Result, Fills};
 ghost use Rattle.cost_choose.specs.Choice.{Choosable, choice, choiceOf, endOf, Choices, Branches, Lowest};
 ghost use Rattle.cost_choose.specs.Memory.{tagOf, Noted, Still, StillIf};
+ghost use Rattle.promises.specs.Integers.{int};
+ghost use Rattle.promises.specs.CostOperations.{chosen};
+ghost use Rattle.promises.specs.Words.{features, count};
+ghost use Rattle.promises.specs.CostWords.{target, costBranch as branch, costNodes as nodes};
 
 // The lists of a node's branches, or that there was no room for them.
 struct Filled {
@@ -55,17 +58,17 @@ fn lowest_of(r: &[u32], t: &[u32], b: u32, x: u32, y: u32) -> usize
 
 // The tag that the results for feature k and the rule's branch b are remembered under.
 fn tag_of(k: usize, b: u32) -> u32
-    requires { ⌜ (k < 16) × (b < 69632) ⌝ }
+    requires { ⌜ (k < 16) × (keyOf b < keys) ⌝ }
     ensures { λ g. ⌜ g ≡ tagOf k b ⌝ }
 {
-    narrow(k + 1) + 32 * b
+    narrow(k + 1) + 32 * key_of(b)
 }
 
-// Where the rule has ended with the number b: the first target, or where b is 0 the second with d on it.
-fn ended(b: u32, x: u32, y: u32, d: u32) -> Answer
-    ensures { λ a. ⌜ a ≡ endOf b x y d ⌝ }
+// Where the rule has ended with the number n: the first target, or where n is 0 the second with d on it.
+fn ended(n: u32, x: u32, y: u32, d: u32) -> Answer
+    ensures { λ a. ⌜ a ≡ endOf n x y d ⌝ }
 {
-    if b == 0 {
+    if n == 0 {
         return Answer::Is(y, d);
     }
     Answer::Is(x, 2147483648)
@@ -85,8 +88,8 @@ fn rest_result(
     requires { ⌜ (Choices (now r) (plain (now t)) k b x y (int d)) × (Noted (now r) (now t) (now s)) ⌝ }
     ensures { λ a. ⌜ (Result (plain (now (t .entry))) (plain (now (t .exit))) k (choice (lent (now (r .entry)) k b) (nodes (plain (now (t .entry)))) k (target x) (target y) (int d)) a) × (Still (now (r .entry)) (now (t .exit)) (now (s .exit)) a) ⌝ }
 {
-    if b < 65536 {
-        return ended(b, x, y, d);
+    if is_number(b) {
+        return ended(number_of(b), x, y, d);
     }
     let m = lowest_of(r, t, b, x, y);
     if k < m {

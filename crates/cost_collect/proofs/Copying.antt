@@ -8,17 +8,19 @@ use lib.ListN.{length, getD, set, length-set}
 use lib.Seq.{getD-set-same, getD-set-other}
 use Rattle.theory.specs.Costs.{costs}
 use Rattle.theory.specs.Diagrams.{Branch, node}
-use Rattle.cost_laws.specs.Integers.{int}
 use Rattle.words.specs.Coding.{branches}
-use Rattle.words.specs.Words.{size, count, feature, body, listed}
+use Rattle.words.specs.Words.{listed}
 use Rattle.words.proofs.Coding.{branches-same}
 use Rattle.words.proofs.Tab.{same, tab-none, tab-snoc, tab-ext}
-use Rattle.cost_words.specs.Words.{target, branch, goes, added, code, nodes, packed}
+use Rattle.cost_words.specs.Words.{code, packed}
 use Rattle.cost_words.proofs.Packing.{faithful, target-end, target-node, packed-goes, packed-added}
 use Rattle.cost_words.proofs.Reading.{length-nodes, under-word}
 use Rattle.sweep.specs.Collecting.{Good, Ready, Moved, Turning, Moving}
 use Rattle.sweep.proofs.Copying.{moved-leaf, turning-none, turning-more}
 use Rattle.sweep.proofs.Framing.{value-small, arm-kept, still-before}
+use Rattle.promises.specs.Integers.{int}
+use Rattle.promises.specs.Words.{size, count, feature, body}
+use Rattle.promises.specs.CostWords.{target, costBranch as branch, goes, added, costNodes as nodes}
 
 pub good-small : (w : List ℕ) (x : ℕ) → Good code w (target x) → x ≤ count w
 good-small w x g = omega (arith, under-word (nodes w) (length (nodes w)) 0 x g, length-nodes w)

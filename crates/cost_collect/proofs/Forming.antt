@@ -10,11 +10,9 @@ use Rattle.theory.specs.Costs.{costs}
 use Rattle.theory.specs.Diagrams.{Branch, blank, meaning}
 use Rattle.theory.specs.Settings.{Valid}
 use Rattle.theory.specs.WellFormed.{Ok}
-use Rattle.cost_laws.specs.Integers.{Fit, wordFor}
-use Rattle.cost_laws.specs.Range.{Within, costMost}
-use Rattle.words.specs.Words.{head, sizes}
+use Rattle.cost_laws.specs.Integers.{wordFor}
 use Rattle.words.proofs.Tab.{split, getD-tab}
-use Rattle.cost_words.specs.Words.{target, targetWord, branch, code, nodes, root, base, rootAt, costOf, costsOf}
+use Rattle.cost_words.specs.Words.{targetWord, code}
 use Rattle.cost_words.specs.Picture.{rootOf}
 use Rattle.cost_words.proofs.Packing.{faithful, target-word, word-int}
 use Rattle.cost_words.proofs.Showing.{body-shows, root-shows, base-shows}
@@ -23,6 +21,10 @@ use Rattle.sweep.specs.Form.{Regular, rootsOf}
 use Rattle.sweep.proofs.Finishing.{placed-untidy, placed-range}
 use Rattle.sweep.proofs.Placing.{Placed, Replaced, Rooting, rooting-more}
 use Rattle.cost_collect.specs.Tidy.{form, Untidy}
+use Rattle.promises.specs.Integers.{Fit}
+use Rattle.promises.specs.Range.{Within, costMost}
+use Rattle.promises.specs.Words.{head, sizes}
+use Rattle.promises.specs.CostWords.{target, costBranch as branch, costNodes as nodes, costRoot as root, costBase as base, rootAt, costOf, costsOf}
 
 -- the 32 words of the places: 16 root words, then 16 bases
 roots-shown : (w : List ℕ) (p : ℕ) → p < 32 → head w (32 + p) ≡ rootOf (rootsOf form w) p

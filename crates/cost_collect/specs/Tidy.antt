@@ -1,13 +1,14 @@
--- The form of a cost table; what one is after a place was changed, and what tidying makes of it. Assumes nothing.
+-- Contract between layers: the form of a cost table; what one is after a place was changed, and what tidying makes of it. Assumes nothing.
 use mathlib.Core.List.{List}
 use Prim.Native.Nat.{ℕ, _<_}
 use Rattle.theory.specs.Costs.{costs}
-use Rattle.cost_laws.specs.Range.{Within, costMost}
-use Rattle.words.specs.Words.{sizes}
-use Rattle.cost_words.specs.Words.{code, rootAt, costOf}
+use Rattle.cost_words.specs.Words.{code}
 use Rattle.cost_words.specs.Picture.{drawing}
 use Rattle.sweep.specs.Form.{Form}
 use Rattle.sweep.specs.Tidy as T
+use Rattle.promises.specs.Range.{Within, costMost}
+use Rattle.promises.specs.Words.{sizes}
+use Rattle.promises.specs.CostWords.{rootAt, costOf}
 
 abbrev pub form : Form costs
 form = record { code = code; drawing = drawing; rootAt = rootAt }

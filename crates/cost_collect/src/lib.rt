@@ -14,12 +14,13 @@ use words::wide;
 ghost use Prim.Native.Nat.{_<_};
 ghost use Rattle.theory.specs.Diagrams.{meaning};
 ghost use Rattle.theory.specs.WellFormed.{Ok};
-ghost use Rattle.cost_laws.specs.Range.{Within, costMost};
-ghost use Rattle.words.specs.Words.{count, size, sizes, feature};
-ghost use Rattle.cost_words.specs.Words.{target, branch, code, nodes};
+ghost use Rattle.cost_words.specs.Words.{code};
 ghost use Rattle.cost_words.specs.Picture.{Becomes};
 ghost use Rattle.sweep.specs.Collecting.{Good, Loose, Ready, Moved, Moving, Rooted, Collected};
 ghost use Rattle.cost_collect.specs.Tidy.{form, Untidy, Tidied};
+ghost use Rattle.promises.specs.Range.{Within, costMost};
+ghost use Rattle.promises.specs.Words.{count, size, sizes, feature};
+ghost use Rattle.promises.specs.CostWords.{target, costBranch as branch, costNodes as nodes};
 
 // The copy of what a target word goes to, made where there is none.
 fn copy_target(t: &mut [u32], x: u32) -> u32

@@ -11,11 +11,8 @@ use Rattle.theory.specs.Diagrams.{Branch, Node, Target, value}
 use Rattle.theory.specs.Settings.{Pos, Valid, zeros}
 use Rattle.theory.specs.WellFormed.{Ok, Under, WF}
 use Rattle.theory.proofs.Ranges.{zeros-valid}
-use Rattle.cost_laws.specs.Integers.{Fit, int}
 use Rattle.cost_laws.specs.Narrow.{Placed, Spread}
-use Rattle.cost_laws.specs.Operations.{smallerOf, largerOf}
-use Rattle.cost_laws.specs.Range.{Within, addMost, costMost}
-use Rattle.cost_laws.specs.Relative.{bare, branchAt, apartFrom, onward}
+use Rattle.cost_laws.specs.Relative.{branchAt, apartFrom, onward}
 use Rattle.cost_laws.proofs.Adding.{Splits, add-splits, subtract-splits, scale-splits, splits-zero}
 use Rattle.cost_laws.proofs.Integers.{ℕ-eq, sum-ℕ, minus-ℕ, fit-minus, fit-more, fit-zero, minus-zero}
 use Rattle.cost_laws.proofs.Placing.{Takes, adds-fits, placed-start, placed-wait, placed-step, placed-fits, placed-ext, placed-result}
@@ -26,6 +23,10 @@ use Rattle.cost_engine.specs.Joint.{opOf, together, joint, jointFrom, ah
 use Rattle.cost_engine.specs.declared.operators.Operator.{Operator}
 use Rattle.cost_engine.specs.declared.operators.Operator.the-variants.{Add, Subtract, Smaller, Larger, Scale}
 use Rattle.cost_engine.proofs.Joining.{walk, joint-none, joint-split, joint-step, joint-wait, joint-ext, joint-zeros}
+use Rattle.promises.specs.Integers.{Fit, int}
+use Rattle.promises.specs.CostOperations.{smallerOf, largerOf}
+use Rattle.promises.specs.Range.{Within, addMost, costMost}
+use Rattle.promises.specs.CostSound.{bare}
 
 -- ---- what lies between two costs in range
 back : (z y : ℤ) → (z +ℤ y) -ℤ z ≡ y

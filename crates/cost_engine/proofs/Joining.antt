@@ -11,8 +11,7 @@ use Rattle.theory.specs.Functions.{lift}
 use Rattle.theory.specs.Settings.{zeros}
 use Rattle.theory.specs.WellFormed.{Ok, WF}
 use Rattle.theory.proofs.Values.{value-ext, value-next, value-wait, value-zeros}
-use Rattle.cost_laws.specs.Integers.{int}
-use Rattle.cost_laws.specs.Relative.{bare, branchAt, from}
+use Rattle.cost_laws.specs.Relative.{branchAt}
 use Rattle.cost_laws.proofs.Adding.{Splits, add-splits, subtract-splits, scale-splits}
 use Rattle.cost_laws.proofs.Choosing.{Moves, smaller-moves, larger-moves, onward-sum}
 use Rattle.cost_laws.proofs.Integers.{ℕ-eq, sum-ℕ}
@@ -21,6 +20,8 @@ use Rattle.cost_laws.proofs.Walks.{Walk}
 use Rattle.cost_engine.specs.Joint.{opOf, together, joint, jointFrom, ahead, gap}
 use Rattle.cost_engine.specs.declared.operators.Operator.{Operator}
 use Rattle.cost_engine.specs.declared.operators.Operator.the-variants.{Add, Subtract, Smaller, Larger, Scale}
+use Rattle.promises.specs.Integers.{int}
+use Rattle.promises.specs.CostSound.{bare, from}
 
 -- ---- the operator on what two branches add, and what lies below them
 splits-split : (F : ℤ → ℤ → ℤ) → Splits F → (a x b y d : ℤ) → F (a +ℤ x) (d +ℤ (b +ℤ y)) ≡ F a b +ℤ F x (d +ℤ y)

@@ -6,9 +6,6 @@ use native.Mathlib.Nat.{mul-zero, zero-mul, add-zero, zero-add}
 use native.Mathlib.Omega.{arith}
 use lib.IntN.{ℤ, pos, negℤ, _*ℤ_}
 use lib.Signed.{ltZ}
-use Rattle.cost_laws.specs.Integers.{rise, fall, Fit, int}
-use Rattle.cost_laws.specs.Operations.{smallerOf, largerOf}
-use Rattle.cost_laws.specs.Range.{addMost}
 use Rattle.cost_laws.proofs.Integers.{ℕ-eq, neg-rise, neg-fall}
 use Rattle.cost_laws.proofs.Products.{mul-rise, mul-fall}
 use Rattle.cost_laws.proofs.Words.{int-ℕ, int-lt, int-le}
@@ -16,6 +13,9 @@ use Rattle.cost_words.proofs.Packing.{int-zero}
 use Rattle.cost_engine.specs.Joint.{opOf}
 use Rattle.cost_engine.specs.declared.operators.Operator.{Operator}
 use Rattle.cost_engine.specs.declared.operators.Operator.the-variants.{Scale}
+use Rattle.promises.specs.Integers.{rise, fall, Fit, int}
+use Rattle.promises.specs.CostOperations.{smallerOf, largerOf}
+use Rattle.promises.specs.Range.{addMost}
 
 -- ---- a word below the bias stands for a negative integer, any other for none
 pub record Below (a : ℕ) : Type 0 where

@@ -10,13 +10,9 @@ use Rattle.theory.specs.WellFormed.{Mean}
 use Rattle.theory.proofs.Growing.{make-grows}
 use Rattle.theory.proofs.Values.{mean-more}
 use Rattle.theory.proofs.WellFormed.{ok-ext}
-use Rattle.cost_laws.specs.Integers.{int}
-use Rattle.cost_laws.specs.Relative.{bare}
-use Rattle.words.specs.Words.{size, sizes}
 use Rattle.words.proofs.Filling.{grown-nodes}
 use Rattle.words.proofs.Words.{kept-sizes}
 use Rattle.notes.specs.Plain.{plain}
-use Rattle.cost_words.specs.Words.{target, branch, nodes}
 use Rattle.cost_nodes.specs.Nodes.{Holds, Makes, Result, arms}
 use Rattle.cost_nodes.specs.declared.Answer.{Answer}
 use Rattle.cost_nodes.specs.declared.Answer.the-variants.{Is}
@@ -29,6 +25,10 @@ use Rattle.cost_notes.proofs.Remembering as N
 use Rattle.cost_engine.specs.Memory.{Recalled, Right, Remembers, Noted, Still, StillIf}
 use Rattle.cost_engine.specs.declared.operators.Operator.{Operator}
 use Rattle.cost_engine.proofs.Joining.{joint-ext}
+use Rattle.promises.specs.Integers.{int}
+use Rattle.promises.specs.CostSound.{bare}
+use Rattle.promises.specs.Words.{size, sizes}
+use Rattle.promises.specs.CostWords.{target, costBranch as branch, costNodes as nodes}
 
 -- ---- one result
 recalled-more : (w t : List ℕ) (o : Operator) (k x y d z e : ℕ) → Holds w → sizes t ≡ sizes w → Ext (nodes w) (nodes t) → Recalled w o k x y d z e → Recalled t o k x y d z e

@@ -16,18 +16,14 @@ use Rattle.theory.proofs.Canonical.{build-agree}
 use Rattle.theory.proofs.Lifting.{build-adds, build-lift}
 use Rattle.theory.proofs.Values.{value-ending}
 use Rattle.theory.proofs.WellFormed.{ok-ext}
-use Rattle.cost_laws.specs.Integers.{Fit, int}
-use Rattle.cost_laws.specs.Range.{addMost}
-use Rattle.cost_laws.specs.Relative.{bare, branchAt}
+use Rattle.cost_laws.specs.Relative.{branchAt}
 use Rattle.cost_laws.proofs.Relative.{offs, branch-under}
 use Rattle.cost_laws.proofs.Walks.{raised}
 use Rattle.words.specs.Holding.{built as builtOf}
-use Rattle.words.specs.Words.{features, size, sizes}
 use Rattle.words.proofs.Filling as F
 use Rattle.words.proofs.Words.{length-sizes, kept-features, kept-sizes}
 use Rattle.notes.specs.Plain.{Resting, plain}
 use Rattle.notes.proofs.Plain.{plain-of}
-use Rattle.cost_words.specs.Words.{target, branch, nodes}
 use Rattle.cost_words.proofs.Packing.{target-end}
 use Rattle.cost_nodes.specs.Nodes.{Holds, Good, top, Place, built, Result, Filling}
 use Rattle.cost_nodes.specs.declared.Answer.{Answer}
@@ -40,6 +36,11 @@ use Rattle.cost_engine.specs.Joint.{opOf, together, joint, jointFrom, ah
 use Rattle.cost_engine.specs.declared.operators.Operator.{Operator}
 use Rattle.cost_engine.proofs.Joining.{joint-none, joint-split, joint-step, joint-wait, joint-ext, joint-end}
 use Rattle.cost_engine.proofs.Bounding.{more-fits, end-fits, bounded-wait, bounded-step, bounded-ext, whole-fits, lead-fits, bounded-start, whole-start, lead-start}
+use Rattle.promises.specs.Integers.{Fit, int}
+use Rattle.promises.specs.Range.{addMost}
+use Rattle.promises.specs.CostSound.{bare}
+use Rattle.promises.specs.Words.{features, size, sizes}
+use Rattle.promises.specs.CostWords.{target, costBranch as branch, costNodes as nodes}
 
 -- ---- operands
 module _ (w : List ℕ) (o : Operator) (k x y : ℕ) (d : ℤ) (p : Operands w o k x y d) where

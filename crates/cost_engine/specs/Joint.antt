@@ -1,4 +1,4 @@
--- Two costs joined by an operator: what the engine builds, and what it is asked on the way. Assumes nothing.
+-- Contract between layers: two costs joined by an operator: what the engine builds, and what it is asked on the way. Assumes nothing.
 use mathlib.Core.Path.{_≡_}
 use mathlib.Core.List.{List}
 use Prim.Native.Nat.{ℕ, _≤_}
@@ -7,17 +7,18 @@ use lib.ListN.{drop}
 use Rattle.theory.specs.Costs.{Cost, amount, costs}
 use Rattle.theory.specs.Diagrams.{Branch, Node, Target, meaning, value}
 use Rattle.theory.specs.Settings.{zeros}
-use Rattle.cost_laws.specs.Integers.{Fit, int}
 use Rattle.cost_laws.specs.Narrow.{Placed, Spread, Narrow}
-use Rattle.cost_laws.specs.Operations.{joined, smallerOf, largerOf}
-use Rattle.cost_laws.specs.Range.{Within, addMost, costMost}
-use Rattle.cost_laws.specs.Relative.{bare, onward}
-use Rattle.words.specs.Words.{features, sizes}
-use Rattle.cost_words.specs.Words.{target, branch, nodes}
+use Rattle.cost_laws.specs.Relative.{onward}
 use Rattle.cost_notes.specs.Operand.{Operand}
 use Rattle.cost_nodes.specs.Nodes.{Holds, Good}
 use Rattle.cost_engine.specs.declared.operators.Operator.{Operator}
 use Rattle.cost_engine.specs.declared.operators.Operator.the-variants.{Add, Subtract, Smaller, Larger, Scale}
+use Rattle.promises.specs.Integers.{Fit, int}
+use Rattle.promises.specs.CostOperations.{joined, smallerOf, largerOf}
+use Rattle.promises.specs.Range.{Within, addMost, costMost}
+use Rattle.promises.specs.CostSound.{bare}
+use Rattle.promises.specs.Words.{features, sizes}
+use Rattle.promises.specs.CostWords.{target, costBranch as branch, costNodes as nodes}
 
 -- the operator on integers; scale by the integer of a word has one operand, and does not look at the second
 abbrev pub opOf : Operator → ℤ → ℤ → ℤ

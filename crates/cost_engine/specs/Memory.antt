@@ -1,13 +1,10 @@
--- What the engine remembers, in entries tagged with a feature + 1, and what its calls leave. Assumes nothing.
+-- Contract between layers: what the engine remembers, in entries tagged with a feature + 1, and what its calls leave. Assumes nothing.
 use mathlib.Core.Bool.{Bool, true, false}
 use mathlib.Core.Path.{_≡_}
 use mathlib.Core.List.{List}
 use Prim.Native.Nat.{ℕ, _+_}
 use lib.ListN.{drop}
 use Rattle.theory.specs.WellFormed.{Mean}
-use Rattle.cost_laws.specs.Integers.{int}
-use Rattle.words.specs.Words.{sizes}
-use Rattle.cost_words.specs.Words.{target, branch, nodes}
 use Rattle.cost_nodes.specs.Nodes.{Good}
 use Rattle.cost_nodes.specs.declared.Answer.{Answer}
 use Rattle.cost_nodes.specs.declared.Answer.the-variants.{Is, NoRoom}
@@ -15,6 +12,9 @@ use Rattle.cost_memory.specs.Memory as M
 use Rattle.cost_notes.specs.Noted as N
 use Rattle.cost_engine.specs.Joint.{jointFrom}
 use Rattle.cost_engine.specs.declared.operators.Operator.{Operator}
+use Rattle.promises.specs.Integers.{int}
+use Rattle.promises.specs.Words.{sizes}
+use Rattle.promises.specs.CostWords.{target, costBranch as branch, costNodes as nodes}
 
 -- the branch of the words z and e is the result for the targets x and y with the difference d, from feature k on
 pub record Recalled (w : List ℕ) (o : Operator) (k x y d z e : ℕ) : Type 0 where

@@ -22,13 +22,13 @@ use words::narrow;
 use words::wide;
 ghost use Prim.Native.Nat.{_<_};
 ghost use Rattle.theory.specs.Diagrams.{meaning};
-ghost use Rattle.cost_laws.specs.Integers.{int};
-ghost use Rattle.words.specs.Words.{features};
 ghost use Rattle.notes.specs.Plain.{plain};
-ghost use Rattle.cost_words.specs.Words.{target, branch, nodes};
 ghost use Rattle.cost_nodes.specs.Nodes.{Result, Fills};
 ghost use Rattle.cost_engine.specs.Joint.{together, Joinable, joint, jointFrom, Operands, Branches};
 ghost use Rattle.cost_engine.specs.Memory.{Noted, Still, StillIf};
+ghost use Rattle.promises.specs.Integers.{int};
+ghost use Rattle.promises.specs.Words.{features};
+ghost use Rattle.promises.specs.CostWords.{target, costBranch as branch, costNodes as nodes};
 
 // The lists of a node's branches, or that there was no room for them.
 struct Filled {

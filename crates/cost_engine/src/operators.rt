@@ -10,11 +10,11 @@ use words::wide;
 ghost use mathlib.Core.Path.{_≡_};
 ghost use Prim.Native.Nat.{_*_, _≤_};
 ghost use lib.IntN.{pos, _*ℤ_};
-ghost use Rattle.cost_laws.specs.Integers.{Fit, int};
-ghost use Rattle.cost_laws.specs.Operations.{smallerOf, largerOf};
-ghost use Rattle.cost_laws.specs.Range.{addMost};
 ghost use Rattle.cost_laws.specs.Relative.{onward};
 ghost use Rattle.cost_engine.specs.Joint.{opOf, ahead, gap};
+ghost use Rattle.promises.specs.Integers.{Fit, int};
+ghost use Rattle.promises.specs.CostOperations.{smallerOf, largerOf};
+ghost use Rattle.promises.specs.Range.{addMost};
 
 // What joins two costs; scale has one, and the word that stands for its factor.
 pub enum Operator {

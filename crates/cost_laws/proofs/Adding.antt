@@ -13,14 +13,14 @@ use Rattle.theory.specs.Build.{Ext, build}
 use Rattle.theory.specs.Costs.{amount, costs}
 use Rattle.theory.proofs.Canonical.{build-agree, canonical}
 use Rattle.theory.proofs.Lifting.{build-adds, build-lift}
-use Rattle.cost_laws.specs.Operations.{joined}
-use Rattle.cost_laws.specs.Relative.{bare, branchAt, from, pairFrom}
+use Rattle.cost_laws.specs.Relative.{branchAt, pairFrom}
 use Rattle.cost_laws.proofs.Integers.{ℕ-eq, sum-ℕ, minus-ℕ, double-zero}
 use Rattle.cost_laws.proofs.Products.{mul-sum}
 use Rattle.cost_laws.proofs.Extremes.{Way, extreme-agree, extreme-lift}
 use Rattle.cost_laws.proofs.Walks.{Walk, Waits, raised}
 use Rattle.cost_laws.proofs.Relative.{offs, value-from, from-step, from-wait, from-end, from-zeros, from-ext}
-use Rattle.cost_laws.specs.Extremes.{extreme}
+use Rattle.promises.specs.CostOperations.{joined}
+use Rattle.promises.specs.CostSound.{bare, from, extreme}
 
 -- an operation on integers that goes through sums
 pub record Splits (F : ℤ → ℤ → ℤ) : Type 0 where

@@ -13,12 +13,13 @@ use Rattle.theory.specs.WellFormed.{Under, WF}
 use Rattle.theory.specs.Costs.{costs}
 use Rattle.theory.proofs.Lists.{drop-head}
 use Rattle.theory.proofs.Ranges.{zeros-valid}
-use Rattle.cost_laws.specs.Integers.{Fit}
-use Rattle.cost_laws.specs.Range.{Within}
-use Rattle.cost_laws.specs.Relative.{branchAt, from}
+use Rattle.cost_laws.specs.Relative.{branchAt}
 use Rattle.cost_laws.specs.Narrow.{Spread, Narrow}
 use Rattle.cost_laws.proofs.Integers.{fit-zero, minus-zero, minus-self}
 use Rattle.cost_laws.proofs.Relative.{offs, from-step, from-wait, from-end, from-zeros, branch-here, branch-under}
+use Rattle.promises.specs.Integers.{Fit}
+use Rattle.promises.specs.Range.{Within}
+use Rattle.promises.specs.CostSound.{from}
 
 module _ {D : ℕ} (S : List ℕ) (N : List (Node costs)) (w : WF S N) (nr : Narrow D S N) where
   -- below any target

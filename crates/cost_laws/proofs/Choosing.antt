@@ -16,11 +16,12 @@ use Rattle.theory.specs.Costs.{amount, costs}
 use Rattle.theory.proofs.Values.{value-ending}
 use Rattle.theory.proofs.Canonical.{build-agree, canonical}
 use Rattle.theory.proofs.Lifting.{build-adds, build-lift}
-use Rattle.cost_laws.specs.Operations.{smallerOf, largerOf, chosenOf}
-use Rattle.cost_laws.specs.Relative.{bare, branchAt, from, apartFrom, joinedAt, onward}
+use Rattle.cost_laws.specs.Relative.{branchAt, apartFrom, joinedAt, onward}
 use Rattle.cost_laws.proofs.Integers.{ℕ-eq, sum-ℕ, minus-ℕ, test-both}
 use Rattle.cost_laws.proofs.Walks.{Walk, raised}
 use Rattle.cost_laws.proofs.Relative.{value-from, from-step, from-wait, from-end, from-zeros, from-ext}
+use Rattle.promises.specs.CostOperations.{smallerOf, largerOf, chosenOf}
+use Rattle.promises.specs.CostSound.{bare, from}
 
 -- an operation on integers that moves with a common summand
 pub record Moves (F : ℤ → ℤ → ℤ) : Type 0 where

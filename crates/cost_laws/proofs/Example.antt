@@ -5,11 +5,12 @@ use Prim.Native.Nat.{zero, suc, _≤_}
 use native.Mathlib.Omega.{arith}
 use lib.IntN.{pos, _+ℤ_}
 use Rattle.theory.specs.Costs.{Cost, amount}
-use Rattle.cost_laws.specs.Integers.{rise}
-use Rattle.cost_laws.specs.Operations.{smallerOf, largerOf, sum}
-use Rattle.cost_laws.specs.Range.{Within, costMost}
-use Rattle.cost_laws.specs.Extremes.{across, extreme, highestOf, lowestOf}
+use Rattle.cost_laws.specs.Extremes.{highestOf, lowestOf}
 use Rattle.cost_laws.proofs.Range.{within-exactly}
+use Rattle.promises.specs.Integers.{rise}
+use Rattle.promises.specs.CostOperations.{smallerOf, largerOf, sum}
+use Rattle.promises.specs.Range.{Within, costMost}
+use Rattle.promises.specs.CostSound.{across, extreme}
 
 -- 1,000,000,000 at value 1, and at value 0, of one feature of size 2
 unfoldable pub later : Cost

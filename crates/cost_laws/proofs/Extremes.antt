@@ -11,9 +11,9 @@ use lib.Signed.{_≤ℤ_}
 use Rattle.theory.specs.Settings.{Valid, Pos}
 use Rattle.theory.specs.Functions.{Agree, held, lift}
 use Rattle.theory.specs.Costs.{Cost, amount}
-use Rattle.cost_laws.specs.Operations.{smallerOf, largerOf}
-use Rattle.cost_laws.specs.Extremes.{across, extreme}
 use Rattle.cost_laws.proofs.Integers.{le-refl, le-trans, le-antisym, add-le, smaller-le, smaller-either, larger-ge, larger-either}
+use Rattle.promises.specs.CostOperations.{smallerOf, largerOf}
+use Rattle.promises.specs.CostSound.{across, extreme}
 
 -- what the lowest and the highest share: op gives one of two, and that one is R to both
 pub record Way (op : ℤ → ℤ → ℤ) (R : ℤ → ℤ → Type 0) : Type 0 where

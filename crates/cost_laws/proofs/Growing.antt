@@ -9,10 +9,9 @@ use Rattle.theory.specs.Functions.{Agree}
 use Rattle.theory.specs.Diagrams.{Node, at, node}
 use Rattle.theory.specs.Costs.{costs}
 use Rattle.theory.proofs.WellFormed.{at-more}
-use Rattle.cost_laws.specs.Extremes.{Passed, extreme, own}
-use Rattle.cost_laws.specs.Relative.{from}
+use Rattle.cost_laws.specs.Extremes.{Passed, own}
 use Rattle.cost_laws.proofs.Extremes.{extreme-agree}
-use Rattle.cost_laws.specs.Below.{sumBelow}
+use Rattle.promises.specs.CostSound.{extreme, from, sumBelow}
 
 module _ (op : ℤ → ℤ → ℤ) where
   -- more nodes at the end: the first m keep theirs

@@ -9,8 +9,8 @@ use lib.IntN.{ℤ, pos, negsuc, negℤ, subℕ, _+ℤ_, _-ℤ_}
 use lib.Signed.{ltZ, ltZ-no, _≤ℤ_, _<ℤ_}
 use lib.Dec.{T, ltb, leb→le, le→leb, ltb→lt, lt→ltb, nltb→le}
 use borrow.Author.Tests.{le-ltb}
-use Rattle.cost_laws.specs.Integers.{rise, fall, Fit}
-use Rattle.cost_laws.specs.Operations.{smallerOf, largerOf, chosenOf}
+use Rattle.promises.specs.Integers.{rise, fall, Fit}
+use Rattle.promises.specs.CostOperations.{smallerOf, largerOf, chosenOf}
 
 -- ---- sums and differences
 cond-ind : (c : Bool) (x y : ℤ) (P : ℤ → Type 0) → (T c → P x) → (T (not c) → P y) → P (cond c x y)

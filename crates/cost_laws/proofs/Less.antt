@@ -11,11 +11,12 @@ use Rattle.theory.specs.Diagrams.{Branch, Node, Target, value}
 use Rattle.theory.specs.WellFormed.{Under, WF}
 use Rattle.theory.specs.Build.{Ext}
 use Rattle.theory.specs.Costs.{costs}
-use Rattle.cost_laws.specs.Operations.{isBelow}
-use Rattle.cost_laws.specs.Relative.{branchAt, from, belowFrom, onward}
+use Rattle.cost_laws.specs.Relative.{branchAt, belowFrom, onward}
 use Rattle.cost_laws.proofs.Integers.{test-both}
 use Rattle.cost_laws.proofs.Relative.{value-from, from-step, from-wait, from-ext}
 use Rattle.cost_laws.proofs.Choosing.{onward-sum, base-sum}
+use Rattle.promises.specs.CostOperations.{isBelow}
+use Rattle.promises.specs.CostSound.{from}
 
 -- 1 for yes, 0 for no
 abbrev bit : Bool → Phrase

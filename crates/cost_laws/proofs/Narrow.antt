@@ -21,10 +21,10 @@ use Rattle.theory.proofs.Growing.{build-cons, build-nil, ext-append}
 use Rattle.theory.proofs.WellFormed.{at-more, length-snoc, wf-empty, wf-prefix}
 use Rattle.theory.proofs.Values.{value-split}
 use Rattle.theory.proofs.Meaning.{Right, build-right, each-right}
-use Rattle.cost_laws.specs.Relative.{from}
 use Rattle.cost_laws.specs.Narrow.{Spread, Narrow}
 use Rattle.cost_laws.proofs.Relative.{from-ext}
 use Rattle.cost_laws.proofs.Spreads.{spread-agree, spread-held, spread-lower}
+use Rattle.promises.specs.CostSound.{from}
 
 -- `make` adds one node or none
 decide-cases : (k : ℕ) (bs : List (Branch costs)) (N : List (Node costs)) (d : Dec (Alike blank bs)) (f : Dec (In empty (node-of k bs) N)) →

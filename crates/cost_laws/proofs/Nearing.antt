@@ -13,13 +13,13 @@ use Rattle.theory.specs.Costs.{Cost, costs}
 use Rattle.theory.proofs.Lists.{drop-head}
 use Rattle.theory.proofs.Ranges.{zeros-valid}
 use Rattle.theory.proofs.Values.{means-at, value-split, value-zeros}
-use Rattle.cost_laws.specs.Integers.{Fit}
-use Rattle.cost_laws.specs.Extremes.{Passed, along, extreme}
+use Rattle.cost_laws.specs.Extremes.{Passed, along}
 use Rattle.cost_laws.specs.Narrow.{Spread}
-use Rattle.cost_laws.specs.Relative.{from}
 use Rattle.cost_laws.proofs.Extremes.{Taken, Way, extreme-agree, extreme-lift, extreme-taken}
 use Rattle.cost_laws.proofs.Passing.{passed-right}
 use Rattle.cost_laws.proofs.Relative.{offs}
+use Rattle.promises.specs.Integers.{Fit}
+use Rattle.promises.specs.CostSound.{extreme, from}
 
 module _ {op : ℤ → ℤ → ℤ} {R : ℤ → ℤ → Type 0} (W : Way op R) (S : List ℕ) (k n : ℕ) (ns : List ℕ) (rest : drop k S ≡ n ∷ ns) (p : Pos (n ∷ ns)) (N : List (Node costs)) (w : WF S N)
     (f : ℕ → ℤ) (q : Passed op N (length N) f) (g : Cost) where

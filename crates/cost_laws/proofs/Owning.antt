@@ -13,15 +13,14 @@ use Rattle.theory.specs.Diagrams.{Branch, Node, at, blank, node}
 use Rattle.theory.specs.WellFormed.{WF}
 use Rattle.theory.specs.Costs.{costs}
 use Rattle.theory.proofs.Lists.{pos-drop}
-use Rattle.cost_laws.specs.Integers.{Fit}
-use Rattle.cost_laws.specs.Extremes.{Passed, across, along, extreme, own}
-use Rattle.cost_laws.specs.Relative.{from}
+use Rattle.cost_laws.specs.Extremes.{Passed, along, own}
 use Rattle.cost_laws.specs.Narrow.{Narrow}
 use Rattle.cost_laws.proofs.Extremes.{Way, across-ext}
 use Rattle.cost_laws.proofs.Walks.{walk-extreme}
 use Rattle.cost_laws.proofs.Relative.{branch-here, single}
 use Rattle.cost_laws.proofs.Passing.{passed-right, kept-fits}
-use Rattle.cost_laws.specs.Below.{sumBelow}
+use Rattle.promises.specs.Integers.{Fit}
+use Rattle.promises.specs.CostSound.{across, extreme, from, sumBelow}
 
 module _ {op : ℤ → ℤ → ℤ} {R : ℤ → ℤ → Type 0} (W : Way op R) (S : List ℕ) (p : Pos S) (N : List (Node costs)) (w : WF S N) (f : ℕ → ℤ) where
   -- the features that are left below node i, its own first

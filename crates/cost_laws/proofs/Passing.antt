@@ -16,17 +16,17 @@ use Rattle.theory.specs.Costs.{costs}
 use Rattle.theory.proofs.Lists.{drop-head}
 use Rattle.theory.proofs.WellFormed.{under-weaken}
 use Rattle.theory.proofs.Values.{value-split}
-use Rattle.cost_laws.specs.Integers.{Fit, rise, fall}
-use Rattle.cost_laws.specs.Operations.{largerOf, smallerOf}
-use Rattle.cost_laws.specs.Range.{Within}
-use Rattle.cost_laws.specs.Extremes.{Passed, across, along, extreme, keptAt, own}
-use Rattle.cost_laws.specs.Relative.{from}
+use Rattle.cost_laws.specs.Extremes.{Passed, along, keptAt, own}
 use Rattle.cost_laws.specs.Narrow.{Narrow}
 use Rattle.cost_laws.proofs.Extremes.{Taken, Way, across-ext, extreme-agree, extreme-lift, extreme-nil, extreme-taken, high, low}
 use Rattle.cost_laws.proofs.Walks.{walk-extreme, walk-extreme-wait}
 use Rattle.cost_laws.proofs.Relative.{offs, from-end, from-step, from-wait, branch-here, single}
 use Rattle.cost_laws.proofs.Bounds.{from-within}
 use Rattle.cost_laws.proofs.Range.{extreme-fits, within-exactly}
+use Rattle.promises.specs.Integers.{Fit, rise, fall}
+use Rattle.promises.specs.CostOperations.{largerOf, smallerOf}
+use Rattle.promises.specs.Range.{Within}
+use Rattle.promises.specs.CostSound.{across, extreme, from}
 
 -- ---- the pass
 pub passed-none : (op : ℤ → ℤ → ℤ) (N : List (Node costs)) (f : ℕ → ℤ) → Passed op N 0 f

@@ -16,13 +16,14 @@ use Rattle.theory.proofs.Lists.{drop-head}
 use Rattle.theory.proofs.Ranges.{zeros-valid}
 use Rattle.theory.proofs.Values.{value-ext, value-wait, value-zeros}
 use Rattle.theory.proofs.Lifting.{build-adds}
-use Rattle.cost_laws.specs.Integers.{Fit}
-use Rattle.cost_laws.specs.Range.{Within}
-use Rattle.cost_laws.specs.Relative.{branchAt, from, apartFrom, onward}
+use Rattle.cost_laws.specs.Relative.{branchAt, apartFrom, onward}
 use Rattle.cost_laws.specs.Narrow.{Placed, Spread}
 use Rattle.cost_laws.proofs.Integers.{ℕ-eq, sum-ℕ, minus-ℕ, fit-minus}
 use Rattle.cost_laws.proofs.Relative.{offs, value-from, from-step, from-zeros, branch-under}
 use Rattle.cost_laws.proofs.Spreads.{spread-lower, within-agree, within-spread}
+use Rattle.promises.specs.Integers.{Fit}
+use Rattle.promises.specs.Range.{Within}
+use Rattle.promises.specs.CostSound.{from}
 
 -- ---- on the way down
 -- what is added up so far is the cost where the features that are left are 0

@@ -18,7 +18,7 @@ use Rattle.theory.proofs.Lists.{drop-head, getD-map-in, pos-drop}
 use Rattle.theory.proofs.Growing.{build-cons}
 use Rattle.theory.proofs.Values.{value-ending}
 use Rattle.theory.proofs.Canonical.{build-skips, canonical, each-stays}
-use Rattle.cost_laws.specs.Operations.{constant, priced}
+use Rattle.promises.specs.CostOperations.{constant, priced}
 
 module _ (S : List ℕ) (N : List (Node costs)) (w : WF S N) where
   -- a constant is the end with the constant on it

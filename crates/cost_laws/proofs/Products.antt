@@ -5,8 +5,8 @@ use native.Mathlib.Nat.{mul-zero, zero-mul, zero-add, add-zero, add-mul, mul-com
 use native.Mathlib.Omega.{arith}
 use lib.IntN.{ℤ, pos, negsuc, _+ℤ_, _*ℤ_}
 use lib.Signed.{_≤ℤ_}
-use Rattle.cost_laws.specs.Integers.{rise, fall, Fit}
 use Rattle.cost_laws.proofs.Integers.{ℕ-eq, ℕ-le, le-ℕ, neg-fall, neg-rise, sum-ℕ}
+use Rattle.promises.specs.Integers.{rise, fall, Fit}
 
 pub mul-rise : (a b : ℤ) → rise (a *ℤ b) ≡ rise a * rise b + fall a * fall b
 mul-rise (pos a) (pos b) = simp (zero-mul, add-zero)

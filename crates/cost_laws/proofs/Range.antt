@@ -11,14 +11,15 @@ use lib.Signed.{_≤ℤ_}
 use Rattle.theory.specs.Settings.{Pos}
 use Rattle.theory.specs.Rules.{Rule}
 use Rattle.theory.specs.Costs.{Cost}
-use Rattle.cost_laws.specs.Integers.{Fit, rise, fall}
-use Rattle.cost_laws.specs.Operations.{chosen, constant, larger, priced, scaled, smaller, smallerOf, largerOf, chosenOf}
-use Rattle.cost_laws.specs.Range.{Leaves, Within, costMost}
-use Rattle.cost_laws.specs.Extremes.{extreme, highestOf, lowestOf}
+use Rattle.cost_laws.specs.Extremes.{highestOf, lowestOf}
 use Rattle.cost_laws.proofs.Integers.{chosen-either, fit-zero, larger-either, le-ℕ, smaller-either}
 use Rattle.cost_laws.proofs.Products.{scale-ge, scale-le}
 use Rattle.cost_laws.proofs.Extremes.{Taken, Way, extreme-beats, extreme-map, extreme-taken, high, low}
 use Rattle.cost_laws.proofs.Placing.{Takes}
+use Rattle.promises.specs.Integers.{Fit, rise, fall}
+use Rattle.promises.specs.CostOperations.{chosen, constant, larger, priced, scaled, smaller, smallerOf, largerOf, chosenOf}
+use Rattle.promises.specs.Range.{Leaves, Within, costMost}
+use Rattle.promises.specs.CostSound.{extreme}
 
 -- ---- by the lowest and the highest
 higher-rise : (y z : ℤ) → y ≤ℤ z → rise y ≤ rise z

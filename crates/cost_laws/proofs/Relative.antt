@@ -11,8 +11,9 @@ use Rattle.theory.specs.WellFormed.{Under, WF}
 use Rattle.theory.specs.Build.{Ext}
 use Rattle.theory.specs.Costs.{amount, costs}
 use Rattle.theory.proofs.Values.{next-here, next-ok, next-wait, value-ending, value-ext, value-next, value-split, value-wait, value-zeros}
-use Rattle.cost_laws.specs.Relative.{bare, branchAt, from}
+use Rattle.cost_laws.specs.Relative.{branchAt}
 use Rattle.cost_laws.proofs.Walks.{Walk}
+use Rattle.promises.specs.CostSound.{bare, from}
 
 -- equal amounts are equal integers
 pub offs : {x y : Amount costs} → x ≡ y → x .off ≡ y .off

@@ -13,12 +13,12 @@ use Rattle.theory.specs.Costs.{Cost, costs}
 use Rattle.theory.proofs.Lists.{drop-head}
 use Rattle.theory.proofs.Ranges.{zeros-valid}
 use Rattle.theory.proofs.Lifting.{build-adds}
-use Rattle.cost_laws.specs.Integers.{Fit}
-use Rattle.cost_laws.specs.Range.{Within}
 use Rattle.cost_laws.specs.Narrow.{Spread}
 use Rattle.cost_laws.proofs.Integers.{fit-minus, minus-both}
 use Rattle.cost_laws.proofs.Walks.{Walk, Waits}
 use Rattle.cost_laws.proofs.Relative.{offs}
+use Rattle.promises.specs.Integers.{Fit}
+use Rattle.promises.specs.Range.{Within}
 
 pub within-spread : {B : ℕ} {ns : List ℕ} {f : Cost} → Within B ns f → Spread (B + B) ns f
 within-spread {B} {f = f} h = record { apart = λ s r x y. fit-minus B B (f s .off) (f r .off) (h .fits s x) (h .fits r y) }

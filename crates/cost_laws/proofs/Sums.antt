@@ -9,13 +9,14 @@ use Rattle.theory.specs.Diagrams.{Node, Target}
 use Rattle.theory.specs.WellFormed.{Under, WF}
 use Rattle.theory.specs.Costs.{costs}
 use Rattle.theory.proofs.Ranges.{zeros-valid}
-use Rattle.cost_laws.specs.Integers.{Fit}
-use Rattle.cost_laws.specs.Range.{Within}
-use Rattle.cost_laws.specs.Relative.{branchAt, from, pairFrom}
+use Rattle.cost_laws.specs.Relative.{branchAt, pairFrom}
 use Rattle.cost_laws.specs.Narrow.{Spread}
 use Rattle.cost_laws.proofs.Integers.{minus-zero}
 use Rattle.cost_laws.proofs.Relative.{branch-under, from-zeros}
 use Rattle.cost_laws.proofs.Adding.{Splits, pair-step, splits-zero}
+use Rattle.promises.specs.Integers.{Fit}
+use Rattle.promises.specs.Range.{Within}
+use Rattle.promises.specs.CostSound.{from}
 
 -- a result of spread D adds within ±D at each branch
 pub pair-fits : (F : ℤ → ℤ → ℤ) (q : Splits F) (S : List ℕ) (N : List (Node costs)) → WF S N → {D : ℕ} (k n : ℕ) (ns : List ℕ) → Pos (n ∷ ns) → (t u : Target costs) →

@@ -17,8 +17,8 @@ use Rattle.theory.specs.Costs.{Cost, costs}
 use Rattle.theory.proofs.Lists.{drop-head, pos-drop}
 use Rattle.theory.proofs.Canonical.{build-agree, build-skips}
 use Rattle.theory.proofs.Lifting.{build-lift}
-use Rattle.cost_laws.specs.Extremes.{across, extreme}
 use Rattle.cost_laws.proofs.Extremes.{Way, extreme-step, extreme-wait}
+use Rattle.promises.specs.CostSound.{across, extreme}
 
 pub record Walk : Type 1 where
   pub State : Type 0

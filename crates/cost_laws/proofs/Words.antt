@@ -8,9 +8,10 @@ use lib.Signed.{ltZ}
 use mir.Syntax.{w64}
 use mir.Val.{SFits, toZ}
 use mir.Facts.{toZ-ofZ}
-use Rattle.cost_laws.specs.Integers.{rise, fall, Fit, bias, int, wordFor}
-use Rattle.cost_laws.specs.Operations.{largerOf, smallerOf}
+use Rattle.cost_laws.specs.Integers.{wordFor}
 use Rattle.cost_laws.proofs.Integers.{rise-near, fall-near, sub-ℕ, sum-ℕ, minus-ℕ, ℕ-eq, ℕ-le, ℕ-lt, lt-test, le-test}
+use Rattle.promises.specs.Integers.{rise, fall, Fit, bias, int}
+use Rattle.promises.specs.CostOperations.{largerOf, smallerOf}
 
 -- what turns an integer of a word into facts for omega
 pub int-ℕ : (w : ℕ) → rise (int w) + bias ≡ fall (int w) + w

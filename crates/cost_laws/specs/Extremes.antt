@@ -1,27 +1,13 @@
--- The lowest and the highest that a cost gives, over all settings and by one pass over the nodes. Assumes nothing.
+-- Means of proof: the lowest and the highest that a cost gives, over all settings and by one pass over the nodes. Assumes nothing.
 use mathlib.Core.Path.{_≡_}
-use mathlib.Core.List.{List, [], _∷_}
-use Prim.Native.Nat.{ℕ, zero, suc, _<_}
+use mathlib.Core.List.{List}
+use Prim.Native.Nat.{ℕ, _<_}
 use lib.IntN.{ℤ, pos, _+ℤ_}
 use lib.ListN.{length, getD}
-use Rattle.theory.specs.Functions.{held}
 use Rattle.theory.specs.Diagrams.{Branch, Node, Target, at, blank, leaf, node}
 use Rattle.theory.specs.Costs.{Cost, costs}
-use Rattle.cost_laws.specs.Operations.{smallerOf, largerOf}
-
--- op is `smallerOf` for the lowest, `largerOf` for the highest
-module _ (op : ℤ → ℤ → ℤ) where
-  -- that of h 0, h 1, .., h (n - 1), as a loop finds it
-  unfoldable pub across : (ℕ → ℤ) → ℕ → ℤ
-  across h zero = pos 0
-  across h (suc zero) = h 0
-  across h (suc (suc n)) = op (across h (suc n)) (h (suc n))
-
-  -- that of a cost over all settings
-  unfoldable pub extreme : List ℕ → Cost → ℤ
-  unfolding across
-  extreme [] f = f [] .off
-  extreme (n ∷ ns) f = across (λ v. extreme ns (held v f)) n
+use Rattle.promises.specs.CostSound.{across, extreme}
+use Rattle.promises.specs.CostOperations.{smallerOf, largerOf}
 
 abbrev pub lowestOf : List ℕ → Cost → ℤ
 lowestOf S f = extreme smallerOf S f

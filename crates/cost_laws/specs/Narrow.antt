@@ -1,4 +1,4 @@
--- How far apart the sums below a node lie, and two operands that lie in range at some base. Assumes nothing.
+-- Means of proof: how far apart the sums below a node lie, and two operands that lie in range at some base. Assumes nothing.
 use mathlib.Core.List.{List}
 use Prim.Native.Nat.{ℕ, _<_}
 use lib.IntN.{ℤ, _+ℤ_, _-ℤ_}
@@ -6,9 +6,9 @@ use lib.ListN.{length, drop}
 use Rattle.theory.specs.Settings.{Valid}
 use Rattle.theory.specs.Diagrams.{Node, Target, at, node, value}
 use Rattle.theory.specs.Costs.{Cost, costs}
-use Rattle.cost_laws.specs.Integers.{Fit}
-use Rattle.cost_laws.specs.Range.{Within}
-use Rattle.cost_laws.specs.Relative.{from}
+use Rattle.promises.specs.Integers.{Fit}
+use Rattle.promises.specs.Range.{Within}
+use Rattle.promises.specs.CostSound.{from}
 
 -- no two settings cost more than D apart
 pub record Spread (D : ℕ) (ns : List ℕ) (f : Cost) : Type 0 where

@@ -1,20 +1,14 @@
--- Work without bases: what is worked out of nodes alone, or of two nodes and the difference of their bases, serves at every base. Assumes nothing.
+-- Means of proof: work without bases: what is worked out of nodes alone, or of two nodes and the difference of their bases, serves at every base. Assumes nothing.
 use mathlib.Core.Bool.{cond}
 use mathlib.Core.List.{List}
 use Prim.Native.Nat.{ℕ}
-use lib.IntN.{ℤ, pos, _+ℤ_, _-ℤ_}
+use lib.IntN.{ℤ, _+ℤ_, _-ℤ_}
 use lib.Signed.{ltZ}
-use Rattle.theory.specs.Diagrams.{Branch, Node, Target, next, value}
+use Rattle.theory.specs.Diagrams.{Branch, Node, Target, next}
 use Rattle.theory.specs.Rules.{Rule, says}
 use Rattle.theory.specs.Costs.{Cost, amount, costs}
-use Rattle.cost_laws.specs.Operations.{joined}
-
--- the branch to t that adds nothing, and the cost of features k and up below t
-abbrev pub bare : Target costs → Branch costs
-bare t = record { adds = pos 0; to = t }
-
-abbrev pub from : List (Node costs) → ℕ → Target costs → Cost
-from N k t = value N k (bare t)
+use Rattle.promises.specs.CostSound.{bare, from}
+use Rattle.promises.specs.CostOperations.{joined}
 
 -- its branch at value v; the target itself where it does not test feature k
 abbrev pub branchAt : List (Node costs) → ℕ → Target costs → ℕ → Branch costs

@@ -1,4 +1,4 @@
--- Remembered results: scratch words in entries of 6, a tag (0: empty), two targets and a difference, the result's two words. Assumes nothing.
+-- Contract between layers: remembered results: scratch words in entries of 6, a tag (0: empty), two targets and a difference, the result's two words. Assumes nothing.
 use mathlib.Core.Path.{_≡_}
 use mathlib.Core.Logic.{_⊎_}
 use mathlib.Core.List.{List}

@@ -19,28 +19,28 @@ use Rattle.theory.proofs.Lists.{pos-drop}
 use Rattle.theory.proofs.Meaning.{Rights, build-right, each-right}
 use Rattle.theory.proofs.Ranges.{zeros-valid}
 use Rattle.theory.proofs.Values.{means-at, value-zeros}
-use Rattle.cost_laws.specs.Integers.{Fit, int}
 use Rattle.cost_laws.specs.Narrow.{Spread, Narrow}
 use Rattle.cost_laws.proofs.Narrow.{branches-narrow}
 use Rattle.cost_laws.proofs.Nearing.{arms-near}
 use Rattle.cost_words.proofs.Summing.{way}
 use Rattle.theory.specs.Settings.{Pos}
-use Rattle.cost_laws.specs.Range.{addMost}
 use Rattle.cost_laws.specs.Extremes.{Passed, along}
-use Rattle.cost_words.specs.Kept.{kept}
-use Rattle.cost_words.specs.Sums.{sideOf}
 use Rattle.cost_laws.proofs.Relative.{offs}
 use Rattle.words.specs.Holding as H
 use Rattle.words.specs.Holding.{eachTo}
-use Rattle.words.specs.Words.{features, size, sizes, listed}
+use Rattle.words.specs.Words.{listed}
 use Rattle.words.proofs.Filling as F
 use Rattle.words.proofs.Tab.{tab-none, tab-snoc, tab-ext, getD-tab}
 use Rattle.words.proofs.Words.{length-sizes, at-sizes, kept-size}
-use Rattle.cost_words.specs.Words.{branch, nodes}
 use Rattle.cost_nodes.specs.Nodes.{layout, Holds, told, Gives, Result, Makes, built, arms, Armed, Filling, Stopped, Fills}
 use Rattle.cost_nodes.specs.declared.Answer.{Answer}
 use Rattle.cost_nodes.specs.declared.Answer.the-variants.{Is, NoRoom}
 use Rattle.cost_nodes.proofs.Reading.{lawful}
+use Rattle.promises.specs.Integers.{Fit, int}
+use Rattle.promises.specs.Range.{addMost}
+use Rattle.promises.specs.CostSound.{kept, sideOf}
+use Rattle.promises.specs.Words.{features, size, sizes}
+use Rattle.promises.specs.CostWords.{costBranch as branch, costNodes as nodes}
 
 module _ (w : List ℕ) (k : ℕ) (g : Cost) (ok : Holds w) (hk : k < features w) where
   hs : k < length (sizes w)

@@ -16,25 +16,21 @@ use Rattle.theory.specs.Diagrams.{Branch, blank, up}
 use Rattle.theory.specs.WellFormed.{Ok}
 use Rattle.theory.proofs.Lists.{getD-map-in}
 use Rattle.theory.proofs.Offsets.{Level, branchTo}
-use Rattle.cost_laws.specs.Integers.{Fit, int}
-use Rattle.cost_laws.specs.Range.{addMost}
-use Rattle.cost_laws.specs.Extremes.{across, along, keptAt, own}
+use Rattle.cost_laws.specs.Extremes.{along, keptAt, own}
 use Rattle.cost_laws.proofs.Extremes.{across-ext}
 use Rattle.cost_laws.proofs.Integers.{ℕ-eq, sum-ℕ, minus-ℕ, minus-self}
 use Rattle.cost_laws.proofs.Words.{int-one}
 use Rattle.words.specs.Coding.{branches}
 use Rattle.words.specs.Holding as H
-use Rattle.words.specs.Words.{capacity, features, size, sizes, count, listed}
+use Rattle.words.specs.Words.{listed}
 use Rattle.words.proofs.Coding.{length-nodes}
 use Rattle.words.proofs.Filling.{raised, gives-lift}
 use Rattle.words.proofs.Tab.{split, length-tab, getD-tab}
 use Rattle.records.specs.Changes.{pairOf, Pushed, RecordIs, Finds as FindsRecord}
 use Rattle.records.specs.Nodes.{Listed, nodeOf, Behind, Absent}
 use Rattle.records.proofs.Making as M
-use Rattle.cost_words.specs.Kept.{kept}
 use Rattle.cost_words.specs.Sides.{endOf, armSum, Bodied, Sides}
-use Rattle.cost_words.specs.Sums.{sideOf}
-use Rattle.cost_words.specs.Words.{branch, goes, added, code, packed, pairWord, nodes}
+use Rattle.cost_words.specs.Words.{code, packed, pairWord}
 use Rattle.cost_words.proofs.Pairing.{new-pair}
 use Rattle.cost_words.specs.declared.Target.{Target as CodeTarget}
 use Rattle.cost_words.proofs.Packing.{target-node, target-one, int-zero, packed-goes, packed-added, faithful}
@@ -43,6 +39,11 @@ use Rattle.cost_nodes.specs.declared.Answer.the-variants.{Is, NoRoom}
 use Rattle.cost_nodes.specs.declared.Found.{Found}
 use Rattle.cost_nodes.specs.declared.Found.the-variants.{At, Missing}
 use Rattle.cost_nodes.proofs.Reading.{lawful, ok-small}
+use Rattle.promises.specs.Integers.{Fit, int}
+use Rattle.promises.specs.Range.{addMost}
+use Rattle.promises.specs.CostSound.{across, kept, sideOf}
+use Rattle.promises.specs.Words.{capacity, features, size, sizes, count}
+use Rattle.promises.specs.CostWords.{costBranch as branch, goes, added, costNodes as nodes}
 
 -- ---- what the search's answer tells
 pub found-at : (w : List ℕ) (k : ℕ) (l : List ℕ) (r : Found) (x : CodeTarget) → r ≡ At x → Finds w k l r → Finds w k l (At x)

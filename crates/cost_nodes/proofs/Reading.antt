@@ -10,18 +10,18 @@ use Rattle.theory.specs.WellFormed.{Ok}
 use Rattle.theory.proofs.Lists.{pos-drop}
 use Rattle.cost_laws.specs.Extremes.{Passed}
 use Rattle.cost_laws.specs.Narrow.{Narrow}
-use Rattle.cost_laws.specs.Range.{addMost}
 use Rattle.words.specs.Holding.{Lawful}
-use Rattle.words.specs.Words.{features, size, sizes, count}
 use Rattle.words.proofs.Filling as F
 use Rattle.words.proofs.Words.{length-sizes, at-sizes}
 use Rattle.records.proofs.Making as M
-use Rattle.cost_words.specs.Kept.{kept}
-use Rattle.cost_words.specs.Sums.{sideOf}
-use Rattle.cost_words.specs.Words.{branch, code, nodes}
+use Rattle.cost_words.specs.Words.{code}
 use Rattle.cost_words.proofs.Pairing.{spared-pairs, pairs-passed}
 use Rattle.cost_words.proofs.Reading.{length-nodes, under-word}
 use Rattle.cost_nodes.specs.Nodes.{layout, Holds}
+use Rattle.promises.specs.Range.{addMost}
+use Rattle.promises.specs.Words.{features, size, sizes, count}
+use Rattle.promises.specs.CostSound.{kept, sideOf}
+use Rattle.promises.specs.CostWords.{costBranch as branch, costNodes as nodes}
 
 pub lawful : Lawful layout
 lawful = M.lawful code

@@ -9,14 +9,16 @@ use Rattle.theory.specs.Costs.{costs}
 use Rattle.theory.specs.Diagrams.{Node, at}
 use Rattle.theory.specs.WellFormed.{Ok}
 use Rattle.theory.proofs.WellFormed.{ok-ext}
-use Rattle.cost_laws.specs.Relative.{bare, branchAt}
+use Rattle.cost_laws.specs.Relative.{branchAt}
 use Rattle.cost_laws.proofs.Relative.{branch-here, branch-wait, branch-under}
-use Rattle.words.specs.Words.{features, size, sizes, count, feature, body, Kept}
+use Rattle.words.specs.Words.{Kept}
 use Rattle.words.proofs.Words.{kept-features}
-use Rattle.cost_words.specs.Words.{target, branch, goes, added, nodes}
 use Rattle.cost_words.proofs.Packing.{target-node, int-zero}
 use Rattle.cost_words.proofs.Reading.{length-nodes, at-nodes, branch-at, under-word}
 use Rattle.cost_nodes.specs.Nodes.{Holds, Good, top, Place}
+use Rattle.promises.specs.CostSound.{bare}
+use Rattle.promises.specs.Words.{features, size, sizes, count, feature, body}
+use Rattle.promises.specs.CostWords.{target, costBranch as branch, goes, added, costNodes as nodes}
 
 -- a target word of the table is small
 pub good-small : (w : List ℕ) (k x : ℕ) → Good w k x → x ≤ count w

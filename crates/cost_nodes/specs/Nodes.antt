@@ -1,4 +1,4 @@
--- A cost table as the holder of a node list: the unique search, the making of a node, steps down a diagram, and the contract of what adds nodes. Assumes nothing.
+-- Contract between layers: a cost table as the holder of a node list: the unique search, the making of a node, steps down a diagram, and the contract of what adds nodes. Assumes nothing.
 use mathlib.Core.Bool.{Bool, true, false}
 use mathlib.Core.Path.{_≡_}
 use mathlib.Core.List.{List}
@@ -10,21 +10,22 @@ use Rattle.theory.specs.Build.{Built, make}
 use Rattle.theory.specs.Costs.{costs, Cost}
 use Rattle.theory.specs.Diagrams.{Branch, Node}
 use Rattle.theory.specs.WellFormed.{Ok, Under}
-use Rattle.cost_laws.specs.Integers.{Fit, int}
-use Rattle.cost_laws.specs.Range.{addMost}
 use Rattle.cost_laws.specs.Extremes.{Passed, along}
 use Rattle.words.specs.Coding.{branches}
 use Rattle.words.specs.Holding as H
-use Rattle.words.specs.Tab.{tab}
-use Rattle.words.specs.Words.{features, size, sizes, feature, listed}
+use Rattle.words.specs.Words.{listed}
 use Rattle.records.specs.Nodes as R
-use Rattle.cost_words.specs.Kept.{kept}
-use Rattle.cost_words.specs.Sums.{sideOf}
-use Rattle.cost_words.specs.Words.{target, branch, goes, added, code, nodes, wordOf}
+use Rattle.cost_words.specs.Words.{code, wordOf}
 use Rattle.cost_nodes.specs.declared.Found.{Found}
 use Rattle.cost_nodes.specs.declared.Found.the-variants.{At, Missing}
 use Rattle.cost_nodes.specs.declared.Answer.{Answer}
 use Rattle.cost_nodes.specs.declared.Answer.the-variants.{Is, NoRoom}
+use Rattle.promises.specs.Integers.{Fit, int}
+use Rattle.promises.specs.Range.{addMost}
+use Rattle.promises.specs.Tab.{tab}
+use Rattle.promises.specs.Words.{features, size, sizes, feature}
+use Rattle.promises.specs.CostSound.{kept, sideOf}
+use Rattle.promises.specs.CostWords.{target, costBranch as branch, goes, added, costNodes as nodes}
 
 -- ---- the table
 -- how a cost table is read

@@ -20,14 +20,15 @@ ghost use mathlib.Core.Path.{_≡_};
 ghost use Prim.Native.Nat.{ℕ, _+_, _≤_, _<_};
 ghost use lib.IntN.{_-ℤ_};
 ghost use lib.ListN.{length};
-ghost use Rattle.cost_laws.specs.Integers.{Fit, int};
-ghost use Rattle.cost_laws.specs.Range.{addMost};
 ghost use Rattle.cost_laws.specs.Relative.{branchAt};
-ghost use Rattle.words.specs.Words.{features, size, count, listed};
+ghost use Rattle.words.specs.Words.{listed};
 ghost use Rattle.records.specs.Laid.{Laid};
 ghost use Rattle.settings.specs.Tells.{Tells};
-ghost use Rattle.cost_words.specs.Words.{target, branch, nodes, rootAt};
 ghost use Rattle.cost_nodes.specs.Nodes.{Holds, Levelled, AllSame, Finds, Armed, Lowered, Makes, top, Place};
+ghost use Rattle.promises.specs.Integers.{Fit, int};
+ghost use Rattle.promises.specs.Range.{addMost};
+ghost use Rattle.promises.specs.Words.{features, size, count};
+ghost use Rattle.promises.specs.CostWords.{target, costBranch as branch, costNodes as nodes, rootAt};
 
 // The answer of the unique search: where the branch goes that is there, or that its node must be made.
 pub enum Found {

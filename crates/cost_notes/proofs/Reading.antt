@@ -6,23 +6,23 @@ use Prim.Native.Nat.{ℕ, zero, suc, _+_, _≤_, _<_}
 use native.Mathlib.Omega.{arith}
 use lib.IntN.{ℤ, _+ℤ_, _-ℤ_}
 use lib.ListN.{length}
-use Rattle.cost_laws.specs.Integers.{Fit, int}
-use Rattle.cost_laws.specs.Range.{addMost}
 use Rattle.cost_laws.specs.Extremes.{Passed, keptAt}
 use Rattle.cost_laws.proofs.Passing.{own-ext}
-use Rattle.words.specs.Words.{head, features, size, sizes, count, listed}
+use Rattle.words.specs.Words.{listed}
 use Rattle.records.specs.Laid.{Laid}
 use Rattle.notes.specs.Plain.{plain}
 use Rattle.notes.proofs.Alike.{Like, plain-like, like-head, like-sym, like-size, like-record, like-nodes, like-laid, like-holds, plain-grown}
-use Rattle.cost_words.specs.Kept.{kept}
 use Rattle.cost_words.specs.Sides.{Keeps}
-use Rattle.cost_words.specs.Sums.{sideOf}
-use Rattle.cost_words.specs.Words.{target, nodes}
 use Rattle.cost_words.proofs.Reading.{length-nodes}
 use Rattle.cost_words.proofs.Packing.{faithful}
 use Rattle.cost_nodes.specs.Nodes.{Holds, Armed, Makes, top, Place}
 use Rattle.cost_nodes.specs.declared.Answer.{Answer}
 use Rattle.cost_nodes.proofs.Reading.{ok-small}
+use Rattle.promises.specs.Integers.{Fit, int}
+use Rattle.promises.specs.Range.{addMost}
+use Rattle.promises.specs.Words.{head, features, size, sizes, count}
+use Rattle.promises.specs.CostSound.{kept, sideOf}
+use Rattle.promises.specs.CostWords.{target, costNodes as nodes}
 
 -- words alike past the near records
 module _ {w u : List ℕ} (e : Like w u) where

@@ -4,7 +4,7 @@ use mathlib.Core.List.{List, _++_}
 use Prim.Native.Nat.{ℕ, _+_, _*_, _≤_, _<_}
 use native.Mathlib.Omega.{arith}
 use lib.ListN.{length, take, drop}
-use Rattle.words.specs.Words.{capacity, Kept}
+use Rattle.words.specs.Words.{Kept}
 use Rattle.notes.specs.Plain.{Roomy, Resting, Cleared, plain}
 use Rattle.notes.specs.Far.{far, memory, Aside}
 use Rattle.notes.proofs.Plain.{plain-roomy}
@@ -15,6 +15,7 @@ use Rattle.cost_memory.specs.declared.Memo.{Memo}
 use Rattle.cost_memory.specs.declared.Memo.the-variants.{Known}
 use Rattle.cost_memory.proofs.Remembering.{remembers-none, hit, remembers-stored}
 use Rattle.cost_notes.specs.Noted.{Noted}
+use Rattle.promises.specs.Words.{capacity}
 
 -- one result more, in the far records ..
 pub stored-far : (w s ys : List ℕ) (n from k tag x y d z e : ℕ) → Roomy w → n ≡ 16 * capacity w → from ≡ 8192 + n → k ≡ n → length s < n → Stored (take k (drop from w)) ys tag x y d z e

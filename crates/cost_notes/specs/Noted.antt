@@ -1,4 +1,4 @@
--- What a walk remembers, in the scratch or in the far records, is right. Assumes nothing.
+-- Contract between layers: what a walk remembers, in the scratch or in the far records, is right. Assumes nothing.
 use mathlib.Core.List.{List}
 use Prim.Native.Nat.{ℕ}
 use Rattle.notes.specs.Plain.{Roomy, plain}

@@ -15,14 +15,14 @@ use words::wide;
 ghost use mathlib.Core.Path.{_≡_};
 ghost use Prim.Native.Nat.{ℕ, _≤_, _<_};
 ghost use Rattle.cost_laws.specs.Relative.{branchAt};
-ghost use Rattle.words.specs.Words.{features, size, count};
 ghost use Rattle.records.specs.Laid.{Laid};
 ghost use Rattle.notes.specs.Far.{memory, Aside};
 ghost use Rattle.notes.specs.Plain.{Roomy, plain};
 ghost use Rattle.cost_memory.specs.Memory.{Recalls, Stored};
 ghost use Rattle.cost_words.specs.Sides.{Keeps};
-ghost use Rattle.cost_words.specs.Words.{target, branch, nodes};
 ghost use Rattle.cost_nodes.specs.Nodes.{Holds, Armed, Makes, top, Place};
+ghost use Rattle.promises.specs.Words.{features, size, count};
+ghost use Rattle.promises.specs.CostWords.{target, costBranch as branch, costNodes as nodes};
 
 // The lowest feature that one of two targets tests.
 pub fn lowest(t: &[u32], x: u32, y: u32) -> usize

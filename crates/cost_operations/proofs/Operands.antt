@@ -1,5 +1,5 @@
 -- What the calls hand to the engine, and that the cost which they put is the promised one. Assumes nothing.
-use mathlib.Core.Path.{_≡_, sym, ap₂, subst}
+use mathlib.Core.Path.{_≡_, sym, ap, ap₂, subst, _∙_}
 use mathlib.Core.Logic.{⊎-elim}
 use mathlib.Core.List.{List}
 use Prim.Native.Nat.{ℕ, _<_}
@@ -9,33 +9,39 @@ use Rattle.theory.specs.Functions.{Agree}
 use Rattle.theory.specs.Costs.{Cost, costs}
 use Rattle.theory.specs.Diagrams.{Branch, meaning}
 use Rattle.theory.specs.WellFormed.{Ok}
-use Rattle.cost_laws.specs.Integers.{Fit, int}
-use Rattle.cost_laws.specs.Operations.{scaled}
-use Rattle.cost_laws.specs.Range.{Leaves, Within, costMost}
 use Rattle.cost_laws.proofs.Range.{within-stays, within-or-leaves}
 use Rattle.cost_laws.proofs.Spreads.{within-agree}
 use Rattle.cost_laws.proofs.Relative.{offs}
 use Rattle.settings.proofs.Endings.{stop}
+use Rattle.settings.specs.Refusals.{Ends}
 use Rattle.settings.specs.declared.refusals.Refusal.the-variants.{Range}
 use Rattle.settings.specs.declared.refusals.Outcome.{Outcome}
 use Rattle.settings.specs.declared.refusals.Outcome.the-variants.{Refused}
-use Rattle.words.specs.Words.{sizes}
 use Rattle.notes.specs.Plain.{Resting}
-use Rattle.cost_words.specs.Words.{nodes, rootAt, costOf}
+use Rattle.cost_words.proofs.Reading.{at-costs}
 use Rattle.cost_sound.proofs.Pictures.{sound-narrow}
-use Rattle.cost_sound.specs.Sound.{Sound}
 use Rattle.cost_nodes.specs.Nodes.{Result}
 use Rattle.cost_nodes.specs.declared.Answer.{Answer}
-use Rattle.cost_engine.specs.Joint.{together, Joinable}
+use Rattle.cost_engine.specs.Joint.{opOf, together, Joinable}
 use Rattle.cost_engine.specs.declared.operators.Operator.{Operator}
 use Rattle.cost_engine.specs.declared.operators.Operator.the-variants.{Scale}
 use Rattle.cost_notes.specs.Operand.{Operand}
 use Rattle.cost_range.specs.Operable.{Operable, Factored}
 use Rattle.costs.proofs.Sounding.{sound-pos, sound-root}
 use Rattle.costs.proofs.Answering.{write-refused}
+use Rattle.costs.proofs.Edge.{room-ends}
 use Rattle.cost_settling.specs.Settling.{Puts}
 use Rattle.cost_settling.proofs.Settling.{sound-holds, write-pass}
-use Rattle.cost_operations.specs.Joining.{Joins}
+use Rattle.cost_operations.specs.Joining.{put-cases, Joins}
+use Rattle.promises.specs.Integers.{Fit, int}
+use Rattle.promises.specs.CostOperations.{joined, scaled}
+use Rattle.promises.specs.Range.{Leaves, Within, costMost}
+use Rattle.promises.specs.Words.{sizes}
+use Rattle.promises.specs.CostWords.{costNodes as nodes, rootAt}
+use Rattle.promises.specs.CostSound.{CostSound as Sound}
+use Rattle.promises.specs.State.{on}
+use Rattle.promises.specs.Table.{stateOf}
+use Rattle.promises.specs.CostDeeds.{costed, range-cases}
 
 -- ---- the range
 -- costs that agree leave their range together
@@ -87,9 +93,15 @@ module _ {w : List ℕ} (s : Sound w) (o : Operator) (b c : Branch costs) (p q :
   operable hp hq f = record { first = place-operand s p eb hp; second = place-operand s q ec hq; factorIn = f }
 
   -- the joint cost is that of the two places
-  pub places-agree : Agree (sizes w) (together o (meaning (nodes w) b) (meaning (nodes w) c)) (together o (costOf w p) (costOf w q))
-  places-agree t v = ap₂ (λ (x y : Branch costs). together o (meaning (nodes w) x) (meaning (nodes w) y) t) eb ec
+  pub places-agree : p < 16 → q < 16 → Agree (sizes w) (together o (meaning (nodes w) b) (meaning (nodes w) c)) (joined (opOf o) (on (stateOf costed w) p) (on (stateOf costed w) q))
+  places-agree hp hq t v =
+      ap₂ (λ (x y : Branch costs). together o (meaning (nodes w) x) (meaning (nodes w) y) t) eb ec
+      ∙ ap₂ (λ (x y : Cost). together o x y t) (sym (at-costs w p hp)) (sym (at-costs w q hq))
 
 -- scaled by the integer of a word
-pub scale-agrees : (w : List ℕ) (b : Branch costs) (p a : ℕ) (z : ℤ) → b ≡ rootAt w p → int a ≡ z → Agree (sizes w) (together (Scale a) (meaning (nodes w) b) (meaning (nodes w) b)) (scaled z (costOf w p))
-scale-agrees w b p a z eb ea t v = ap₂ (λ (x : Branch costs) (y : ℤ). scaled y (meaning (nodes w) x) t) eb ea
+pub scale-agrees : (w : List ℕ) (b : Branch costs) (p a : ℕ) (z : ℤ) → b ≡ rootAt w p → int a ≡ z → p < 16 → Agree (sizes w) (together (Scale a) (meaning (nodes w) b) (meaning (nodes w) b)) (scaled z (on (stateOf costed w) p))
+scale-agrees w b p a z eb ea h t v = ap₂ (λ (x : Branch costs) (y : ℤ). scaled y (meaning (nodes w) x) t) eb ea ∙ ap (λ (x : Cost). scaled z x t) (sym (at-costs w p h))
+
+-- ---- the refusals of a cost that is worked out: RANGE as it is, NO ROOM by the rests as they are counted
+pub range-ends : (w : List ℕ) (g : Cost) (o : Outcome) → Ends (put-cases g w) o → Ends (range-cases g (stateOf costed w)) o
+range-ends w g o e = (e .0, λ n. room-ends w g o (e .1 n))

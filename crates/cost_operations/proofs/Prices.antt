@@ -1,6 +1,6 @@
--- A price list is made of the words of its prices; how its call ends. Assumes nothing.
-use mathlib.Core.Path.{_≡_, refl, sym, subst, _∙_}
-use mathlib.Core.Logic.{_⊎_, ⊎-elim}
+-- A price list is made of the words of its prices, where it fits a feature. Assumes nothing.
+use mathlib.Core.Path.{_≡_, sym, subst, _∙_}
+use mathlib.Core.Logic.{_⊎_, inl, inr, ⊎-elim}
 use mathlib.Core.List.{List, map}
 use Prim.Native.Nat.{ℕ, suc, _≤_, _<_}
 use native.Mathlib.Omega.{arith}
@@ -11,32 +11,26 @@ use Rattle.theory.specs.Costs.{costs, to-end}
 use Rattle.theory.specs.Diagrams.{Branch, blank}
 use Rattle.theory.specs.WellFormed.{Ok}
 use Rattle.theory.proofs.Lists.{getD-map-in}
-use Rattle.settings.specs.declared.refusals.Refusal.the-variants.{Damaged, BadPlace, BadArgument}
-use Rattle.settings.specs.declared.refusals.Outcome.{Outcome}
-use Rattle.settings.specs.declared.refusals.Outcome.the-variants.{Refused}
-use Rattle.settings.proofs.Endings.{stop, pass}
-use Rattle.cost_laws.specs.Operations.{priced}
-use Rattle.cost_laws.specs.Range.{addMost, costMost}
-use Rattle.cost_laws.specs.Integers.{Fit, int}
 use Rattle.cost_laws.specs.Extremes.{along}
 use Rattle.cost_laws.specs.Narrow.{Narrow}
 use Rattle.cost_laws.proofs.Integers.{fit-minus}
 use Rattle.cost_laws.proofs.Prices.{build-priced}
 use Rattle.words.specs.Holding.{built as builtOf}
-use Rattle.words.specs.Words.{features, size, sizes, listed}
+use Rattle.words.specs.Words.{listed}
 use Rattle.words.proofs.Tab.{length-tab, getD-tab}
 use Rattle.words.proofs.Words.{length-sizes, at-sizes}
-use Rattle.cost_words.specs.Words.{branch, nodes}
 use Rattle.cost_words.proofs.Packing.{target-end}
-use Rattle.cost_words.specs.Kept.{kept}
 use Rattle.cost_nodes.specs.Nodes.{Holds, Makes, Result, Armed, arms}
 use Rattle.cost_nodes.specs.declared.Answer.{Answer}
 use Rattle.cost_nodes.proofs.Reading.{lawful, holds-passed}
-use Rattle.cost_sound.specs.Sound.{Sound}
-use Rattle.costs.proofs.Answering.{write-refused}
-use Rattle.cost_settling.specs.Settling.{Puts}
-use Rattle.cost_settling.proofs.Settling.{write-pass}
-use Rattle.cost_operations.specs.Pricing.{Priced, Prices, Listed, Worded}
+use Rattle.cost_operations.specs.Pricing.{Listed, Worded}
+use Rattle.promises.specs.CostOperations.{priced}
+use Rattle.promises.specs.Range.{addMost, costMost}
+use Rattle.promises.specs.Integers.{Fit, int}
+use Rattle.promises.specs.Words.{features, size, sizes}
+use Rattle.promises.specs.CostWords.{costBranch as branch, costNodes as nodes}
+use Rattle.promises.specs.CostSound.{kept}
+use Rattle.promises.specs.CostDeeds.{Priced}
 
 -- all branches go to the end
 abbrev ends : List ℕ
@@ -75,13 +69,16 @@ module _ (w : List ℕ) (f : ℕ) (l : List ℤ) (a : List ℕ) (ok : Holds w) (
   price-made t o m =
       rw (build-priced (sizes w) (nodes w) (ok .wf) l (lawful .positive w (ok .laid)) f (omega (arith, length-sizes w, d .known)) (d .long ∙ sym (at-sizes w f (d .known)))) (rw branches at m)
 
--- ---- the call's endings, on a sound table and a place of it
-module _ {p f : ℕ} (l : List ℤ) {w : List ℕ} (s : Sound w) (hp : p < 16) where
-  pub price-bad : (features w ≤ f) ⊎ ((length l ≡ size w f → ⊥) ⊎ (Priced l → ⊥)) → Prices p f l w w (Refused BadArgument)
-  price-bad h = write-refused (pass (λ n. n s) (pass (omega arith) (stop h)))
+-- ---- BAD ARGUMENT, of the words and as the promise says it
+module _ (f : ℕ) (l : List ℤ) (w : List ℕ) where
+  abbrev pub Unlisted : Type 0
+  Unlisted = (length (sizes w) ≤ f) ⊎ ((length l ≡ getD (sizes w) f 0 → ⊥) ⊎ (Priced l → ⊥))
 
-  pub price-put : {w′ : List ℕ} {o : Outcome} → Listed f l w → Puts p (priced f l) w w′ o → Prices p f l w w′ o
-  price-put d r =
-      write-pass Damaged (λ n. n s)
-      (write-pass BadPlace (omega arith)
-      (write-pass BadArgument (⊎-elim (λ h. omega (arith, d .known)) (⊎-elim (λ n. n (d .long)) (λ n. n (d .priced)))) (r .puts (priced f l) (λ x v. refl))))
+  pub no-feature : features w ≤ f → Unlisted
+  no-feature h = inl (omega (arith, length-sizes w))
+
+  pub other-length : f < features w → (length l ≡ size w f → ⊥) → Unlisted
+  other-length h n = inr (inl (λ e. n (e ∙ at-sizes w f h)))
+
+  pub listed-good : Listed f l w → Unlisted → ⊥
+  listed-good d = ⊎-elim (λ h. omega (arith, length-sizes w, d .known)) (⊎-elim (λ n. n (d .long ∙ sym (at-sizes w f (d .known)))) (λ n. n (d .priced)))

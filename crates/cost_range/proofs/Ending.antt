@@ -10,21 +10,21 @@ use Rattle.theory.specs.Costs.{Cost}
 use Rattle.theory.specs.Functions.{Agree, held, lift}
 use Rattle.theory.specs.Settings.{Pos, zeros}
 use Rattle.theory.proofs.Ranges.{zeros-valid}
-use Rattle.cost_laws.specs.Extremes.{across, extreme}
-use Rattle.cost_laws.specs.Integers.{Fit, int}
 use Rattle.cost_laws.specs.Narrow.{Spread}
-use Rattle.cost_laws.specs.Operations.{smallerOf, largerOf}
-use Rattle.cost_laws.specs.Range.{Within, addMost}
 use Rattle.cost_laws.proofs.Extremes.{low, high, across-one, across-more, extreme-agree, extreme-cons, extreme-lift, extreme-wait}
 use Rattle.cost_laws.proofs.Integers.{minus-zero}
 use Rattle.cost_laws.proofs.Range.{extreme-fits}
 use Rattle.cost_laws.proofs.Relative.{offs}
 use Rattle.cost_laws.proofs.Spreads.{within-agree, spread-agree, spread-held, spread-lower}
-use Rattle.cost_words.specs.Sums.{Stands, sideOf}
+use Rattle.cost_words.specs.Sums.{Stands}
 use Rattle.cost_words.proofs.Summing.{way}
 use Rattle.cost_range.specs.Ends.{Spans, Reaches, Furthest, Folded}
 use Rattle.cost_range.specs.declared.Ends.{Ends}
 use Rattle.cost_range.specs.declared.Ends.the-variants.{Are, Lost}
+use Rattle.promises.specs.CostSound.{across, extreme, sideOf}
+use Rattle.promises.specs.Integers.{Fit, int}
+use Rattle.promises.specs.CostOperations.{smallerOf, largerOf}
+use Rattle.promises.specs.Range.{Within, addMost}
 
 -- ---- an answer by its case
 pub ends-are : {ns : List ℕ} {f : Cost} {l h : ℕ} (r : Ends) → r ≡ Are l h → Reaches ns f r → Spans ns f l h

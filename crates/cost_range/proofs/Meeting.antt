@@ -11,21 +11,14 @@ use lib.Signed.{_≤ℤ_}
 use Rattle.theory.specs.Costs.{Cost, costs}
 use Rattle.theory.specs.Diagrams.{Target}
 use Rattle.theory.specs.Settings.{Valid}
-use Rattle.cost_laws.specs.Extremes.{extreme, keptAt}
-use Rattle.cost_laws.specs.Integers.{Fit, int}
-use Rattle.cost_laws.specs.Operations.{joined}
-use Rattle.cost_laws.specs.Range.{Within, addMost, costMost}
-use Rattle.cost_laws.specs.Relative.{from}
+use Rattle.cost_laws.specs.Extremes.{keptAt}
 use Rattle.cost_laws.proofs.Extremes.{Taken, extreme-beats, extreme-is, extreme-taken}
 use Rattle.cost_laws.proofs.Integers.{fall-near, le-ℕ, minus-zero, minus-ℕ, rise-near, sum-ℕ, ℕ-le}
 use Rattle.cost_laws.proofs.Passing.{passed-right, kept-fits}
 use Rattle.cost_laws.proofs.Relative.{offs, from-end}
 use Rattle.cost_laws.proofs.Words.{int-ℕ}
-use Rattle.words.specs.Words.{sizes}
-use Rattle.cost_words.specs.Kept.{kept}
 use Rattle.cost_words.specs.Sides.{endOf, Keeps}
-use Rattle.cost_words.specs.Sums.{Stands, sideOf}
-use Rattle.cost_words.specs.Words.{target, nodes}
+use Rattle.cost_words.specs.Sums.{Stands}
 use Rattle.cost_words.proofs.Packing.{target-end}
 use Rattle.cost_words.proofs.Summing.{orderOf, way}
 use Rattle.cost_nodes.specs.Nodes.{Good}
@@ -33,6 +26,12 @@ use Rattle.cost_nodes.proofs.Reading.{pos-from, holds-passed}
 use Rattle.cost_range.specs.Ends.{tieOf, facing, Spans, Reaches, Inside, meeting, Meeting, Pair, ofTargets}
 use Rattle.cost_range.specs.declared.Ends.{Ends}
 use Rattle.cost_range.specs.declared.Ends.the-variants.{Are, Lost}
+use Rattle.promises.specs.CostSound.{extreme, from, kept, sideOf}
+use Rattle.promises.specs.Integers.{Fit, int}
+use Rattle.promises.specs.CostOperations.{joined}
+use Rattle.promises.specs.Range.{Within, addMost, costMost}
+use Rattle.promises.specs.Words.{sizes}
+use Rattle.promises.specs.CostWords.{target, costNodes as nodes}
 
 -- ---- integers
 sum-le : (a b c d : ℤ) → a ≤ℤ b → c ≤ℤ d → (a +ℤ c) ≤ℤ (b +ℤ d)

@@ -6,17 +6,17 @@ use Prim.Native.Nat.{ℕ, _+_, _<_}
 use lib.ListN.{drop}
 use Rattle.theory.specs.Functions.{held}
 use Rattle.cost_laws.specs.Relative.{branchAt}
-use Rattle.words.specs.Words.{features, size, sizes}
 use Rattle.notes.specs.Plain.{Resting, plain}
 use Rattle.notes.specs.Far.{memory}
 use Rattle.notes.proofs.Plain.{plain-of}
 use Rattle.cost_memory.specs.Memory.{Stored}
-use Rattle.cost_words.specs.Words.{target, branch, nodes}
 use Rattle.cost_nodes.specs.Nodes.{Place}
 use Rattle.cost_notes.proofs.Remembering.{noted-stored}
 use Rattle.cost_range.specs.Ends.{Reaches, Pair, ofTargets, ofBranches, Right, Noted}
 use Rattle.cost_range.specs.declared.Ends.{Ends}
 use Rattle.cost_range.proofs.Walking.{first-place, second-place, pair-step, branches-at}
+use Rattle.promises.specs.Words.{features, size, sizes}
+use Rattle.promises.specs.CostWords.{target, costBranch as branch, costNodes as nodes}
 
 -- one result more, right for the table w without notes
 pub noted-more : (minus : Bool) (w t t′ s s′ : List ℕ) (tag x y d l h : ℕ) → plain t ≡ w → plain t′ ≡ plain t → Noted minus t s → Stored (memory t s) (memory t′ s′) tag x y d l h → Right minus w tag x y d l h → Noted minus t′ s′

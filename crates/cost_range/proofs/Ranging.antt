@@ -10,10 +10,7 @@ use lib.IntN.{ℤ, pos, negsuc, _+ℤ_, _*ℤ_}
 use Rattle.theory.specs.Costs.{Cost, costs}
 use Rattle.theory.specs.Diagrams.{Branch, meaning}
 use Rattle.theory.specs.Settings.{Pos}
-use Rattle.cost_laws.specs.Extremes.{extreme, keptAt}
-use Rattle.cost_laws.specs.Integers.{rise, fall, Fit, int}
-use Rattle.cost_laws.specs.Operations.{scaled}
-use Rattle.cost_laws.specs.Range.{Within, addMost, costMost}
+use Rattle.cost_laws.specs.Extremes.{keptAt}
 use Rattle.cost_laws.proofs.Extremes.{low, high, extreme-taken}
 use Rattle.cost_laws.proofs.Integers.{fit-more, rise-near, fall-near}
 use Rattle.cost_laws.proofs.Passing.{place-extreme}
@@ -23,10 +20,6 @@ use Rattle.cost_laws.proofs.Spreads.{within-spread}
 use Rattle.cost_laws.proofs.Words.{int-ℕ}
 use Rattle.settings.specs.Tells.{Tells}
 use Rattle.settings.proofs.Answers.{retell, tells-leb}
-use Rattle.words.specs.Words.{sizes}
-use Rattle.cost_words.specs.Kept.{kept}
-use Rattle.cost_words.specs.Sums.{sideOf}
-use Rattle.cost_words.specs.Words.{target, branch, nodes}
 use Rattle.cost_words.proofs.Summing.{way}
 use Rattle.cost_nodes.proofs.Reading.{pos-from, holds-passed}
 use Rattle.cost_notes.specs.Operand.{Operand}
@@ -38,6 +31,12 @@ use Rattle.cost_range.specs.Ends.{Spans, Reaches, Inside, Pair}
 use Rattle.cost_range.specs.Operable.{Factored, Operable}
 use Rattle.cost_range.specs.declared.Ends.{Ends}
 use Rattle.cost_range.specs.declared.Ends.the-variants.{Are, Lost}
+use Rattle.promises.specs.CostSound.{extreme, kept, sideOf}
+use Rattle.promises.specs.Integers.{rise, fall, Fit, int}
+use Rattle.promises.specs.CostOperations.{scaled}
+use Rattle.promises.specs.Range.{Within, addMost, costMost}
+use Rattle.promises.specs.Words.{sizes}
+use Rattle.promises.specs.CostWords.{target, costBranch as branch, costNodes as nodes}
 
 -- ---- a cost in range has its ends there, and no other has
 module _ (ns : List ℕ) (ps : Pos ns) (f : Cost) where

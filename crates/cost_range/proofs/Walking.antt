@@ -12,13 +12,10 @@ use Rattle.theory.specs.Diagrams.{Branch, value}
 use Rattle.theory.specs.Functions.{Agree, held, lift}
 use Rattle.theory.specs.Settings.{zeros}
 use Rattle.theory.proofs.Values.{value-next}
-use Rattle.cost_laws.specs.Integers.{int}
-use Rattle.cost_laws.specs.Relative.{bare, branchAt}
+use Rattle.cost_laws.specs.Relative.{branchAt}
 use Rattle.cost_laws.proofs.Adding.{Splits, add-splits, subtract-splits, splits-zero, joined-split, pair-wait}
 use Rattle.cost_laws.proofs.Relative.{from-zeros}
-use Rattle.words.specs.Words.{features, size, sizes, count}
 use Rattle.cost_words.specs.Sums.{Stands}
-use Rattle.cost_words.specs.Words.{target, branch, nodes}
 use Rattle.cost_nodes.specs.Nodes.{Holds, top, Place}
 use Rattle.cost_nodes.proofs.Stepping.{good-small, good-top, top-good, top-below, place-next}
 use Rattle.cost_nodes.proofs.Reading.{pos-from, sizes-from}
@@ -27,6 +24,10 @@ use Rattle.cost_range.specs.declared.Ends.{Ends}
 use Rattle.cost_range.specs.declared.Ends.the-variants.{Are, Lost}
 use Rattle.cost_range.proofs.Ending.{reaches-agree, reaches-wait, lost-held, folded-all}
 use Rattle.cost_range.proofs.Ending as E
+use Rattle.promises.specs.Integers.{int}
+use Rattle.promises.specs.CostSound.{bare}
+use Rattle.promises.specs.Words.{features, size, sizes, count}
+use Rattle.promises.specs.CostWords.{target, costBranch as branch, costNodes as nodes}
 
 tie-splits : (minus : Bool) → Splits (tieOf minus)
 tie-splits true = subtract-splits

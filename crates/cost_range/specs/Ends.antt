@@ -1,4 +1,4 @@
--- The lowest and the highest amount of a sum or a difference of two costs, as a walk over pairs of targets finds them. Assumes nothing.
+-- Contract between layers: the lowest and the highest amount of a sum or a difference of two costs, as a walk over pairs of targets finds them. Assumes nothing.
 use mathlib.Core.Bool.{Bool, true, false, not}
 use mathlib.Core.Path.{_≡_}
 use mathlib.Core.List.{List}
@@ -8,21 +8,21 @@ use lib.ListN.{drop}
 use Rattle.theory.specs.Costs.{Cost}
 use Rattle.theory.specs.Diagrams.{value}
 use Rattle.theory.specs.Functions.{held}
-use Rattle.cost_laws.specs.Extremes.{across, extreme, lowestOf, highestOf}
-use Rattle.cost_laws.specs.Integers.{Fit, int}
+use Rattle.cost_laws.specs.Extremes.{lowestOf, highestOf}
 use Rattle.cost_laws.specs.Narrow.{Narrow, Spread}
-use Rattle.cost_laws.specs.Operations.{joined}
-use Rattle.cost_laws.specs.Range.{Within, addMost}
 use Rattle.cost_laws.specs.Relative.{pairFrom}
-use Rattle.words.specs.Words.{features, sizes}
 use Rattle.cost_memory.specs.Memory as M
 use Rattle.cost_notes.specs.Noted as N
 use Rattle.cost_words.specs.Sides.{endOf}
-use Rattle.cost_words.specs.Sums.{sideOf}
-use Rattle.cost_words.specs.Words.{target, branch, nodes}
 use Rattle.cost_nodes.specs.Nodes.{Holds, Good}
 use Rattle.cost_range.specs.declared.Ends.{Ends}
 use Rattle.cost_range.specs.declared.Ends.the-variants.{Are, Lost}
+use Rattle.promises.specs.CostSound.{across, extreme, sideOf}
+use Rattle.promises.specs.Integers.{Fit, int}
+use Rattle.promises.specs.CostOperations.{joined}
+use Rattle.promises.specs.Range.{Within, addMost}
+use Rattle.promises.specs.Words.{features, sizes}
+use Rattle.promises.specs.CostWords.{target, costBranch as branch, costNodes as nodes}
 
 -- the difference of two integers if `minus`, else their sum
 abbrev pub tieOf : Bool → ℤ → ℤ → ℤ

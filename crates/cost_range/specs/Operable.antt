@@ -1,13 +1,13 @@
--- What is asked before the range of a result is told. Assumes nothing.
+-- Contract between layers: what is asked before the range of a result is told. Assumes nothing.
 use mathlib.Core.List.{List}
 use Prim.Native.Nat.{ℕ}
 use Rattle.theory.specs.Costs.{costs}
 use Rattle.theory.specs.Diagrams.{Branch}
-use Rattle.cost_laws.specs.Integers.{Fit, int}
-use Rattle.cost_laws.specs.Range.{costMost}
 use Rattle.cost_notes.specs.Operand.{Operand}
 use Rattle.cost_engine.specs.declared.operators.Operator.{Operator}
 use Rattle.cost_engine.specs.declared.operators.Operator.the-variants.{Add, Subtract, Smaller, Larger, Scale}
+use Rattle.promises.specs.Integers.{Fit, int}
+use Rattle.promises.specs.Range.{costMost}
 
 -- a factor lies in the range of costs
 abbrev pub Factored : Operator → Type 0

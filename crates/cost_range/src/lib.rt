@@ -27,19 +27,19 @@ ghost use Prim.Native.Nat.{_+_, _≤_, _<_};
 ghost use lib.ListN.{drop};
 ghost use lib.IntN.{_*ℤ_};
 ghost use Rattle.theory.specs.Diagrams.{meaning};
-ghost use Rattle.cost_laws.specs.Integers.{rise, fall, Fit, int};
-ghost use Rattle.cost_laws.specs.Operations.{scaled};
-ghost use Rattle.cost_laws.specs.Range.{Within, costMost};
-ghost use Rattle.words.specs.Words.{features, sizes};
 ghost use Rattle.notes.specs.Plain.{Resting, plain};
 ghost use Rattle.settings.specs.Tells.{Tells};
 ghost use Rattle.cost_words.specs.Sides.{endOf};
 ghost use Rattle.cost_words.specs.Sums.{Stands};
-ghost use Rattle.cost_words.specs.Words.{branch, nodes};
 ghost use Rattle.cost_engine.specs.Joint.{together};
 ghost use Rattle.cost_range.specs.Ends.{tieOf, Spans, Reaches, Inside, meeting, Meeting, Pair, ofTargets, ofBranches, Noted, Furthest};
 ghost use Rattle.cost_notes.specs.Operand.{Operand};
 ghost use Rattle.cost_range.specs.Operable.{Operable};
+ghost use Rattle.promises.specs.Integers.{rise, fall, Fit, int};
+ghost use Rattle.promises.specs.CostOperations.{scaled};
+ghost use Rattle.promises.specs.Range.{Within, costMost};
+ghost use Rattle.promises.specs.Words.{features, sizes};
+ghost use Rattle.promises.specs.CostWords.{costBranch as branch, costNodes as nodes};
 
 // The words of the lowest and of the highest amount, or that no base brings all amounts into range.
 enum Ends {

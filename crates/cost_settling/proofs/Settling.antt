@@ -8,24 +8,24 @@ use Rattle.theory.specs.Functions.{Agree}
 use Rattle.settings.specs.declared.refusals.Refusal.the-variants.{NoRoom}
 use Rattle.settings.specs.declared.refusals.Outcome.{Outcome}
 use Rattle.settings.specs.declared.refusals.Outcome.the-variants.{Taken, Refused}
-use Rattle.words.specs.Words.{count, sizes}
 use Rattle.records.specs.Changes.{Rolled}
 use Rattle.calls.proofs.Settling as C
 use Rattle.calls.proofs.Sounding.{tested-holds}
 pub use Rattle.calls.proofs.Theorems.{puts-agree, write-pass}
-use Rattle.cost_laws.specs.Range.{Within, costMost}
 use Rattle.cost_laws.proofs.Spreads.{within-agree}
-use Rattle.cost_words.specs.Words.{branch, nodes}
 use Rattle.cost_words.specs.Picture.{Becomes}
 use Rattle.cost_nodes.specs.Nodes.{Holds, Result, told}
 use Rattle.cost_nodes.specs.declared.Answer.{Answer}
 use Rattle.cost_nodes.specs.declared.Answer.the-variants.{Is, NoRoom as Full}
 use Rattle.cost_nodes.proofs.Filling.{result-mean}
-use Rattle.cost_sound.specs.Sound.{Sound}
 use Rattle.cost_sound.proofs.Reading.{read}
 use Rattle.cost_sound.proofs.Pictures.{sound-tested}
 use Rattle.cost_collect.proofs.Forming.{regular}
 use Rattle.cost_settling.specs.Settling.{Exceeds, Puts, Asks, Settled}
+use Rattle.promises.specs.Words.{count, sizes}
+use Rattle.promises.specs.Range.{Within, costMost}
+use Rattle.promises.specs.CostWords.{costBranch as branch, costNodes as nodes}
+use Rattle.promises.specs.CostSound.{CostSound as Sound}
 
 -- a sound table can be built onto
 pub sound-holds : {w : List ℕ} → Sound w → Holds w

@@ -1,20 +1,21 @@
--- NO ROOM, and the end of every call that builds. Assumes nothing.
+-- Contract between layers: NO ROOM, and the end of every call that builds. Assumes nothing.
 use mathlib.Core.List.{List}
 use Prim.Native.Nat.{ℕ, _≤_, _<_}
 use Rattle.theory.specs.Costs.{Cost}
 use Rattle.theory.specs.Diagrams.{meaning}
 use Rattle.theory.specs.WellFormed.{Ok}
 use Rattle.settings.specs.declared.refusals.Outcome.{Outcome}
-use Rattle.words.specs.Words.{count, sizes}
 use Rattle.records.specs.Laid.{Laid}
 use Rattle.calls.specs.Writing as C
-use Rattle.cost_laws.specs.Range.{Within, costMost}
-use Rattle.cost_words.specs.Words.{branch, code, nodes}
+use Rattle.cost_words.specs.Words.{code}
 use Rattle.cost_words.specs.Picture.{drawing}
 use Rattle.cost_nodes.specs.Nodes.{told}
 use Rattle.cost_nodes.specs.declared.Answer.{Answer}
 use Rattle.cost_nodes.specs.declared.Answer.the-variants.{Is, NoRoom as Full}
 use Rattle.cost_collect.specs.Tidy.{Untidy}
+use Rattle.promises.specs.Words.{count, sizes}
+use Rattle.promises.specs.Range.{Within, costMost}
+use Rattle.promises.specs.CostWords.{costBranch as branch, costNodes as nodes}
 
 -- NO ROOM: the distinct rests of all places of the table before the call with those of the result exceed its capacity
 abbrev pub Exceeds : List ℕ → Cost → Type 0

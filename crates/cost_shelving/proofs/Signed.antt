@@ -9,9 +9,9 @@ use lib.Signed.{ltZ, nonNeg, yes-nonNeg}
 use mir.Syntax.{w64}
 use mir.Val.{Fits, SFits, toZ, ofZ}
 use mir.Facts.{toZ-ofZ, fits-natAbs}
-use Rattle.cost_laws.specs.Integers.{rise}
 use Rattle.cost_laws.proofs.Integers.{minus-ℕ, minus-rise, minus-fall, test-lt, test-le, rise-near, fall-near, ℕ-le}
 use Rattle.cost_laws.proofs.Words.{fits-signed, signed-small}
+use Rattle.promises.specs.Integers.{rise}
 
 -- 0 less a size below 2^63
 pub turned-size : (n : ℕ) → n < 2 ^ 63 → SFits w64 (pos 0 -ℤ toZ w64 n)

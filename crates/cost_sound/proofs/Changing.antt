@@ -8,14 +8,14 @@ use lib.Seq.{getD-set-same, getD-set-other}
 use Rattle.theory.specs.Costs.{costs}
 use Rattle.theory.specs.Diagrams.{Node}
 use Rattle.words.specs.Coding.{nodeAt, nodes}
-use Rattle.words.specs.Tab.{tab}
-use Rattle.words.specs.Words.{head, word, features, size, count, sizes, feature, body}
 use Rattle.words.proofs.Coding.{node-is}
 use Rattle.words.proofs.Tab.{tab-ext}
 use Rattle.cost_words.specs.Words.{code, pairWord}
 use Rattle.cost_words.proofs.Packing.{faithful}
 use Rattle.cost_words.proofs.Pairing.{pairs-spared}
-use Rattle.cost_sound.specs.Sound.{Sound}
+use Rattle.promises.specs.Tab.{tab}
+use Rattle.promises.specs.Words.{nodesBy, head, word, features, size, count, sizes, feature, body}
+use Rattle.promises.specs.CostSound.{CostSound as Sound}
 
 module _ (w : List ℕ) (s : Sound w) (i j x : ℕ) (hi : i < count w) (hj : j < 2) where
   -- the words with x in the place of spare word j of node i
@@ -40,7 +40,7 @@ module _ (w : List ℕ) (s : Sound w) (i j x : ℕ) (hi : i < count w) (hj : j <
   changed-sizes = ap (tab (size changed)) (changed-head 2 (omega arith)) ∙ tab-ext (size changed) (size w) (features w) (λ k h. changed-head (3 + k) (omega (arith, s .header .few)))
 
   changed-nodes : nodes code changed ≡ nodes code w
-  unfolding nodes
+  unfolding nodesBy
   changed-nodes =
       ap (tab (nodeAt code changed)) (changed-head 19 (omega arith))
       ∙ tab-ext (nodeAt code changed) (nodeAt code w) (count w)

@@ -17,17 +17,14 @@ use Rattle.theory.proofs.Lists.{pos-drop}
 use Rattle.theory.proofs.Ranges.{features-pos, zeros-valid}
 use Rattle.theory.proofs.Tables.{table-mean, table-wf}
 use Rattle.theory.proofs.Values.{value-split}
-use Rattle.cost_laws.specs.Integers.{Fit, bias, int}
 use Rattle.cost_laws.specs.Narrow.{Narrow}
-use Rattle.cost_laws.specs.Range.{Within, addMost, costMost}
 use Rattle.cost_laws.proofs.Bounds as B
 use Rattle.cost_laws.proofs.Narrow.{table-narrow}
 use Rattle.cost_laws.proofs.Relative.{from-zeros}
 use Rattle.cost_laws.proofs.Spreads.{within-spread}
 use Rattle.cost_laws.proofs.Words.{int-one}
-use Rattle.words.specs.Words.{head, capacity, size, count, sizes, feature, body}
 use Rattle.words.proofs.Words.{at-sizes}
-use Rattle.cost_words.specs.Words.{targetWord, branch, added, Padded, nodes, rootAt, roots, costOf, costsOf}
+use Rattle.cost_words.specs.Words.{targetWord}
 use Rattle.cost_words.specs.Picture.{goesOf, addedOf, bodyOf, Pictures, Proper, IsTable}
 use Rattle.cost_words.proofs.Packing.{int-zero, word-branch, packed-goes, packed-added}
 use Rattle.cost_words.proofs.Reading.{length-nodes, at-nodes, branch-at, at-costs}
@@ -35,9 +32,13 @@ use Rattle.cost_words.proofs.Pairing.{spared-pairs}
 use Rattle.cost_words.proofs.Showing.{Small, body-says, root-shows, base-shows, added-past}
 use Rattle.checks.proofs.Pictures as C
 use Rattle.checks.proofs.Pictures.{Tested}
-use Rattle.cost_sound.specs.Sound.{Ranged, Sound}
 use Rattle.cost_sound.specs.Walk.{going}
 use Rattle.cost_sound.proofs.Reading.{reading, read, sound-shaped, shaped-tested, sizes-pos, ranged-narrow}
+use Rattle.promises.specs.Integers.{Fit, bias, int}
+use Rattle.promises.specs.Range.{Within, addMost, costMost}
+use Rattle.promises.specs.Words.{head, capacity, size, count, sizes, feature, body}
+use Rattle.promises.specs.CostWords.{costBranch as branch, added, Padded, costNodes as nodes, rootAt, costRoots as roots, costOf, costsOf}
+use Rattle.promises.specs.CostSound.{Ranged, CostSound as Sound}
 
 -- ---- a sound table is tested, and a tested table of costs in range is sound
 pub sound-tested : {w : List ℕ} → Sound w → Tested reading w

@@ -16,21 +16,16 @@ use Rattle.theory.specs.Settings.{Pos}
 use Rattle.theory.specs.WellFormed.{Ok, WF}
 use Rattle.theory.specs.Costs.{costs}
 use Rattle.theory.proofs.Lists.{pos-drop}
-use Rattle.cost_laws.specs.Integers.{rise, fall, Fit, int}
-use Rattle.cost_laws.specs.Range.{Within, addMost, costMost}
-use Rattle.cost_laws.specs.Extremes.{across, along, extreme, keptAt, own, Passed}
+use Rattle.cost_laws.specs.Extremes.{along, keptAt, own, Passed}
 use Rattle.cost_laws.proofs.Extremes.{across-ext}
 use Rattle.cost_laws.proofs.Integers.{rise-near, fall-near}
 use Rattle.cost_laws.proofs.Passing.{passed-none, along-fits, place-extreme}
 use Rattle.cost_laws.proofs.Range.{within-exactly}
 use Rattle.cost_laws.proofs.Words.{int-one, words-sum}
-use Rattle.words.specs.Words.{features, size, count, sizes, feature, body, listed, word}
+use Rattle.words.specs.Words.{listed}
 use Rattle.words.proofs.Tab.{split}
 use Rattle.words.proofs.Words.{length-sizes, at-sizes}
-use Rattle.cost_words.specs.Kept.{kept, Pairs}
 use Rattle.cost_words.specs.Sides.{endOf, Keeps, armSum, Bodied, Sides}
-use Rattle.cost_words.specs.Sums.{sideOf}
-use Rattle.cost_words.specs.Words.{target, branch, goes, added, nodes, root, base, rootAt, costOf}
 use Rattle.cost_words.proofs.Packing.{target-one, faithful}
 use Rattle.cost_words.proofs.Pairing.{pairs-passed, passed-pairs}
 use Rattle.cost_words.proofs.Summing.{way}
@@ -39,10 +34,14 @@ use Rattle.settings.specs.Tells.{Tells}
 use Rattle.settings.proofs.Answers.{tells-leb}
 use Rattle.checks.proofs.Pictures.{Tested}
 use Rattle.checks.proofs.Sitting.{sits-good}
-use Rattle.cost_sound.specs.Sound.{Sound}
 use Rattle.cost_sound.specs.Paired.{Shaped, Passes, Owns}
 use Rattle.cost_sound.proofs.Sitting.{goes-on}
 use Rattle.cost_sound.proofs.Reading.{reading, sound-shaped, shaped-tested, shaped-wf, sizes-pos, ranged-narrow}
+use Rattle.promises.specs.Integers.{rise, fall, Fit, int}
+use Rattle.promises.specs.Range.{Within, addMost, costMost}
+use Rattle.promises.specs.CostSound.{across, extreme, kept, Pairs, sideOf, CostSound as Sound}
+use Rattle.promises.specs.Words.{features, size, count, sizes, feature, body, word}
+use Rattle.promises.specs.CostWords.{target, costBranch as branch, goes, added, costNodes as nodes, costRoot as root, costBase as base, rootAt, costOf}
 
 -- a test that may end early, turned round by `!`
 pub passes-no : (w : List ℕ) (P : Type 0) (r : Bool) → not r ≡ true → Passes r w P → Sound w → ⊥

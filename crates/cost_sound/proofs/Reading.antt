@@ -9,27 +9,27 @@ use Rattle.theory.specs.Diagrams.{Branch, Node}
 use Rattle.theory.specs.Costs.{costs}
 use Rattle.cost_laws.specs.Integers.{wordFor}
 use Rattle.cost_laws.specs.Narrow.{Spread, Narrow}
-use Rattle.cost_laws.specs.Range.{addMost, costMost}
 use Rattle.cost_laws.proofs.Narrow.{table-narrow}
 use Rattle.cost_laws.proofs.Spreads.{within-spread}
-use Rattle.words.specs.Words.{head, sizes}
 use Rattle.words.proofs.Tab.{split}
 use Rattle.words.proofs.Words.{pos-sizes}
-use Rattle.cost_words.specs.Words.{targetWord, nodes, root, base, rootAt, roots, costsOf}
+use Rattle.cost_words.specs.Words.{targetWord}
 use Rattle.cost_words.specs.Picture.{rootOf, drawing}
 use Rattle.cost_words.proofs.Packing.{target-word, word-int, faithful}
-use Rattle.cost_words.specs.Kept.{Pairs}
 use Rattle.cost_words.proofs.Pairing.{pairs-spared}
 use Rattle.cost_words.proofs.Reading.{length-roots, at-roots, length-costs, at-costs}
 use Rattle.cost_words.proofs.Showing.{body-shows, root-shows, base-shows}
-use Rattle.checks.specs.Header.{Header}
 use Rattle.checks.proofs.Pictures.{Reading, Read, Tested, tested-table}
 use Rattle.checks.proofs.Sitting.{nodes-wf}
 use Rattle.theory.specs.WellFormed.{WF}
-use Rattle.cost_sound.specs.Sound.{Ranged, Sound}
 use Rattle.cost_sound.specs.Walk.{going}
 use Rattle.cost_sound.specs.Paired.{Shaped}
 use Rattle.cost_sound.proofs.Sitting.{goes-on, node-fits}
+use Rattle.promises.specs.Range.{addMost, costMost}
+use Rattle.promises.specs.Words.{head, sizes}
+use Rattle.promises.specs.CostWords.{costNodes as nodes, costRoot as root, costBase as base, rootAt, costRoots as roots, costsOf}
+use Rattle.promises.specs.CostSound.{Pairs, Ranged, CostSound as Sound}
+use Rattle.promises.specs.Sound.{Header}
 
 abbrev pub reading : Reading costs
 reading = record { going = going; drawing = drawing; rootAt = rootAt; roots = roots }

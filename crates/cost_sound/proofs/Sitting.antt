@@ -6,15 +6,16 @@ use native.Mathlib.Omega.{arith}
 use Rattle.theory.specs.WellFormed.{WF}
 use Rattle.theory.specs.Costs.{costs}
 use Rattle.theory.specs.Diagrams.{Branch}
-use Rattle.cost_laws.specs.Integers.{int}
 use Rattle.cost_laws.proofs.Words.{int-one}
-use Rattle.words.specs.Words.{size, count, sizes, feature, body}
-use Rattle.cost_words.specs.Words.{goes, added, nodes}
 use Rattle.cost_words.proofs.Packing.{target-end, target-node, target-one, int-zero, faithful}
 use Rattle.checks.specs.Walk.{Goes}
 use Rattle.checks.proofs.Sitting.{NodeFits, nodes-wf, sits-more}
-use Rattle.cost_sound.specs.Sound.{Sits, NodeOk}
+use Rattle.cost_sound.specs.Sound.{Sits}
 use Rattle.cost_sound.specs.Walk.{going, Ordered}
+use Rattle.promises.specs.Integers.{int}
+use Rattle.promises.specs.Words.{size, count, sizes, feature, body}
+use Rattle.promises.specs.CostWords.{goes, added, costNodes as nodes}
+use Rattle.promises.specs.CostSound.{CostNodeOk as NodeOk}
 
 pub goes-on : Goes going
 goes-on =

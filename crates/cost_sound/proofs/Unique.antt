@@ -5,13 +5,14 @@ use Prim.Native.Nat.{ℕ, _≤_, _<_}
 use lib.ListN.{length, getD}
 use Rattle.theory.specs.Functions.{Agree, zero-fun}
 use Rattle.theory.specs.Costs.{Cost}
-use Rattle.words.specs.Words.{kind, capacity, sizes, bound}
+use Rattle.words.specs.Words.{kind}
 use Rattle.words.proofs.Picture as P
 use Rattle.words.proofs.Picture.{shows-ext}
-use Rattle.cost_words.specs.Words.{costsOf}
 use Rattle.cost_words.specs.Picture.{Pictures}
-use Rattle.cost_sound.specs.Sound.{Sound}
 use Rattle.cost_sound.proofs.Pictures.{sound-pictures, sound-proper, picture-sound, picture-costs}
+use Rattle.promises.specs.Words.{capacity, sizes, bound}
+use Rattle.promises.specs.CostWords.{costsOf}
+use Rattle.promises.specs.CostSound.{CostSound as Sound}
 
 -- THEOREM: the kind word is 2, that of a sound rule table 1
 pub sound-kind : {w : List ℕ} → Sound w → kind w ≡ 2

@@ -4,15 +4,15 @@ use mathlib.Core.List.{List}
 use Prim.Native.Nat.{ℕ, _<_}
 use native.Mathlib.Nat.{le-refl}
 use Rattle.theory.specs.Walk.{scan}
-use Rattle.words.specs.Tab.{tab}
-use Rattle.words.specs.Words.{count, sizes}
-use Rattle.cost_words.specs.Words.{nodes, root, rootAt, roots}
 use Rattle.checks.specs.Walk.{Says}
 use Rattle.checks.proofs.Sitting.{sits-good}
 use Rattle.checks.proofs.Walking as C
-use Rattle.cost_sound.specs.Sound.{Rooted}
 use Rattle.cost_sound.specs.Walk.{Visits}
 use Rattle.cost_sound.proofs.Sitting.{goes-on}
+use Rattle.promises.specs.Tab.{tab}
+use Rattle.promises.specs.Words.{count, sizes}
+use Rattle.promises.specs.CostWords.{costNodes as nodes, costRoot as root, rootAt, costRoots as roots}
+use Rattle.promises.specs.CostSound.{CostRooted as Rooted}
 
 pub says-root : {w : List ℕ} {b d r : ℕ} → Rooted w → (p : ℕ) → p < 16 → b ≡ root w p → Visits w b d r → Says (count w) r (scan (nodes w) 0 (sizes w) (rootAt w p .to) d)
 says-root {w} {b} {d} {r} o p h e s =

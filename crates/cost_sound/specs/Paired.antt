@@ -1,4 +1,4 @@
--- How the pairs are tested: each node's from its branches and the pairs of earlier nodes. Assumes nothing.
+-- Contract between layers: how the pairs are tested: each node's from its branches and the pairs of earlier nodes. Assumes nothing.
 use mathlib.Core.Bool.{Bool, true, false}
 use mathlib.Core.Path.{_≡_}
 use mathlib.Core.List.{List}
@@ -7,13 +7,10 @@ use Prim.Native.Nat.{ℕ}
 use Rattle.theory.specs.Diagrams.{at}
 use Rattle.theory.specs.Walk.{scan, scans}
 use Rattle.cost_laws.specs.Extremes.{own}
-use Rattle.words.specs.Words.{count, sizes}
-use Rattle.cost_words.specs.Kept.{kept}
-use Rattle.cost_words.specs.Sums.{sideOf}
-use Rattle.cost_words.specs.Words.{nodes, roots}
-use Rattle.checks.specs.Header.{Header}
-use Rattle.checks.specs.Chained.{Chained}
-use Rattle.cost_sound.specs.Sound.{Nodes, Rooted, Sound}
+use Rattle.promises.specs.Words.{count, sizes}
+use Rattle.promises.specs.CostSound.{kept, sideOf, CostNodesOk as Nodes, CostRooted as Rooted, CostSound as Sound}
+use Rattle.promises.specs.CostWords.{costNodes as nodes, costRoots as roots}
+use Rattle.promises.specs.Sound.{Header, Chained}
 
 -- what is tested before the pairs and the range
 pub record Shaped (w : List ℕ) : Type 0 where

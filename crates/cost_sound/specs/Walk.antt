@@ -1,12 +1,12 @@
--- What the walk of the soundness test of a cost table answers: how many nodes are done, or that one was not met in its turn. Assumes nothing.
+-- Contract between layers: what the walk of the soundness test of a cost table answers: how many nodes are done, or that one was not met in its turn. Assumes nothing.
 use mathlib.Core.List.{List}
 use Prim.Native.Nat.{ℕ}
 use Rattle.theory.specs.Costs.{costs}
-use Rattle.cost_words.specs.Words.{target, goes, code}
-use Rattle.checks.specs.Header.{Header}
-use Rattle.checks.specs.Chained.{Chained}
+use Rattle.cost_words.specs.Words.{code}
 use Rattle.checks.specs.Walk as W
-use Rattle.cost_sound.specs.Sound.{Nodes}
+use Rattle.promises.specs.CostWords.{target, goes}
+use Rattle.promises.specs.Sound.{Header, Chained}
+use Rattle.promises.specs.CostSound.{CostNodesOk as Nodes}
 
 -- a half word for each branch; from 1 on it says a node
 abbrev pub going : W.Going costs

@@ -5,11 +5,8 @@ ghost use mathlib.Core.Path.{_≡_};
 ghost use mathlib.Core.Option.{some};
 ghost use Prim.Native.Nat.{_≤_, _<_};
 ghost use Rattle.theory.specs.Walk.{scan, scans};
-ghost use Rattle.words.specs.Words.{features, count, sizes, feature, body};
-ghost use Rattle.cost_words.specs.Words.{Padded, nodes, roots};
 ghost use Rattle.settings.specs.Tells.{Tells};
-ghost use Rattle.checks.specs.Header.{Header};
-ghost use Rattle.cost_sound.specs.Sound.{Sits, Lower, Adds, Alike, NodeOk, Nodes, Rooted, Sound};
+ghost use Rattle.cost_sound.specs.Sound.{Sits};
 ghost use Rattle.cost_sound.specs.Walk.{Ordered, Visits, VisitsAll};
 use checks::chains_ok;
 use checks::header_ok;
@@ -22,6 +19,10 @@ use range::places_ok;
 use words::head_word;
 use words::record_word;
 use words::wide;
+ghost use Rattle.promises.specs.Words.{features, count, sizes, feature, body};
+ghost use Rattle.promises.specs.CostWords.{Padded, costNodes as nodes, costRoots as roots};
+ghost use Rattle.promises.specs.Sound.{Header};
+ghost use Rattle.promises.specs.CostSound.{CostLower as Lower, CostAdds as Adds, CostAlike as Alike, CostNodeOk as NodeOk, CostNodesOk as Nodes, CostRooted as Rooted, CostSound as Sound};
 
 // Whether each branch of node i goes to the end or to an earlier node of a higher feature.
 fn lower(t: &[u32], i: usize) -> bool

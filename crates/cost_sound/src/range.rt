@@ -1,12 +1,7 @@
 // Whether the pair that is kept for each node is the lowest and the highest sum below it, and the costs lie in their range.
 // Branches go to earlier nodes, so a node's pair is tested against those before it, and no memory is needed.
 ghost use Prim.Native.Nat.{_<_};
-ghost use Rattle.cost_laws.specs.Range.{Within, costMost};
-ghost use Rattle.words.specs.Words.{count, sizes};
-ghost use Rattle.cost_words.specs.Kept.{Pairs};
-ghost use Rattle.cost_words.specs.Words.{costOf};
 ghost use Rattle.settings.specs.Tells.{Tells};
-ghost use Rattle.cost_sound.specs.Sound.{Ranged};
 ghost use Rattle.cost_sound.specs.Paired.{Shaped, Passes, Owns};
 use cost_words::base_word;
 use cost_words::kept_span;
@@ -16,6 +11,10 @@ use words::body_of;
 use words::head_word;
 use words::record_word;
 use words::wide;
+ghost use Rattle.promises.specs.Range.{Within, costMost};
+ghost use Rattle.promises.specs.Words.{count, sizes};
+ghost use Rattle.promises.specs.CostSound.{Pairs, Ranged};
+ghost use Rattle.promises.specs.CostWords.{costOf};
 
 // Whether what is kept for node i is its own. A sum outside ±2,000,000,000 ends the test: no sound table has one.
 fn own_ok(t: &[u32], i: usize) -> bool

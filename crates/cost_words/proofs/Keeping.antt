@@ -6,16 +6,17 @@ use Prim.Native.Nat.{ℕ, zero, suc, _+_, _-_, _<_}
 use native.Mathlib.Numerals.{add-one}
 use native.Mathlib.Omega.{arith}
 use lib.IntN.{ℤ, _+ℤ_}
-use Rattle.cost_laws.specs.Integers.{Fit, int}
-use Rattle.cost_laws.specs.Range.{addMost}
-use Rattle.cost_laws.specs.Extremes.{across, keptAt}
+use Rattle.cost_laws.specs.Extremes.{keptAt}
 use Rattle.cost_laws.proofs.Extremes.{across-one, across-more}
-use Rattle.words.specs.Words.{listed, word}
-use Rattle.cost_words.specs.Kept.{kept}
+use Rattle.words.specs.Words.{listed}
 use Rattle.cost_words.specs.Sides.{endOf, Keeps, Wider, armSum, ArmSums, Sides}
-use Rattle.cost_words.specs.Sums.{Stands, sideOf}
-use Rattle.cost_words.specs.Words.{target, goes, added}
+use Rattle.cost_words.specs.Sums.{Stands}
 use Rattle.cost_words.proofs.Packing.{target-end, target-node, int-zero}
+use Rattle.promises.specs.Integers.{Fit, int}
+use Rattle.promises.specs.Range.{addMost}
+use Rattle.promises.specs.CostSound.{across, kept, sideOf}
+use Rattle.promises.specs.Words.{word}
+use Rattle.promises.specs.CostWords.{target, goes, added}
 
 -- what holds of both words
 both : (P : Bool → ℕ → Type 0) (a b : ℕ) → P false a → P true b → (up : Bool) → P up (endOf up a b)

@@ -9,14 +9,16 @@ use lib.IntN.{pos}
 use Rattle.theory.specs.Costs.{costs}
 use Rattle.theory.specs.Copying.{Twin}
 use Rattle.theory.specs.Diagrams.{Branch, Node, Target, leaf, node}
-use Rattle.cost_laws.specs.Integers.{fall, bias, int, wordFor}
-use Rattle.cost_laws.specs.Operations.{smallerOf, largerOf}
+use Rattle.cost_laws.specs.Integers.{wordFor}
 use Rattle.cost_laws.proofs.Growing.{sum-copied}
 use Rattle.cost_laws.proofs.Integers.{ℕ-eq, minus-fall}
 use Rattle.cost_laws.proofs.Words.{int-ℕ, int-one, int-word, signed-word}
 use Rattle.words.specs.Coding.{Faithful}
 use Rattle.words.proofs.Tab.{split, same}
-use Rattle.cost_words.specs.Words.{target, targetWord, branch, half, goes, added, Padded, code, packed, pairWord}
+use Rattle.cost_words.specs.Words.{targetWord, code, packed, pairWord}
+use Rattle.promises.specs.Integers.{fall, bias, int}
+use Rattle.promises.specs.CostOperations.{smallerOf, largerOf}
+use Rattle.promises.specs.CostWords.{target, costBranch as branch, half, goes, added, Padded}
 
 -- ---- targets
 pub target-end : (x : ℕ) → x ≡ 0 → target x ≡ leaf tt

@@ -13,23 +13,23 @@ use Rattle.theory.specs.Diagrams.{Node, empty}
 use Rattle.theory.specs.Settings.{Pos}
 use Rattle.theory.specs.WellFormed.{WF}
 use Rattle.theory.proofs.WellFormed.{length-snoc}
-use Rattle.cost_laws.specs.Integers.{int, wordFor}
-use Rattle.cost_laws.specs.Operations.{smallerOf, largerOf}
-use Rattle.cost_laws.specs.Range.{addMost}
+use Rattle.cost_laws.specs.Integers.{wordFor}
 use Rattle.cost_laws.specs.Extremes.{Passed, own}
 use Rattle.cost_laws.specs.Narrow.{Narrow}
-use Rattle.cost_laws.specs.Below.{sumBelow}
 use Rattle.cost_laws.proofs.Growing.{passed-longer}
 use Rattle.cost_laws.proofs.Owning.{own-right, passed-sum, sum-passed, sum-fits}
 use Rattle.cost_laws.proofs.Words.{int-word}
 use Rattle.words.specs.Coding.{Spared}
-use Rattle.words.specs.Words.{sizes, count, word}
 use Rattle.words.proofs.Coding.{length-nodes}
-use Rattle.cost_words.specs.Kept.{kept, Pairs}
-use Rattle.cost_words.specs.Sums.{sideOf}
-use Rattle.cost_words.specs.Words.{code, nodes, pairWord}
+use Rattle.cost_words.specs.Words.{code, pairWord}
 use Rattle.cost_words.proofs.Packing.{word-int}
 use Rattle.cost_words.proofs.Summing.{way}
+use Rattle.promises.specs.Integers.{int}
+use Rattle.promises.specs.CostOperations.{smallerOf, largerOf}
+use Rattle.promises.specs.Range.{addMost}
+use Rattle.promises.specs.CostSound.{sumBelow, kept, Pairs, sideOf}
+use Rattle.promises.specs.Words.{sizes, count, word}
+use Rattle.promises.specs.CostWords.{costNodes as nodes}
 
 -- right pairs are the spare words that the nodes decide
 pub pairs-spared : (w : List ℕ) → Pairs w → Spared code w

@@ -8,10 +8,11 @@ use Rattle.theory.specs.Costs.{costs}
 use Rattle.theory.specs.Diagrams.{Node, at, blank}
 use Rattle.theory.specs.Functions.{zero-fun}
 use Rattle.theory.specs.WellFormed.{Under}
-use Rattle.words.specs.Words.{count, size, feature, body}
 use Rattle.words.proofs.Coding as C
 use Rattle.words.proofs.Tab.{length-tab, getD-tab}
-use Rattle.cost_words.specs.Words.{target, branch, goes, added, code, nodeAt, nodes, rootAt, roots, costOf, costsOf}
+use Rattle.cost_words.specs.Words.{code, nodeAt}
+use Rattle.promises.specs.Words.{count, size, feature, body}
+use Rattle.promises.specs.CostWords.{target, costBranch as branch, goes, added, costNodes as nodes, rootAt, costRoots as roots, costOf, costsOf}
 
 pub length-nodes : (w : List ℕ) → length (nodes w) ≡ count w
 length-nodes w = C.length-nodes code w

@@ -8,15 +8,17 @@ use borrow.Author.Tests.{lt-ltb, le-ltb}
 use lib.ListN.{length, getD}
 use Rattle.theory.specs.Costs.{costs}
 use Rattle.theory.specs.Diagrams.{Branch, Node, at, blank}
-use Rattle.cost_laws.specs.Integers.{fall, bias, wordFor}
-use Rattle.words.specs.Words.{count, size, feature, body, hashAt}
+use Rattle.cost_laws.specs.Integers.{wordFor}
 use Rattle.words.proofs.Coding.{past-at}
 use Rattle.words.proofs.Picture.{hash-shown}
 use Rattle.words.proofs.Tab.{split, length-tab}
-use Rattle.cost_words.specs.Words.{targetWord, branch, goes, added, Padded, code, nodes}
+use Rattle.cost_words.specs.Words.{targetWord, code}
 use Rattle.cost_words.specs.Picture.{goesOf, addedOf, bodyOf, rootOf, drawing, nodeHash}
 use Rattle.cost_words.proofs.Packing.{target-word, word-int, word-branch, packed-self, packed-ext, packed-goes, packed-added}
 use Rattle.cost_words.proofs.Reading.{at-nodes, branch-at}
+use Rattle.promises.specs.Integers.{fall, bias}
+use Rattle.promises.specs.Words.{count, size, feature, body, hashAt}
+use Rattle.promises.specs.CostWords.{costBranch as branch, goes, added, Padded, costNodes as nodes}
 
 -- ---- the words of a node
 pub added-in : (x : Node costs) (v : ℕ) → v < length (x .branches) → addedOf x v ≡ wordFor (getD (x .branches) v blank .adds)

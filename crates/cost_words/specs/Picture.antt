@@ -1,15 +1,17 @@
--- The picture of 16 costs: a cost table at rest. Assumes nothing.
+-- Contract between layers: the picture of 16 costs: a cost table at rest. Assumes nothing.
 use mathlib.Core.List.{List}
 use Prim.Native.Nat.{ℕ, _-_}
 use lib.Dec.{ltb}
 use lib.ListN.{length, getD}
 use Rattle.theory.specs.Costs.{costs, Cost}
 use Rattle.theory.specs.Diagrams.{Branch, Node, blank}
-use Rattle.cost_laws.specs.Integers.{Fit, wordFor}
-use Rattle.cost_laws.specs.Range.{costMost}
-use Rattle.words.specs.Words.{pick}
+use Rattle.cost_laws.specs.Integers.{wordFor}
 use Rattle.words.specs.Picture as P
-use Rattle.cost_words.specs.Words.{targetWord, packed, pairWord, costsOf}
+use Rattle.cost_words.specs.Words.{targetWord, packed, pairWord}
+use Rattle.promises.specs.Integers.{Fit}
+use Rattle.promises.specs.Range.{costMost}
+use Rattle.promises.specs.Words.{pick}
+use Rattle.promises.specs.CostWords.{costsOf}
 
 -- the target word and the added word of value v of a node, 0 past its size
 abbrev pub goesOf : Node costs → ℕ → ℕ

@@ -1,17 +1,16 @@
--- The pair of a node worked out: what is kept for a target, the sums along the branches of a body, the lowest and the highest of them. Assumes nothing.
+-- Contract between layers: the pair of a node worked out: what is kept for a target, the sums along the branches of a body, the lowest and the highest of them. Assumes nothing.
 use mathlib.Core.Bool.{Bool, true, false}
 use mathlib.Core.Path.{_≡_}
 use mathlib.Core.List.{List}
 use Prim.Native.Nat.{ℕ, _+_, _*_, _≤_, _<_}
 use lib.IntN.{ℤ}
 use lib.ListN.{length}
-use Rattle.cost_laws.specs.Integers.{Fit, int}
-use Rattle.cost_laws.specs.Range.{addMost}
-use Rattle.cost_laws.specs.Extremes.{across, along, keptAt}
+use Rattle.cost_laws.specs.Extremes.{along, keptAt}
 use Rattle.words.specs.Words.{listed}
-use Rattle.cost_words.specs.Kept.{kept}
-use Rattle.cost_words.specs.Sums.{sideOf}
-use Rattle.cost_words.specs.Words.{target, branch, goes, added}
+use Rattle.promises.specs.Integers.{Fit, int}
+use Rattle.promises.specs.Range.{addMost}
+use Rattle.promises.specs.CostSound.{across, kept, sideOf}
+use Rattle.promises.specs.CostWords.{target, costBranch as branch, goes, added}
 
 -- ---- two words, those of a lowest and of a highest
 -- the second if `up`, else the first

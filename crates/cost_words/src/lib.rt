@@ -14,10 +14,12 @@ ghost use mathlib.Core.Path.{_≡_};
 ghost use Prim.Native.Nat.{ℕ, _+_, _*_, _≤_, _<_};
 ghost use lib.ListN.{length, getD};
 ghost use lib.IntN.{_+ℤ_, _-ℤ_};
-ghost use Rattle.cost_laws.specs.Integers.{Fit, int};
-ghost use Rattle.cost_laws.specs.Range.{addMost};
-ghost use Rattle.words.specs.Words.{body, listed};
-ghost use Rattle.cost_words.specs.Words.{half, goes, added, packed, root, base, wordOf};
+ghost use Rattle.words.specs.Words.{listed};
+ghost use Rattle.cost_words.specs.Words.{packed, wordOf};
+ghost use Rattle.promises.specs.Integers.{Fit, int};
+ghost use Rattle.promises.specs.Range.{addMost};
+ghost use Rattle.promises.specs.Words.{body};
+ghost use Rattle.promises.specs.CostWords.{half, goes, added, costRoot as root, costBase as base};
 
 // Where a branch goes: to the end or to a node.
 pub enum Target {

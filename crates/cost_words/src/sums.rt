@@ -3,8 +3,9 @@ use words::wide;
 ghost use mathlib.Core.Path.{_≡_};
 ghost use Prim.Native.Nat.{_<_};
 ghost use lib.IntN.{_+ℤ_, _-ℤ_};
-ghost use Rattle.cost_laws.specs.Integers.{int};
-ghost use Rattle.cost_words.specs.Sums.{Stands, sideOf};
+ghost use Rattle.cost_words.specs.Sums.{Stands};
+ghost use Rattle.promises.specs.Integers.{int};
+ghost use Rattle.promises.specs.CostSound.{sideOf};
 
 // The word of a sum, or 0 if the sum lies outside ±2,000,000,000.
 pub fn sum_or_lost(a: u32, b: u32) -> u32

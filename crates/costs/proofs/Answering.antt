@@ -1,40 +1,37 @@
--- Each promise is met at each return: a refusal that leaves everything, or a call that is taken. Assumes nothing.
+-- What the calls of the cost table write and answer: the constant, the copy, whether two places are one. Assumes nothing.
 use mathlib.Core.Path.{_≡_, refl, sym, ap, subst, _∙_}
-use mathlib.Core.Bool.{Bool, false}
+use mathlib.Core.Bool.{false}
 use mathlib.Core.List.{List}
 use Prim.Native.Nat.{ℕ, _<_}
 use lib.Dec.{eqb}
-use lib.IntN.{ℤ, pos}
+use lib.IntN.{ℤ}
 use Rattle.theory.specs.Functions.{Agree}
 use Rattle.theory.specs.Diagrams.{Branch, meaning}
-use Rattle.theory.specs.Tally.{tally}
-use Rattle.theory.specs.Asked.{asked}
 use Rattle.theory.specs.Costs.{costs, Cost, amount, to-end}
 use Rattle.theory.specs.WellFormed.{Ok}
 use Rattle.theory.proofs.Canonical.{canonical-unique}
 use Rattle.theory.proofs.Values.{value-ending}
-use Rattle.cost_laws.specs.Integers.{Fit, int}
-use Rattle.cost_laws.specs.Operations.{constant}
-use Rattle.cost_laws.specs.Range.{Within, costMost}
 use Rattle.cost_laws.proofs.Range as R
 use Rattle.cost_laws.proofs.Words.{int-one}
 use Rattle.settings.specs.Tells.{Tells}
-use Rattle.settings.specs.Refusals.{Ends}
 use Rattle.settings.proofs.Answers.{tells-eqb}
-use Rattle.settings.proofs.Endings.{not-taken, not-refused}
-use Rattle.settings.specs.declared.refusals.Refusal.{Refusal}
-use Rattle.settings.specs.declared.refusals.Outcome.the-variants.{Taken, Refused}
-use Rattle.words.specs.Words.{sizes}
-pub use Rattle.calls.proofs.Theorems.{write-refused, write-taken}
-use Rattle.cost_words.specs.Words.{branch, nodes, root, base, rootAt, costOf, costsOf}
+pub use Rattle.calls.proofs.Theorems.{write-refused}
 use Rattle.cost_words.specs.Picture.{Becomes}
 use Rattle.cost_words.proofs.Packing.{target-end, target-one}
-use Rattle.cost_sound.specs.Sound.{Sound}
-use Rattle.costs.specs.declared.reading.Looked.{Looked}
-use Rattle.costs.specs.Reading.{Looks, Compares, Tallies, look-cases, same-cases, tally-cases}
+use Rattle.cost_words.proofs.Reading.{at-costs}
 use Rattle.costs.proofs.Sounding.{sound-pos, sound-wf, sound-root}
+use Rattle.promises.specs.Integers.{Fit, int}
+use Rattle.promises.specs.CostOperations.{constant}
+use Rattle.promises.specs.Range.{Within, costMost}
+use Rattle.promises.specs.Words.{sizes}
+use Rattle.promises.specs.CostWords.{costBranch as branch, costNodes as nodes, costRoot as root, costBase as base, rootAt, costOf}
+use Rattle.promises.specs.CostSound.{CostSound as Sound}
+use Rattle.promises.specs.State.{on}
+use Rattle.promises.specs.Table.{stateOf}
+use Rattle.promises.specs.CostDeeds.{costed}
 
--- ---- the branch to the end whose base is the word of z
+-- ---- calls that write
+-- the branch to the end whose base is the word of z
 module _ (a : ℕ) (z : ℤ) (e : int a ≡ z) where
   ends-here : branch 0 a ≡ to-end z
   ends-here = λ i. record { adds = e i; to = target-end 0 refl i }
@@ -52,7 +49,7 @@ module _ (a : ℕ) (z : ℤ) (e : int a ≡ z) where
   pub constant-becomes : {p : ℕ} {w w′ : List ℕ} → Becomes p (meaning (nodes w) (branch 0 a)) w w′ → Becomes p (constant z) w w′
   constant-becomes {p} {w} {w′} b = subst (λ (g : Cost). Becomes p g w w′) (constant-means w) b
 
--- ---- the branch of a place means its cost
+-- the branch of a place means its cost
 module _ (w : List ℕ) (q x a : ℕ) (ex : x ≡ root w q) (ea : a ≡ base w q) where
   place-branch : rootAt w q ≡ branch x a
   place-branch = ap (λ (y : ℕ). branch y (base w q)) (sym ex) ∙ ap (branch x) (sym ea)
@@ -65,26 +62,6 @@ module _ (w : List ℕ) (q x a : ℕ) (ex : x ≡ root w q) (ea : a ≡ base w q
 
   pub copy-becomes : {p : ℕ} {w′ : List ℕ} → Becomes p (meaning (nodes w) (branch x a)) w w′ → Becomes p (costOf w q) w w′
   copy-becomes {p} {w′} b = subst (λ (c : Branch costs). Becomes p (meaning (nodes w) c) w w′) (sym place-branch) b
-
--- ---- calls that read
-pub look-refused : {p : ℕ} {s w : List ℕ} {x : Refusal} → Ends (look-cases p s w) (Refused x) → Looks p s w (record { outcome = Refused x; cost = pos 0; asked = 0 })
-look-refused e = record { ends = e; gives = not-taken; asks = not-taken; refused = λ y q. (refl, refl) }
-
-pub look-taken : {p : ℕ} {s w : List ℕ} {r : Looked} → Ends (look-cases p s w) Taken → r .outcome ≡ Taken → r .cost ≡ costOf w p s .off → r .asked ≡ asked (sizes w) (costOf w p) s → Looks p s w r
-look-taken {p} {s} {w} {r} e t g a =
-    record { ends = subst (Ends (look-cases p s w)) (sym t) e; gives = λ q. g; asks = λ q. a; refused = λ y q. not-refused (sym t ∙ q) }
-
-pub same-refused : {p q : ℕ} {w : List ℕ} {x : Refusal} → Ends (same-cases p q w) (Refused x) → Compares p q w (record { outcome = Refused x; same = false })
-same-refused e = record { ends = e; gives = not-taken; refused = λ y q. refl }
-
-pub same-taken : {p q : ℕ} {w : List ℕ} {b : Bool} → Ends (same-cases p q w) Taken → Tells b (Agree (sizes w) (costOf w p) (costOf w q)) → Compares p q w (record { outcome = Taken; same = b })
-same-taken e t = record { ends = e; gives = λ q. t; refused = λ y. not-refused }
-
-pub tally-refused : {w : List ℕ} {x : Refusal} → Ends (tally-cases w) (Refused x) → Tallies w (record { outcome = Refused x; count = 0 })
-tally-refused e = record { ends = e; gives = not-taken; refused = λ y q. refl }
-
-pub tally-taken : {w : List ℕ} {n : ℕ} → Ends (tally-cases w) Taken → n ≡ tally (sizes w) (costsOf w) → Tallies w (record { outcome = Taken; count = n })
-tally-taken e g = record { ends = e; gives = λ q. g; refused = λ y. not-refused }
 
 -- SAME: two places have the same root word and the same base exactly if their costs agree at every setting
 module _ {w : List ℕ} (s : Sound w) (p q : ℕ) (hp : p < 16) (hq : q < 16) where
@@ -103,9 +80,19 @@ module _ {w : List ℕ} (s : Sound w) (p q : ℕ) (hp : p < 16) (hq : q < 16) wh
   pub agree-bases : Agree (sizes w) (costOf w p) (costOf w q) → base w p ≡ base w q
   agree-bases a = int-one (base w p) (base w q) (ap (λ (b : Branch costs). b .adds) (one-branch a))
 
-  -- what the code reads
-  pub same-other : (x y : ℕ) → x ≡ root w p → y ≡ root w q → (x ≡ y → ⊥) → Tells false (Agree (sizes w) (costOf w p) (costOf w q))
-  same-other x y ex ey n a = n (ex ∙ agree-roots a ∙ sym ey)
+  -- the same, said of the functions at the edge
+  abbrev pub Same : Type 0
+  Same = Agree (sizes w) (on (stateOf costed w) p) (on (stateOf costed w) q)
 
-  pub same-tells : (x y a b : ℕ) → x ≡ root w p → y ≡ root w q → x ≡ y → a ≡ base w p → b ≡ base w q → Tells (eqb a b) (Agree (sizes w) (costOf w p) (costOf w q))
-  same-tells x y a b ex ey e ea eb = tells-eqb a b (λ f. places-agree (sym ex ∙ e ∙ ey) (sym ea ∙ f ∙ eb)) (λ g. ea ∙ agree-bases g ∙ sym eb)
+  to-edge : Agree (sizes w) (costOf w p) (costOf w q) → Same
+  to-edge a t v = ap (λ (f : Cost). f t) (at-costs w p hp) ∙ a t v ∙ sym (ap (λ (f : Cost). f t) (at-costs w q hq))
+
+  from-edge : Same → Agree (sizes w) (costOf w p) (costOf w q)
+  from-edge a t v = sym (ap (λ (f : Cost). f t) (at-costs w p hp)) ∙ a t v ∙ ap (λ (f : Cost). f t) (at-costs w q hq)
+
+  -- what the code reads
+  pub same-other : (x y : ℕ) → x ≡ root w p → y ≡ root w q → (x ≡ y → ⊥) → Tells false Same
+  same-other x y ex ey n a = n (ex ∙ agree-roots (from-edge a) ∙ sym ey)
+
+  pub same-tells : (x y a b : ℕ) → x ≡ root w p → y ≡ root w q → x ≡ y → a ≡ base w p → b ≡ base w q → Tells (eqb a b) Same
+  same-tells x y a b ex ey e ea eb = tells-eqb a b (λ f. to-edge (places-agree (sym ex ∙ e ∙ ey) (sym ea ∙ f ∙ eb))) (λ g. ea ∙ agree-bases (from-edge g) ∙ sym eb)

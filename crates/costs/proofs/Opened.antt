@@ -9,16 +9,17 @@ use Rattle.theory.specs.Costs.{costs}
 use Rattle.theory.specs.Diagrams.{Branch, blank}
 use Rattle.settings.specs.declared.refusals.Outcome.the-variants.{Taken}
 use Rattle.cost_laws.specs.Integers.{wordFor}
-use Rattle.cost_laws.specs.Range.{costMost}
 use Rattle.cost_laws.proofs.Integers.{fit-zero}
 use Rattle.words.proofs.Tab.{split, getD-tab}
-use Rattle.calls.specs.Opening.{Openable, Named}
+use Rattle.calls.specs.Opening.{Named}
 use Rattle.calls.proofs.Opened as C
 use Rattle.calls.proofs.Opened.{ends}
 use Rattle.cost_words.specs.Words.{targetWord}
 use Rattle.cost_words.specs.Picture.{rootOf, drawing}
 use Rattle.cost_words.proofs.Showing.{root-shows, base-shows}
 use Rattle.costs.specs.Opening.{Opens}
+use Rattle.promises.specs.Range.{costMost}
+use Rattle.promises.specs.TableDeeds.{Openable}
 
 module _ {S : List ℕ} {cap : ℕ} {w w′ : List ℕ} (o : Openable S cap (length w)) (n : Named 2 2147483648 S cap w w′) where
   roots : (p : ℕ) → p < 32 → getD w′ (32 + p) 0 ≡ rootOf (ends 16) p

@@ -7,14 +7,14 @@ use lib.ListN.{length}
 use Rattle.theory.specs.Settings.{FeatureList, Pos}
 use Rattle.theory.specs.WellFormed.{Ok, WF}
 use Rattle.theory.specs.Tally.{tally}
-use Rattle.words.specs.Words.{count, sizes}
 use Rattle.checks.proofs.Pictures.{tested-wf, tested-root, tested-list}
 use Rattle.calls.proofs.Sounding.{tested-pos, tested-untidy, tested-tally}
-use Rattle.cost_words.specs.Words.{nodes, rootAt, costsOf}
-use Rattle.cost_sound.specs.Sound.{Sound}
 use Rattle.cost_sound.proofs.Reading.{read}
 use Rattle.cost_sound.proofs.Pictures.{sound-tested}
 use Rattle.cost_collect.specs.Tidy.{Untidy}
+use Rattle.promises.specs.Words.{count, sizes}
+use Rattle.promises.specs.CostWords.{costNodes as nodes, rootAt, costsOf}
+use Rattle.promises.specs.CostSound.{CostSound as Sound}
 
 module _ {w : List ℕ} (s : Sound w) where
   pub sound-long : 8192 ≤ length w

@@ -1,4 +1,4 @@
--- The promise of opening. Assumes nothing.
+-- Contract between layers: a fresh cost table, word for word. Assumes nothing.
 use mathlib.Core.List.{List}
 use Prim.Native.Nat.{ℕ}
 use Rattle.theory.specs.Costs.{Cost}

@@ -8,14 +8,16 @@ use Rattle.settings.specs.declared.refusals.Refusal.the-variants.{Damaged}
 use Rattle.settings.specs.declared.refusals.Outcome.{Outcome}
 use Rattle.settings.specs.declared.refusals.Outcome.the-variants.{Taken, Refused}
 use Rattle.settings.proofs.Endings.{ends-unique}
+use Rattle.promises.specs.Loan.{Loan}
+use Rattle.promises.specs.Deed.{Deed, refusals, Meets}
 use Rattle.calls.proofs.Theorems.{ended}
+use Rattle.calls.proofs.Like.{more, like-ends, like-one, clear, rest}
 use Rattle.demands.specs.Exact.{Exact}
-use Rattle.demands.specs.Loan.{Loan, Holds}
-use Rattle.demands.specs.Deed.{Deed, Does, leftBy, after, refusals, Meets}
+use Rattle.demands.specs.Ground.{Ground, Holds}
+use Rattle.demands.specs.Does.{Does, leftBy, after}
 use Rattle.demands.specs.Run.{Part, Event, Run, begun, called, ran, Told, SameCalls, none, again}
 use Rattle.demands.proofs.Firm.{neg}
 use Rattle.demands.proofs.Exact.{exactly}
-use Rattle.demands.proofs.Like.{more, like-ends, like-one, clear, rest}
 use Rattle.demands.proofs.Effects.{Effects}
 use Rattle.demands.proofs.Frame.{Frame}
 use Rattle.demands.proofs.Lawful.{Lawful}
@@ -26,7 +28,7 @@ lower taken a = tt
 lower (x when P else l) a = (omega (arith, a .0), a .1)
 
 -- ---- ONE CALL
-module _ {L : Loan} {E : Effects L} (F : Frame E) {d : Deed L} (l : Lawful E d) where
+module _ {L : Loan} {G : Ground L} {E : Effects G} (F : Frame E) {d : Deed L} (l : Lawful E d) where
   -- on the same functions it returns one thing, and the lowest number that applies
   does-one : (z : L .Plain) (r q : d .Result) → Does d z r → Does d z q → r ≡ q
   does-one z r q a b = ended (d .ending r) (λ e. l .one z r q e (sym same ∙ e) (a .gives e) (b .gives (sym same ∙ e))) (λ x e. a .refused x e ∙ sym (b .refused x (sym same ∙ e)))
@@ -41,14 +43,14 @@ module _ {L : Loan} {E : Effects L} (F : Frame E) {d : Deed L} (l : Lawful E d) 
   meets-exact {w} m = exactly (omega arith, l .ordered (L .says w)) (neg, l .firm (L .says w)) (m .ends)
 
   -- on words that hold functions it does its deed, and the words hold the functions afterwards
-  module _ {w w′ : L .Words} {z : L .Plain} {r : d .Result} (h : Holds L w z) (m : Meets d w w′ r) where
+  module _ {w w′ : L .Words} {z : L .Plain} {r : d .Result} (h : Holds G w z) (m : Meets d w w′ r) where
     now : Ends (d .cases (L .says w)) (d .ending r)
     now = m .ends .1 (λ n. n (F .asked (d .needs) w (h .sound)))
 
     abbrev met : d .ending r ≡ Taken → Ends (d .cases (L .says w)) Taken
     met e = subst (Ends (d .cases (L .says w))) e now
 
-    told : L .Agrees (d .needs) (L .says w) z
+    told : G .Agrees (d .needs) (L .says w) z
     told = F .agreed (d .needs) (L .says w) z (h .agrees)
 
     step-does : Does d z r
@@ -59,13 +61,13 @@ module _ {L : Loan} {E : Effects L} (F : Frame E) {d : Deed L} (l : Lawful E d) 
           refused = m .refused;
         }
 
-    step-holds : Holds L w′ (after d z r)
+    step-holds : Holds G w′ (after G d z r)
     step-holds = go (d .ending r) refl
       where
-        go : (o : Outcome) → d .ending r ≡ o → Holds L w′ (leftBy L o (d .writes z) z)
+        go : (o : Outcome) → d .ending r ≡ o → Holds G w′ (leftBy G o (d .writes z) z)
         go Taken e = F .changed w w′ z (d .writes (L .says w)) (d .writes z) h
             (F .same-whole (d .needs) (L .says w) (d .writes (L .says w)) (d .writes z) (l .writes-like (L .says w) z told (met e))) (m .leaves e)
-        go (Refused x) e = subst (λ (u : L .Words). Holds L u z) (sym (m .kept x e)) h
+        go (Refused x) e = subst (λ (u : L .Words). Holds G u z) (sym (m .kept x e)) h
 
   -- two outcomes on the same words are one
   pub meets-one : {w a b : L .Words} {r q : d .Result} → Meets d w a r → Meets d w b q → (r ≡ q) × (a ≡ b)
@@ -78,9 +80,9 @@ module _ {L : Loan} {E : Effects L} (F : Frame E) {d : Deed L} (l : Lawful E d) 
       same = ends-unique (refusals d w) (d .ending r) (d .ending q) (m .ends) (n .ends)
 
   -- words that are alike up to the bounds: one answer, and alike again
-  module _ {w u w′ u′ : L .Words} {r q : d .Result} (b : L .Alike w u) (m : Meets d w w′ r) (n : Meets d u u′ q) where
+  module _ {w u w′ u′ : L .Words} {r q : d .Result} (b : G .Alike w u) (m : Meets d w w′ r) (n : Meets d u u′ q) where
     -- where the first cannot be damaged the two say the same
-    agree : ((L .Sound (d .needs) w → ⊥) → ⊥) → L .Agrees (d .needs) (L .says w) (L .says u)
+    agree : ((L .Sound (d .needs) w → ⊥) → ⊥) → G .Agrees (d .needs) (L .says w) (L .says u)
     agree k = F .agrees-stable (d .needs) (L .says w) (L .says u) (λ x. k (λ s. x (F .says-past (d .needs) w u b s)))
 
     same-end : d .ending r ≡ d .ending q
@@ -94,7 +96,7 @@ module _ {L : Loan} {E : Effects L} (F : Frame E) {d : Deed L} (l : Lawful E d) 
     done : d .ending r ≡ Taken → Ends (refusals d w) Taken
     done e = subst (Ends (refusals d w)) e (m .ends)
 
-    abbrev agreed : d .ending r ≡ Taken → L .Agrees (d .needs) (L .says w) (L .says u)
+    abbrev agreed : d .ending r ≡ Taken → G .Agrees (d .needs) (L .says w) (L .says u)
     agreed e = agree (clear (done e))
 
     answer-past : r ≡ q
@@ -102,25 +104,23 @@ module _ {L : Loan} {E : Effects L} (F : Frame E) {d : Deed L} (l : Lawful E d) 
         (λ e. l .one (L .says u) r q e (sym same-end ∙ e) (l .gives-like (L .says w) (L .says u) (agreed e) (rest (done e)) r (m .gives e)) (n .gives (sym same-end ∙ e)))
         (λ x e. m .refused x e ∙ sym (n .refused x (sym same-end ∙ e)))
 
-    words-past : L .Alike w′ u′
+    words-past : G .Alike w′ u′
     words-past = ended (d .ending r)
         (λ e. F .leaves-past (d .needs) w u w′ u′ (d .writes (L .says w)) (d .writes (L .says u)) b (agreed e)
         (l .writes-like (L .says w) (L .says u) (agreed e) (rest (done e))) (m .leaves e) (n .leaves (sym same-end ∙ e)))
-        (λ x e. subst (λ (k : L .Words). L .Alike k u′) (sym (m .kept x e)) (subst (λ (k : L .Words). L .Alike w k) (sym (n .kept x (sym same-end ∙ e))) b))
+        (λ x e. subst (λ (k : L .Words). G .Alike k u′) (sym (m .kept x e)) (subst (λ (k : L .Words). G .Alike w k) (sym (n .kept x (sym same-end ∙ e))) b))
 
--- A PART KEEPS ITS WORD: its words have the laws of a loan, its deeds are lawful, and each promise says on words what the deed does
+-- A PART KEEPS ITS WORD: its words have the laws of a loan, and its deeds are lawful
 pub record Kept (P : Part) : Type 1 where
-  pub effects : Effects (P .loan)
+  pub effects : Effects (P .ground)
   pub frame : Frame effects
   pub lawful : (c : P .Call) → Lawful effects (P .deed c)
-  pub keeps-word : (c : P .Call) (w w′ : P .loan .Words) (r : P .deed c .Result) → P .Promise c w w′ r → Meets (P .deed c) w w′ r
 
 module _ {P : Part} (K : Kept P) where
-  step-by-step : {z : P .loan .Plain} {l : List (Event P)} {w : P .loan .Words} → Run P z l w → Told P z l × Holds (P .loan) w (ran P z l)
+  step-by-step : {z : P .loan .Plain} {l : List (Event P)} {w : P .loan .Words} → Run P z l w → Told P z l × Holds (P .ground) w (ran P z l)
   step-by-step (begun h) = (tt, h)
-  step-by-step (called {l} {w} {w′} c r e p) =
+  step-by-step (called c r e m) =
       let i = step-by-step e in
-      let m = K .keeps-word c w w′ r p in
       ((step-does (K .frame) (K .lawful c) (i .1) m, i .0), step-holds (K .frame) (K .lawful c) (i .1) m)
 
   told-one : (z : P .loan .Plain) {l k : List (Event P)} → SameCalls P l k → Told P z l → Told P z k → l ≡ k
@@ -136,11 +136,11 @@ module _ {P : Part} (K : Kept P) where
     pub run-told : Run P z l w → Told P z l
     run-told r = step-by-step r .0
 
-    pub run-holds : Run P z l w → Holds (P .loan) w (ran P z l)
+    pub run-holds : Run P z l w → Holds (P .ground) w (ran P z l)
     run-holds r = step-by-step r .1
 
   -- words that hold the same functions are the same up to the bounds
-  pub same-words : (w u : P .loan .Words) (z : P .loan .Plain) → Holds (P .loan) w z → Holds (P .loan) u z → P .loan .Alike w u
+  pub same-words : (w u : P .loan .Words) (z : P .loan .Plain) → Holds (P .ground) w z → Holds (P .ground) u z → P .ground .Alike w u
   same-words = K .frame .alike-held
 
   -- the calls decide: two runs of the same calls return the same, and leave the same words up to the bounds
@@ -148,32 +148,29 @@ module _ {P : Part} (K : Kept P) where
     pub runs-return : l ≡ k
     runs-return = told-one z s (run-told a) (run-told b)
 
-    pub runs-leave : P .loan .Alike w u
-    runs-leave = K .frame .alike-held w u (ran P z l) (run-holds a) (subst (λ (m : List (Event P)). Holds (P .loan) u (ran P z m)) (sym runs-return) (run-holds b))
+    pub runs-leave : P .ground .Alike w u
+    runs-leave = K .frame .alike-held w u (ran P z l) (run-holds a) (subst (λ (m : List (Event P)). Holds (P .ground) u (ran P z m)) (sym runs-return) (run-holds b))
 
   -- ---- REFUSALS: in any words, each number exactly if its condition holds and no lower number's does
-  pub refused-exactly : (c : P .Call) (w w′ : P .loan .Words) (r : P .deed c .Result) → P .Promise c w w′ r → Exact (refusals (P .deed c) w) (P .deed c .ending r)
-  refused-exactly c w w′ r p = meets-exact (K .frame) (K .lawful c) (K .keeps-word c w w′ r p)
+  pub refused-exactly : (c : P .Call) (w w′ : P .loan .Words) (r : P .deed c .Result) → Meets (P .deed c) w w′ r → Exact (refusals (P .deed c) w) (P .deed c .ending r)
+  refused-exactly c w w′ r m = meets-exact (K .frame) (K .lawful c) m
 
   -- and so in the run on functions
   pub told-exactly : (c : P .Call) (z : P .loan .Plain) (r : P .deed c .Result) → Does (P .deed c) z r → Exact (P .deed c .cases z) (P .deed c .ending r)
   told-exactly c z r a = does-exact (K .frame) (K .lawful c) z r a
 
   -- refused means untouched: every word is as it was, and what is returned is the refusal's own
-  pub refused-untouched : (c : P .Call) (w w′ : P .loan .Words) (r : P .deed c .Result) (x : Refusal) → P .Promise c w w′ r → P .deed c .ending r ≡ Refused x → (w′ ≡ w) × (r ≡ P .deed c .refusal x)
-  refused-untouched c w w′ r x p e = let m = K .keeps-word c w w′ r p in (m .kept x e, m .refused x e)
+  pub refused-untouched : (c : P .Call) (w w′ : P .loan .Words) (r : P .deed c .Result) (x : Refusal) → Meets (P .deed c) w w′ r → P .deed c .ending r ≡ Refused x → (w′ ≡ w) × (r ≡ P .deed c .refusal x)
+  refused-untouched c w w′ r x m e = (m .kept x e, m .refused x e)
 
   -- every table of refusals ascends
   pub ascends : (c : P .Call) (w : P .loan .Words) → Ordered (refusals (P .deed c) w)
   ascends c w = (omega arith, K .lawful c .ordered (P .loan .says w))
 
   -- ---- PAST THE BOUND: words that are the same up to the bounds give the same answer, and are the same up to the bounds afterwards
-  pub past-the-bound : (c : P .Call) (w u w′ u′ : P .loan .Words) (r q : P .deed c .Result) → P .loan .Alike w u → P .Promise c w w′ r → P .Promise c u u′ q → (r ≡ q) × P .loan .Alike w′ u′
-  past-the-bound c w u w′ u′ r q b x y =
-      let m = K .keeps-word c w w′ r x in
-      let n = K .keeps-word c u u′ q y in
-      (answer-past (K .frame) (K .lawful c) b m n, words-past (K .frame) (K .lawful c) b m n)
+  pub past-the-bound : (c : P .Call) (w u w′ u′ : P .loan .Words) (r q : P .deed c .Result) → P .ground .Alike w u → Meets (P .deed c) w w′ r → Meets (P .deed c) u u′ q → (r ≡ q) × P .ground .Alike w′ u′
+  past-the-bound c w u w′ u′ r q b m n = (answer-past (K .frame) (K .lawful c) b m n, words-past (K .frame) (K .lawful c) b m n)
 
   -- ---- DECIDED: two outcomes that meet a promise are equal, in what they return and in every word
-  pub decided : (c : P .Call) (w a b : P .loan .Words) (r q : P .deed c .Result) → P .Promise c w a r → P .Promise c w b q → (r ≡ q) × (a ≡ b)
-  decided c w a b r q x y = meets-one (K .frame) (K .lawful c) (K .keeps-word c w a r x) (K .keeps-word c w b q y)
+  pub decided : (c : P .Call) (w a b : P .loan .Words) (r q : P .deed c .Result) → Meets (P .deed c) w a r → Meets (P .deed c) w b q → (r ≡ q) × (a ≡ b)
+  decided c w a b r q m n = meets-one (K .frame) (K .lawful c) m n

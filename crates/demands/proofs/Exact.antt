@@ -75,7 +75,7 @@ free : (l : Cases) (o : Outcome) → Ends l o → ((x : Refusal) → Applies l x
 free taken o e m = e
 free (y when P else l) o e m = free l o (e .1 (λ p. m y (inl (refl, p)))) (λ x h. m x (inr h))
 
--- THEOREM: what the table says is document 01's sentence
+-- THEOREM: what the table says is the scope's sentence
 pub exactly : {l : Cases} {o : Outcome} → Ordered l → Firm l → Ends l o → Exact l o
 exactly {l} {o} a f e =
     record {

@@ -4,19 +4,23 @@ use mathlib.Core.Logic.{_⊎_, inl, inr, ⊎-elim}
 use mathlib.Core.List.{List, [], _∷_}
 use Prim.Native.Nat.{ℕ, zero, suc, _≤_, _<_}
 use native.Mathlib.Nat.{not-suc-le-zero}
-use native.Mathlib.Decide.{ℕ-discrete, decLe}
+use native.Mathlib.Decide.{ℕ-discrete, decLt, decLe}
 use native.Mathlib.Omega.{arith}
+use Rattle.theory.specs.Kind.{Kind}
 use Rattle.theory.specs.Settings.{Valid}
+use Rattle.theory.specs.Functions.{Fun}
 use Rattle.theory.specs.Counted.{Reaches}
 use Rattle.theory.specs.First.{NoneFrom}
 use Rattle.theory.specs.Rules.{Rule}
 use Rattle.theory.specs.Costs.{Cost}
-use Rattle.cost_laws.specs.Integers.{Fit}
-use Rattle.cost_laws.specs.Range.{Leaves, costMost}
-use Rattle.cost_laws.specs.Lowest.{NoneMarked}
 use Rattle.cost_laws.proofs.Integers.{fit?}
-use Rattle.sheet_bytes.specs.Sheet.{NewerSheet}
 use Rattle.settings.specs.Refusals.{Cases, taken, _when_else_}
+use Rattle.promises.specs.Integers.{Fit}
+use Rattle.promises.specs.Range.{Leaves, costMost}
+use Rattle.promises.specs.Lowest.{NoneMarked}
+use Rattle.promises.specs.Sheet.{NewerSheet}
+use Rattle.promises.specs.State.{State, Outnumber}
+use Rattle.calls.proofs.Drawn.{outnumber, outnumbered}
 
 -- P holds where it cannot fail: so it is of every negation and of everything that can be decided
 abbrev pub Stable : Type 0 → Type 0
@@ -101,6 +105,10 @@ pub leaves : {S : List ℕ} {f : Cost} → Stable (Leaves S f)
 leaves {S} {f} n =
     let h = sure (some? {P = λ s. Fit costMost (f s .off) → ⊥} S (λ s. not? (fit? costMost (f s .off)))) (λ k. n (λ r. k (r .setting, r .valid, r .out))) in
     record { setting = h .0; valid = h .1; out = h .2 }
+
+-- NO ROOM: the rests are more than the capacity
+pub rests : {K : Kind} {z : State K} {g : Fun K} → Stable (Outnumber z g)
+rests n = outnumber (sure (decLt _ _) (λ m. n (λ o. m (outnumbered o))))
 
 -- NONE: no setting from here on, and none at all
 pub none-from : {S : List ℕ} {g : Rule} {x : ℕ} {s : List ℕ} → Stable (NoneFrom S g x s)

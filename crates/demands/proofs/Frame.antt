@@ -1,32 +1,33 @@
 -- The laws of a loan: what every theorem on calls needs of the words that they are lent, and that two loans together have them. Assumes nothing.
 use mathlib.Core.Path.{_≡_}
-use Rattle.demands.specs.Loan.{Loan, Holds, _and_}
+use Rattle.promises.specs.Loan.{Loan, _and_}
+use Rattle.demands.specs.Ground.{Ground, Holds, together}
 use Rattle.demands.proofs.Firm.{Stable}
 use Rattle.demands.proofs.Effects.{Effects, on-none, on-two}
 
-module _ {L : Loan} (E : Effects L) where
+module _ {L : Loan} {G : Ground L} (E : Effects G) where
   pub record Frame : Type 1 where
     -- who asks for all asks for each
     pub same-whole : (n : L .Need) (z : L .Plain) (x y : L .Effect) → E .Same n z x y → E .Same (L .whole) z x y
     pub asked : (n : L .Need) (w : L .Words) → L .Sound (L .whole) w → L .Sound n w
-    pub agreed : (n : L .Need) (z y : L .Plain) → L .Agrees (L .whole) z y → L .Agrees n z y
+    pub agreed : (n : L .Need) (z y : L .Plain) → G .Agrees (L .whole) z y → G .Agrees n z y
     -- nothing asked for, everything kept
     pub sound-nothing : (w : L .Words) → L .Sound (L .nothing) w
     pub same-keeps : (z : L .Plain) → E .Same (L .nothing) z (L .keeps) (L .keeps)
     pub leaves-keeps : (w w′ : L .Words) → w′ ≡ w → L .Leaves (L .keeps) w w′
     -- agreeing
-    pub agrees-sym : (n : L .Need) (z y : L .Plain) → L .Agrees n z y → L .Agrees n y z
-    pub agrees-stable : (n : L .Need) (z y : L .Plain) → Stable (L .Agrees n z y)
+    pub agrees-sym : (n : L .Need) (z y : L .Plain) → G .Agrees n z y → G .Agrees n y z
+    pub agrees-stable : (n : L .Need) (z y : L .Plain) → Stable (G .Agrees n z y)
     -- what a taken call left: it holds the functions with the effect, and that is one thing
-    pub changed : (w w′ : L .Words) (z : L .Plain) (x y : L .Effect) → Holds L w z → E .Same (L .whole) (L .says w) x y → L .Leaves x w w′ → Holds L w′ (L .left y z)
+    pub changed : (w w′ : L .Words) (z : L .Plain) (x y : L .Effect) → Holds G w z → E .Same (L .whole) (L .says w) x y → L .Leaves x w w′ → Holds G w′ (G .left y z)
     pub leaves-one : (w a b : L .Words) (x : L .Effect) → L .Leaves x w a → L .Leaves x w b → a ≡ b
     -- words that are the same up to the bounds
-    pub alike-sym : (w u : L .Words) → L .Alike w u → L .Alike u w
-    pub alike-held : (w u : L .Words) (z : L .Plain) → Holds L w z → Holds L u z → L .Alike w u
-    pub sound-past : (n : L .Need) (w u : L .Words) → L .Alike w u → L .Sound n w → L .Sound n u
-    pub says-past : (n : L .Need) (w u : L .Words) → L .Alike w u → L .Sound n w → L .Agrees n (L .says w) (L .says u)
-    pub leaves-past : (n : L .Need) (w u w′ u′ : L .Words) (x y : L .Effect) → L .Alike w u → L .Agrees n (L .says w) (L .says u) → E .Same n (L .says w) x y →
-        L .Leaves x w w′ → L .Leaves y u u′ → L .Alike w′ u′
+    pub alike-sym : (w u : L .Words) → G .Alike w u → G .Alike u w
+    pub alike-held : (w u : L .Words) (z : L .Plain) → Holds G w z → Holds G u z → G .Alike w u
+    pub sound-past : (n : L .Need) (w u : L .Words) → G .Alike w u → L .Sound n w → L .Sound n u
+    pub says-past : (n : L .Need) (w u : L .Words) → G .Alike w u → L .Sound n w → G .Agrees n (L .says w) (L .says u)
+    pub leaves-past : (n : L .Need) (w u w′ u′ : L .Words) (x y : L .Effect) → G .Alike w u → G .Agrees n (L .says w) (L .says u) → E .Same n (L .says w) x y →
+        L .Leaves x w w′ → L .Leaves y u u′ → G .Alike w′ u′
 
 pub no-table-frame : Frame on-none
 no-table-frame =
@@ -49,14 +50,14 @@ no-table-frame =
     }
 
 -- two loans that hold functions hold those of each
-module _ (A B : Loan) where
-  pub first : {w : (A and B) .Words} {z : (A and B) .Plain} → Holds (A and B) w z → Holds A (w .0) (z .0)
+module _ {A B : Loan} (G : Ground A) (H : Ground B) where
+  pub first : {w : (A and B) .Words} {z : (A and B) .Plain} → Holds (together G H) w z → Holds G (w .0) (z .0)
   first h = record { sound = h .sound .0; agrees = h .agrees .0 }
 
-  pub second : {w : (A and B) .Words} {z : (A and B) .Plain} → Holds (A and B) w z → Holds B (w .1) (z .1)
+  pub second : {w : (A and B) .Words} {z : (A and B) .Plain} → Holds (together G H) w z → Holds H (w .1) (z .1)
   second h = record { sound = h .sound .1; agrees = h .agrees .1 }
 
-module _ {A B : Loan} {D : Effects A} {E : Effects B} (F : Frame D) (G : Frame E) where
+module _ {A B : Loan} {M : Ground A} {N : Ground B} {D : Effects M} {E : Effects N} (F : Frame D) (G : Frame E) where
   pub and-frame : Frame (on-two D E)
   and-frame =
       record {
@@ -69,15 +70,15 @@ module _ {A B : Loan} {D : Effects A} {E : Effects B} (F : Frame D) (G : Frame E
         agrees-sym = λ n z y a. (F .agrees-sym (n .0) (z .0) (y .0) (a .0), G .agrees-sym (n .1) (z .1) (y .1) (a .1));
         agrees-stable = λ n z y k. (F .agrees-stable (n .0) (z .0) (y .0) (λ m. k (λ a. m (a .0))), G .agrees-stable (n .1) (z .1) (y .1) (λ m. k (λ a. m (a .1))));
         changed = λ w w′ z x y h s c.
-            let p = F .changed (w .0) (w′ .0) (z .0) (x .0) (y .0) (first A B h) (s .0) (c .0) in
-            let q = G .changed (w .1) (w′ .1) (z .1) (x .1) (y .1) (second A B h) (s .1) (c .1) in
+            let p = F .changed (w .0) (w′ .0) (z .0) (x .0) (y .0) (first M N h) (s .0) (c .0) in
+            let q = G .changed (w .1) (w′ .1) (z .1) (x .1) (y .1) (second M N h) (s .1) (c .1) in
             record { sound = (p .sound, q .sound); agrees = (p .agrees, q .agrees) };
         leaves-one = λ w a b x c d.
             let p = F .leaves-one (w .0) (a .0) (b .0) (x .0) (c .0) (d .0) in
             let q = G .leaves-one (w .1) (a .1) (b .1) (x .1) (c .1) (d .1) in
             λ i. (p i, q i);
         alike-sym = λ w u a. (F .alike-sym (w .0) (u .0) (a .0), G .alike-sym (w .1) (u .1) (a .1));
-        alike-held = λ w u z h k. (F .alike-held (w .0) (u .0) (z .0) (first A B h) (first A B k), G .alike-held (w .1) (u .1) (z .1) (second A B h) (second A B k));
+        alike-held = λ w u z h k. (F .alike-held (w .0) (u .0) (z .0) (first M N h) (first M N k), G .alike-held (w .1) (u .1) (z .1) (second M N h) (second M N k));
         sound-past = λ n w u a s. (F .sound-past (n .0) (w .0) (u .0) (a .0) (s .0), G .sound-past (n .1) (w .1) (u .1) (a .1) (s .1));
         says-past = λ n w u a s. (F .says-past (n .0) (w .0) (u .0) (a .0) (s .0), G .says-past (n .1) (w .1) (u .1) (a .1) (s .1));
         leaves-past = λ n w u w′ u′ x y a b s c d. (

@@ -1,6 +1,5 @@
 pub mod Firm
 pub mod Exact
-pub mod Like
 pub mod Rows
 pub mod Tally
 pub mod Matching
@@ -11,16 +10,12 @@ pub mod Lawful
 pub mod Lifting
 pub mod TableLaws
 pub mod Demands
-pub mod Promised
-pub mod Sheeted
 pub mod RuleLaws
-pub mod RulePromises
 pub mod CostLaws
-pub mod CostPromises
 pub mod BothLaws
-pub mod BothPromises
 pub mod Bytes
 pub mod Searching
+pub mod Sheeted
 pub mod Always
 pub mod Parts
 pub mod Places

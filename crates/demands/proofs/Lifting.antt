@@ -1,14 +1,16 @@
 -- A call on one of two loans: what is true of it there is true of it on both. Assumes nothing.
 use mathlib.Core.Path.{_≡_}
 use Rattle.settings.specs.declared.refusals.Refusal.the-variants.{Damaged}
-use Rattle.demands.specs.Loan.{Loan, _and_}
-use Rattle.demands.specs.Deed.{Deed, Meets, on-first, on-second}
-use Rattle.demands.proofs.Like.{more, like-refl, like-ends}
+use Rattle.promises.specs.Loan.{Loan, _and_}
+use Rattle.promises.specs.Deed.{Deed, Meets}
+use Rattle.calls.proofs.Like.{more, like-refl, like-ends}
+use Rattle.demands.specs.Ground.{Ground}
+use Rattle.demands.specs.Does.{on-first, on-second}
 use Rattle.demands.proofs.Effects.{Effects, on-two}
 use Rattle.demands.proofs.Frame.{Frame}
 use Rattle.demands.proofs.Lawful.{Lawful}
 
-module _ {A B : Loan} {D : Effects A} {E : Effects B} (F : Frame D) (G : Frame E) where
+module _ {A B : Loan} {M : Ground A} {N : Ground B} {D : Effects M} {E : Effects N} (F : Frame D) (G : Frame E) where
   -- ---- its deed is lawful
   pub first-lawful : {d : Deed A} → Lawful D d → Lawful (on-two D E) (on-first B d)
   first-lawful l =

@@ -12,12 +12,13 @@ use Rattle.theory.specs.Functions.{Agree, Fun, zero-fun}
 use Rattle.theory.specs.Deciding.{list-discrete}
 use Rattle.theory.specs.Comparing.{amount-discrete}
 use Rattle.theory.proofs.Ranges.{features-pos, features?}
-use Rattle.settings.specs.Refusals.{_when_else_, taken}
 use Rattle.settings.specs.declared.refusals.Refusal.the-variants.{NoRoom}
-use Rattle.demands.specs.State.{State, state, put, Exceeds, Matches, Agrees}
+use Rattle.promises.specs.State.{State, state, put, Outnumber, room-cases}
+use Rattle.calls.proofs.Like.{Like, alike, more}
+use Rattle.calls.proofs.Drawn.{outnumber, outnumbered}
+use Rattle.demands.specs.Agrees.{Matches, Agrees}
 use Rattle.demands.proofs.Firm.{Stable, sure, equal}
 use Rattle.demands.proofs.Tally.{tally-more}
-use Rattle.demands.proofs.Like.{Like, alike, more}
 
 module _ {K : Kind} where
   pub matches-refl : {S : List ℕ} {gs : List (Fun K)} → FeatureList S → Matches S gs gs
@@ -26,7 +27,7 @@ module _ {K : Kind} where
   pub matches-sym : {S : List ℕ} {gs hs : List (Fun K)} → Matches S gs hs → Matches S hs gs
   matches-sym m = record { features = m .features; many = sym (m .many); each = λ p s v. sym (m .each p s v) }
 
-  pub matches-trans : {S : List ℕ} {fs gs hs : List (Fun K)} → Matches S fs gs → Matches S gs hs → Matches S fs hs
+  matches-trans : {S : List ℕ} {fs gs hs : List (Fun K)} → Matches S fs gs → Matches S gs hs → Matches S fs hs
   matches-trans m n = record { features = m .features; many = m .many ∙ n .many; each = λ p s v. m .each p s v ∙ n .each p s v }
 
   -- past the places nothing is said
@@ -39,7 +40,7 @@ module _ {K : Kind} where
           ap (λ (g : Fun K). g s) (List·getD-eq-default gs zero-fun (omega (arith, h)) ∙ sym (List·getD-eq-default hs zero-fun (omega (arith, h, l))))
 
   -- one replaced
-  pub matches-set : {S : List ℕ} {gs hs : List (Fun K)} {g h : Fun K} (p : ℕ) → Matches S gs hs → Agree S g h → Matches S (set gs p g) (set hs p h)
+  matches-set : {S : List ℕ} {gs hs : List (Fun K)} {g h : Fun K} (p : ℕ) → Matches S gs hs → Agree S g h → Matches S (set gs p g) (set hs p h)
   matches-set {S} {gs} {hs} {g} {h} p m e =
       matches-below (set gs p g) (set hs p h) (m .features) (length-set gs p g ∙ m .many ∙ sym (length-set hs p h)) (λ q l s v. go q (omega (arith, l, length-set gs p g)) s v (ℕ-discrete q p))
     where
@@ -52,12 +53,11 @@ module _ {K : Kind} where
           ap (λ (f : Fun K). f s) (getD-set-other gs p q g zero-fun n) ∙ m .each q s v ∙ sym (ap (λ (f : Fun K). f s) (getD-set-other hs p q h zero-fun n))
 
   -- NO ROOM is the same of functions that match
-  pub exceeds-like : {cap : ℕ} {S : List ℕ} {gs hs : List (Fun K)} {g h : Fun K} → Matches S gs hs → Agree S g h → Exceeds (state cap S gs) g → Exceeds (state cap S hs) h
-  exceeds-like {cap} {S} {gs} {hs} {g} {h} m e x = omega (arith, x, tally-more S (features-pos S (m .features)) gs hs g h (m .many) (λ i l. m .each i) e)
+  pub outnumber-like : {cap : ℕ} {S : List ℕ} {gs hs : List (Fun K)} {g h : Fun K} → Matches S gs hs → Agree S g h → Outnumber (state cap S gs) g → Outnumber (state cap S hs) h
+  outnumber-like {cap} {S} {gs} {hs} {g} {h} m e x = outnumber (omega (arith, outnumbered x, tally-more S (features-pos S (m .features)) gs hs g h (m .many) (λ i l. m .each i) e))
 
-  pub room-like : {cap : ℕ} {S : List ℕ} {gs hs : List (Fun K)} {g h : Fun K} → Matches S gs hs → Agree S g h →
-      Like (NoRoom when (Exceeds (state cap S gs) g) else taken) (NoRoom when (Exceeds (state cap S hs) h) else taken)
-  room-like m e = more NoRoom (exceeds-like m e) (exceeds-like (matches-sym m) (λ s v. sym (e s v))) (λ n. alike)
+  pub room-like : {cap : ℕ} {S : List ℕ} {gs hs : List (Fun K)} {g h : Fun K} → Matches S gs hs → Agree S g h → Like (room-cases g (state cap S gs)) (room-cases h (state cap S hs))
+  room-like m e = more NoRoom (outnumber-like m e) (outnumber-like (matches-sym m) (λ s v. sym (e s v))) (λ n. alike)
 
   -- ---- states
   pub agrees-sym : {z y : State K} → Agrees z y → Agrees y z

@@ -1,5 +1,5 @@
 -- What can be found: the least number with a property, the first setting at or after one; and each condition of a table of refusals can be decided. Assumes nothing.
-use mathlib.Core.Path.{_≡_, sym, subst}
+use mathlib.Core.Path.{_≡_, subst}
 use mathlib.Core.Logic.{_⊎_, inl, inr, ⊎-elim}
 use mathlib.Core.List.{List, [], _∷_}
 use Prim.Native.Nat.{ℕ, zero, suc, _+_, _≤_, _<_}
@@ -7,33 +7,26 @@ use native.Mathlib.Decide.{ℕ-discrete, decLt, decLe}
 use native.Mathlib.Omega.{arith}
 use lib.IntN.{ℤ, pos}
 use lib.ListN.{length, getD}
+use Rattle.theory.specs.Kind.{Kind}
 use Rattle.theory.specs.Settings.{Valid}
-use Rattle.theory.specs.Deciding.{all?, list-discrete}
-use Rattle.theory.specs.Functions.{held}
+use Rattle.theory.specs.Deciding.{all?}
+use Rattle.theory.specs.Functions.{Fun, held}
 use Rattle.theory.specs.Counted.{Given, Reaches}
 use Rattle.theory.specs.First.{First, FirstFrom, NoneFrom}
 use Rattle.theory.specs.Rules.{Rule}
 use Rattle.theory.specs.Costs.{Cost}
-use Rattle.theory.specs.Tally.{tally}
 use Rattle.theory.proofs.First.{first-smallest, first-same, first-greater, none-greater, first-end, first-from-end, none-end, given-end}
 use Rattle.theory.proofs.Ranges.{features?, valid?}
 use Rattle.settings.specs.Step.{valuesOf, Inside}
 use Rattle.settings.specs.declared.steps.Setting.{Setting}
-use Rattle.calls.specs.Opening.{Openable}
-use Rattle.words.specs.Words.{bound}
-use Rattle.operations.specs.Joining.{Places}
-use Rattle.cost_laws.specs.Range.{Leaves, costMost}
+use Rattle.promises.specs.Words.{bound}
+use Rattle.promises.specs.Range.{Leaves, costMost}
+use Rattle.promises.specs.State.{State, Outnumber, Places}
+use Rattle.promises.specs.TableDeeds.{Openable}
+use Rattle.promises.specs.CostDeeds.{Priced}
+use Rattle.calls.proofs.Drawn.{outnumber, outnumbered}
 use Rattle.cost_laws.proofs.Integers.{fit?}
-use Rattle.cost_operations.specs.Pricing.{Priced}
-use Rattle.sheet_bytes.specs.Bytes.{sizesOf}
-use Rattle.sheet_bytes.specs.Sheet.{sheetOf, IsSheet, Written, NewerSheet}
-use Rattle.sheet_check.specs.Diagram.{ruleOf}
-use Rattle.sheet_check.proofs.Reading.{sheet-sizes}
-use Rattle.sheets.specs.Lookup.{SettingOf}
-use Rattle.rule_sheets.specs.Reading.{SheetOver}
-use Rattle.demands.proofs.Firm.{sure, not?, some?}
-use Rattle.demands.proofs.Sheeted.{sheet-own}
-use Rattle.demands.proofs.Bytes.{written-own}
+use Rattle.demands.proofs.Firm.{not?, some?}
 
 -- ---- decisions
 module _ {P Q : Type 0} where
@@ -109,8 +102,11 @@ first-from? (n ∷ ns) g x (y ∷ s) v = go (first-from? ns (held y g) x s (v .1
         (least? (λ w. given? ns (held w g) x) (y + 1) n)
 
 -- ---- the conditions of the calls
-pub places? : (l : List ℕ) → Dec (Places l)
-places? l = via (λ a. record { each = a }) (λ r. r .each) (all? {P = λ j. getD l j 0 < 32} (λ j. decLt (getD l j 0) 32) (length l))
+pub places? : (n : ℕ) (l : List ℕ) → Dec (Places n l)
+places? n l = via (λ a. record { each = a }) (λ r. r .each) (all? {P = λ j. getD l j 0 < n} (λ j. decLt (getD l j 0) n) (length l))
+
+pub outnumber? : {K : Kind} (z : State K) (g : Fun K) → Dec (Outnumber z g)
+outnumber? z g = via outnumber outnumbered (decLt _ _)
 
 pub priced? : (l : List ℤ) → Dec (Priced l)
 priced? l = via (λ a. record { each = a }) (λ r. r .each) (all? (λ v. fit? costMost (getD l v (pos 0))) (length l))
@@ -130,32 +126,3 @@ pub inside? : (S : List ℕ) (s : Setting) → Dec (Inside S s)
 inside? S s =
     via (λ h. record { features = h .0; counted = h .1 .0; valid = h .1 .1 }) (λ r. (r .features, (r .counted, r .valid)))
     (and? (features? S) (and? (ℕ-discrete (s .count) (length S)) (valid? S (valuesOf s))))
-
--- ---- sheets
-pub newer? : (s : List ℕ) → Dec (NewerSheet s)
-newer? s =
-    via (λ h. record { three = h .0; zero = h .1 .0; one = h .1 .1 .0; more = h .1 .1 .1 }) (λ r. (r .three, (r .zero, (r .one, r .more))))
-    (and? (decLe 3 (length s)) (and? (ℕ-discrete (getD s 0 0) 0) (and? (ℕ-discrete (getD s 1 0) 1) (decLe 2 (getD s 2 0)))))
-
-numbers? : (S : List ℕ) (g : Rule) → Dec ((t : List ℕ) → Valid S t → g t .end < 65536)
-numbers? S g =
-    via (λ n t v. sure (decLt (g t .end) 65536) (λ m. n (t, v, omega (arith, m)))) (λ f h. let l = f (h .0) (h .1) in omega (arith, l, h .2))
-    (not? (some? {P = λ t. 65536 ≤ g t .end} S (λ t. decLe 65536 (g t .end))))
-
-is-sheet? : (S : List ℕ) (g : Rule) (s : List ℕ) → Dec (IsSheet S g s)
-is-sheet? S g s =
-    via (λ h. record { writable = record { list = h .0; numbers = h .1 .0; rests = h .1 .1 .0 }; bytes = h .1 .1 .1 })
-    (λ x. (x .writable .list, (x .writable .numbers, (x .writable .rests, x .bytes))))
-    (and? (features? S) (and? (numbers? S g) (and? (decLe (tally S (g ∷ [])) 4096) (list-discrete ℕ-discrete (sheetOf S g) s))))
-
-pub written? : (s : List ℕ) → Dec (Written s)
-written? s = via (λ x. record { list = sizesOf s; rule = ruleOf s; is = x }) written-own (is-sheet? (sizesOf s) (ruleOf s) s)
-
-pub over? : (S s : List ℕ) → Dec (SheetOver S s)
-over? S s = via (λ x. record { rule = ruleOf s; is = x }) (λ x. sheet-own (x .is)) (is-sheet? S (ruleOf s) s)
-
-pub setting-of? : (s t : List ℕ) → Dec (SettingOf s t)
-setting-of? s t =
-    via (λ h. record { list = sizesOf s; rule = ruleOf s; is = h .0; valid = h .1 })
-    (λ y. (written-own (record { list = y .list; rule = y .rule; is = y .is }), subst (λ (S : List ℕ). Valid S t) (sym (sheet-sizes (y .is))) (y .valid)))
-    (and? (is-sheet? (sizesOf s) (ruleOf s) s) (valid? (sizesOf s) t))

@@ -1,4 +1,4 @@
--- Document 01's sentence on refusals, of a call's table: the lowest number that applies is given, never another, and exactly when it applies. Assumes nothing.
+-- The scope's sentence on refusals, of a call's table: the lowest number that applies is given, never another, and exactly when it applies. Assumes nothing.
 use mathlib.Core.Path.{_≡_}
 use mathlib.Core.Logic.{_↔_}
 use Prim.Native.Nat.{_<_}

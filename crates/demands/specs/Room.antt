@@ -1,34 +1,23 @@
--- Document 01's sentence on room, of every call: NO ROOM exactly if the distinct rests outnumber the capacity, and no lower number applies. Assumes nothing.
+-- The scope's sentence on room, of every call: NO ROOM exactly if the distinct rests outnumber the capacity, and no lower number applies. Assumes nothing.
 use mathlib.Core.Path.{_≡_}
 use mathlib.Core.Logic.{_↔_}
-use mathlib.Core.List.{[], _∷_, _++_}
-use Prim.Native.Nat.{ℕ, _<_}
 use Rattle.theory.specs.Kind.{Kind}
-use Rattle.theory.specs.Functions.{Fun}
-use Rattle.theory.specs.Rests.{Counts}
 use Rattle.theory.specs.Rules.{rules}
 use Rattle.theory.specs.Costs.{costs}
 use Rattle.settings.specs.Refusals.{Cases}
 use Rattle.settings.specs.declared.refusals.Refusal.the-variants.{NoRoom}
 use Rattle.settings.specs.declared.refusals.Outcome.{Outcome}
 use Rattle.settings.specs.declared.refusals.Outcome.the-variants.{Refused}
+use Rattle.promises.specs.State.{State, Outnumber}
+use Rattle.promises.specs.Table.{Effect, keeps, puts, opens}
+use Rattle.promises.specs.BothDeeds.{both}
 use Rattle.demands.specs.Exact.{LowerNone}
-use Rattle.demands.specs.State.{State}
-use Rattle.demands.specs.Table.{Effect, keeps, puts, opens}
-use Rattle.demands.specs.BothDeeds.{both}
 
-module _ {K : Kind} where
-  -- the distinct rests of all places before the call, the old destination too, with those of the result g are more than the capacity
-  pub record Outnumber (z : State K) (g : Fun K) : Type 0 where
-    pub number : ℕ
-    pub counts : Counts (z .list) (z .places ++ (g ∷ [])) number
-    pub more : z .capacity < number
-
-  -- a call with the refusals l that found the functions z and ended as o: one that puts g, and one that puts nothing
-  abbrev pub RoomExact : Effect K → State K → Cases → Outcome → Type 0
-  RoomExact keeps z l o = o ≡ Refused NoRoom → ⊥
-  RoomExact (puts p g) z l o = (o ≡ Refused NoRoom) ↔ (Outnumber z g × LowerNone NoRoom l)
-  RoomExact (opens y) z l o = o ≡ Refused NoRoom → ⊥
+-- a call with the refusals l that found the functions z and ended as o: one that puts g, and one that puts nothing
+abbrev pub RoomExact : {K : Kind} → Effect K → State K → Cases → Outcome → Type 0
+RoomExact keeps z l o = o ≡ Refused NoRoom → ⊥
+RoomExact (puts p g) z l o = (o ≡ Refused NoRoom) ↔ (Outnumber z g × LowerNone NoRoom l)
+RoomExact (opens y) z l o = o ≡ Refused NoRoom → ⊥
 
 -- of two tables: the one that is written
 abbrev pub RoomOfBoth : Effect rules → Effect costs → both .Plain → Cases → Outcome → Type 0

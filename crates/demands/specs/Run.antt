@@ -1,16 +1,17 @@
--- A part of the library: its calls, their deeds and their promises; and RUNS of them, on words and on functions. Assumes nothing.
+-- A part of the library: its calls and their deeds; and RUNS of them, on words and on functions. Assumes nothing.
 use mathlib.Core.List.{List, [], _∷_}
-use Rattle.demands.specs.Loan.{Loan, Holds}
-use Rattle.demands.specs.Deed.{Deed, Does, after}
+use Rattle.promises.specs.Loan.{Loan}
+use Rattle.promises.specs.Deed.{Deed, Meets}
+use Rattle.demands.specs.Ground.{Ground, Holds}
+use Rattle.demands.specs.Does.{Does, after}
 
 pub record Part : Type 1 where
   pub loan : Loan
+  pub ground : Ground loan
   -- each call with its arguments
   pub Call : Type 0
-  -- what it does to functions
+  -- what it does to functions: its function is proved to meet that on words
   pub deed : Call → Deed loan
-  -- the promise that its function is proved to keep: lent the first words it leaves the second and returns the result
-  pub Promise : (c : Call) → loan .Words → loan .Words → deed c .Result → Type 0
 
 module _ (P : Part) where
   -- a call that was made, and what it returned
@@ -19,13 +20,13 @@ module _ (P : Part) where
 
   -- A RUN: from words that hold the functions z any calls, refused ones included; the events so far, the last first, and the words that they left
   pub data Run (z : P .loan .Plain) : List Event → P .loan .Words → Type 0 where
-    begun : {w : P .loan .Words} → Holds (P .loan) w z → Run z [] w
-    called : {l : List Event} {w w′ : P .loan .Words} (c : P .Call) (r : P .deed c .Result) → Run z l w → P .Promise c w w′ r → Run z ((c, r) ∷ l) w′
+    begun : {w : P .loan .Words} → Holds (P .ground) w z → Run z [] w
+    called : {l : List Event} {w w′ : P .loan .Words} (c : P .Call) (r : P .deed c .Result) → Run z l w → Meets (P .deed c) w w′ r → Run z ((c, r) ∷ l) w′
 
   -- THE RUN ON FUNCTIONS: the functions after the events, and that each event is what its call does to the functions that it finds
   abbrev pub ran : P .loan .Plain → List Event → P .loan .Plain
   ran z [] = z
-  ran z (e ∷ l) = after (P .deed (e .0)) (ran z l) (e .1)
+  ran z (e ∷ l) = after (P .ground) (P .deed (e .0)) (ran z l) (e .1)
 
   abbrev pub Told : P .loan .Plain → List Event → Type 0
   Told z [] = Unit {0}

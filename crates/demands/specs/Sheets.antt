@@ -6,18 +6,18 @@ use lib.ListN.{take}
 use Rattle.theory.specs.Rules.{Rule}
 use Rattle.settings.specs.declared.refusals.Outcome.{Outcome}
 use Rattle.settings.specs.declared.refusals.Outcome.the-variants.{Taken}
-use Rattle.words.specs.Words.{sizes}
-use Rattle.rule_words.specs.Words.{ruleOf}
-use Rattle.sheet_bytes.specs.Bytes.{sizesOf}
-use Rattle.sheet_check.specs.Diagram.{ruleOf as bytesRule}
-use Rattle.sheets.specs.Lookup.{Looks}
-use Rattle.sheets.specs.declared.looking.Looked.{Looked}
-use Rattle.rule_sheets.specs.Reading.{ReadsSheet}
-use Rattle.rule_sheets.specs.Writing.{WritesSheet}
-use Rattle.rule_sheets.specs.declared.writing.Wrote.{Wrote}
+use Rattle.promises.specs.declared.Looked.{Looked}
+use Rattle.promises.specs.declared.Wrote.{Wrote}
+use Rattle.promises.specs.Words.{sizes}
+use Rattle.promises.specs.Sheet.{sheetSizes, sheetRule}
+use Rattle.promises.specs.State.{on}
+use Rattle.promises.specs.Table.{stateOf}
+use Rattle.promises.specs.Deed.{Meets}
+use Rattle.promises.specs.RuleDeeds.{ruled}
+use Rattle.promises.specs.SheetDeeds.{read-sheet, write-sheet, look-up-in}
 
 -- the list, the rule and the bytes of a sheet that write wrote, that read took, or that the phone's look up took
 pub data Passed : List ℕ → Rule → List ℕ → Type 0 where
-  written : {p : ℕ} {w out out′ : List ℕ} {r : Wrote} → WritesSheet p w out out′ r → r .outcome ≡ Taken → Passed (sizes w) (ruleOf w p) (take (r .length) out′)
-  taken-in : {p : ℕ} {s w w′ : List ℕ} {o : Outcome} → ReadsSheet p s w w′ o → o ≡ Taken → Passed (sizes w) (ruleOf w′ p) s
-  looked-up : {s t : List ℕ} {r : Looked} → Looks s t r → r .outcome ≡ Taken → Passed (sizesOf s) (bytesRule s) s
+  written : {p : ℕ} {w w′ out : List ℕ} {r : Wrote × List ℕ} → Meets (write-sheet p out) w w′ r → r .0 .outcome ≡ Taken → Passed (sizes w) (on (stateOf ruled w) p) (take (r .0 .length) (r .1))
+  taken-in : {p : ℕ} {s w w′ : List ℕ} {o : Outcome} → Meets (read-sheet p s) w w′ o → o ≡ Taken → Passed (sizes w) (on (stateOf ruled w′) p) s
+  looked-up : {s t : List ℕ} {r : Looked} → Meets (look-up-in s t) tt tt r → r .outcome ≡ Taken → Passed (sheetSizes s) (sheetRule s) s

@@ -9,14 +9,15 @@ use borrow.Author.Tests.{le-ltb}
 use Rattle.theory.specs.Functions.{Agree}
 use Rattle.theory.specs.Rules.{says, number}
 use Rattle.theory.specs.Settings.{Valid}
-use Rattle.words.specs.Tab.{tab}
-use Rattle.words.specs.Words.{features, sizes, listed}
+use Rattle.words.specs.Words.{listed}
 use Rattle.words.proofs.Tab.{length-tab, getD-tab, tab-ext}
-use Rattle.rule_words.specs.Words.{decode, nodes}
-use Rattle.rule_operators.specs.Operators.{pairOf, caseOf, forgottenOf}
 use Rattle.engine.specs.Joint.{spread, joint}
 use Rattle.rule_operators.proofs.Operating.{op-pair, op-case, op-forget}
 use Rattle.engine.proofs.Joining.{spread-none}
+use Rattle.promises.specs.Tab.{tab}
+use Rattle.promises.specs.Words.{features, sizes}
+use Rattle.promises.specs.RuleWords.{decode, ruleNodes as nodes}
+use Rattle.promises.specs.Operators.{pairOf, caseOf, forgottenOf}
 
 -- at the root each operand has the forgotten feature at its own index
 spread-root : (f j : ℕ) (s : List ℕ) → spread f 0 j s ≡ set s f j

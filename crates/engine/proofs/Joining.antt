@@ -18,11 +18,9 @@ use Rattle.theory.proofs.Ranges.{valid-length}
 use Rattle.theory.proofs.Rules.{numbers, value-phrase}
 use Rattle.theory.proofs.Values.{value-next, value-ext, next-ext, next-ok}
 use Rattle.theory.proofs.WellFormed.{ok-ext}
-use Rattle.words.specs.Tab.{tab}
-use Rattle.words.specs.Words.{features, size, sizes, listed}
+use Rattle.words.specs.Words.{listed}
 use Rattle.words.proofs.Tab.{split, same, tab-ext}
 use Rattle.words.proofs.Words.{length-sizes, kept-features, kept-size}
-use Rattle.rule_words.specs.Words.{decode, nodes}
 use Rattle.rule_words.proofs.Reading.{decode-phrase}
 use Rattle.rule_nodes.specs.Nodes.{Result, Good, Place, Filling}
 use Rattle.rule_nodes.specs.declared.Answer.{Answer}
@@ -34,6 +32,9 @@ use Rattle.rule_operators.specs.Operators.{opOf}
 use Rattle.engine.specs.Shortcuts.{Standing, Short}
 use Rattle.engine.specs.Joint.{spread, turn, joint, Operands, Next, Lowest}
 use Rattle.rule_operators.proofs.Operating.{op-any}
+use Rattle.promises.specs.Tab.{tab}
+use Rattle.promises.specs.Words.{features, size, sizes}
+use Rattle.promises.specs.RuleWords.{decode, ruleNodes as nodes}
 
 -- ---- one step
 spread-past : (f k j v : ℕ) (s : List ℕ) → f < k → spread f k j (v ∷ s) ≡ turn f k j v ∷ spread f (k + 1) j s

@@ -4,7 +4,6 @@ use mathlib.Core.List.{List, _++_}
 use Prim.Native.Nat.{ℕ, _+_, _*_, _≤_, _<_}
 use native.Mathlib.Omega.{arith}
 use lib.ListN.{length, take, drop}
-use Rattle.words.specs.Words.{capacity, features}
 use Rattle.notes.specs.Plain.{Roomy, Resting, Cleared, plain}
 use Rattle.notes.specs.Far.{memory, Aside}
 use Rattle.notes.proofs.Plain.{plain-roomy, plain-of}
@@ -18,6 +17,7 @@ use Rattle.engine.specs.Joint.{joint, Operands}
 use Rattle.engine.specs.Memory.{Recalled, Recalls, Stored, Noted}
 use Rattle.engine.specs.declared.memory.Memo.{Memo}
 use Rattle.engine.proofs.Recalling.{remembers-none, remembers-made, remembers-stored}
+use Rattle.promises.specs.Words.{capacity, features}
 
 -- the features are those of the words without notes
 pub plain-features : (w : List ℕ) → features w ≡ features (plain w)

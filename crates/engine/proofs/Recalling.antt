@@ -14,11 +14,11 @@ use Rattle.theory.proofs.Growing.{make-grows}
 use Rattle.theory.proofs.Rules.{numbers}
 use Rattle.theory.proofs.Values.{value-ext}
 use Rattle.theory.proofs.WellFormed.{ok-ext}
-use Rattle.words.specs.Words.{size, sizes, listed}
+use Rattle.words.specs.Words.{listed}
 use Rattle.words.proofs.Filling.{grown-nodes}
 use Rattle.words.proofs.Tab.{split, same, tab-ext}
 use Rattle.words.proofs.Words.{kept-sizes}
-use Rattle.rule_words.specs.Words.{decode, branches, nodes}
+use Rattle.rule_words.specs.Words.{branches}
 use Rattle.rule_nodes.specs.Nodes.{Holds, Makes, Result, Good}
 use Rattle.rule_nodes.specs.declared.Answer.{Answer}
 use Rattle.rule_nodes.specs.declared.Answer.the-variants.{Is}
@@ -30,6 +30,8 @@ use Rattle.notes.specs.Plain.{Cleared}
 use Rattle.engine.specs.Memory.{Recalled, Remembers, Entry, Recalls, Stored, Noted, Still, StillIf}
 use Rattle.engine.specs.declared.memory.Memo.{Memo}
 use Rattle.engine.specs.declared.memory.Memo.the-variants.{Known}
+use Rattle.promises.specs.Words.{size, sizes}
+use Rattle.promises.specs.RuleWords.{decode, ruleNodes as nodes}
 
 -- ---- the joint rule
 -- it reads only the first n operands

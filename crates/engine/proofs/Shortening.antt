@@ -7,12 +7,13 @@ use native.Mathlib.Omega.{arith}
 use lib.Dec.{ltb, eqb}
 use lib.ListN.{drop}
 use borrow.Author.Tests.{lt-ltb, le-ltb, eq-eqb}
-use Rattle.words.specs.Tab.{tab}
-use Rattle.words.specs.Words.{listed, pick}
+use Rattle.words.specs.Words.{listed}
 use Rattle.words.proofs.Tab.{split, same}
-use Rattle.rule_operators.specs.Operators.{smallerOf, largerOf, truthOf, pairOf, caseOf}
 use Rattle.engine.specs.Shortcuts.{Standing, ShortPair, Short}
 use Rattle.rule_operators.proofs.Operating.{op-pair, op-case, case-at, case-past}
+use Rattle.promises.specs.Tab.{tab}
+use Rattle.promises.specs.Words.{pick}
+use Rattle.promises.specs.Operators.{lesserOf as smallerOf, greaterOf as largerOf, truthOf, pairOf, caseOf}
 
 -- ---- two equal branches
 pick-of : (F : ℕ → ℕ) (t : Bool) (x y : ℕ) → F (pick t x y) ≡ pick t (F x) (F y)

@@ -1,4 +1,4 @@
--- The joint rule of several operands: what the engine builds, and what it is asked on the way. Assumes nothing.
+-- Contract between layers: the joint rule of several operands: what the engine builds, and what it is asked on the way. Assumes nothing.
 use mathlib.Core.Path.{_≡_}
 use mathlib.Core.List.{List}
 use Prim.Native.Nat.{ℕ, _-_, _≤_, _<_}
@@ -6,11 +6,12 @@ use lib.Dec.{ltb, eqb}
 use lib.ListN.{set}
 use Rattle.theory.specs.Diagrams.{next}
 use Rattle.theory.specs.Rules.{Rule, says, number}
-use Rattle.words.specs.Tab.{tab}
-use Rattle.words.specs.Words.{features, size, listed, pick}
-use Rattle.rule_words.specs.Words.{decode, nodes}
+use Rattle.words.specs.Words.{listed}
 use Rattle.rule_nodes.specs.Nodes.{Holds, Good, top}
 use Rattle.rule_operators.specs.Operators.{opOf}
+use Rattle.promises.specs.Tab.{tab}
+use Rattle.promises.specs.Words.{features, size, pick}
+use Rattle.promises.specs.RuleWords.{decode, ruleNodes as nodes}
 
 -- operand j's setting of the features from k on: the forgotten feature f, if it is still to come, is held at j
 unfoldable pub spread : ℕ → ℕ → ℕ → List ℕ → List ℕ

@@ -1,4 +1,4 @@
--- Remembered results: words in entries of 11, a feature + 1 (0: empty), nine operands, a result. Assumes nothing.
+-- Contract between layers: remembered results: words in entries of 11, a feature + 1 (0: empty), nine operands, a result. Assumes nothing.
 use mathlib.Core.Bool.{Bool, true, false}
 use mathlib.Core.Path.{_≡_}
 use mathlib.Core.Logic.{_⊎_}
@@ -7,16 +7,17 @@ use Prim.Native.Nat.{ℕ, _+_, _*_, _≤_, _<_}
 use lib.ListN.{length, getD, drop}
 use Rattle.theory.specs.Diagrams.{value}
 use Rattle.theory.specs.Settings.{Valid}
-use Rattle.words.specs.Words.{listed, sizes}
+use Rattle.words.specs.Words.{listed}
 use Rattle.notes.specs.Far.{memory}
 use Rattle.notes.specs.Plain.{Roomy, plain}
-use Rattle.rule_words.specs.Words.{decode, nodes}
 use Rattle.rule_nodes.specs.Nodes.{Good}
 use Rattle.rule_nodes.specs.declared.Answer.{Answer}
 use Rattle.rule_nodes.specs.declared.Answer.the-variants.{Is, NoRoom}
 use Rattle.engine.specs.Joint.{joint}
 use Rattle.engine.specs.declared.memory.Memo.{Memo}
 use Rattle.engine.specs.declared.memory.Memo.the-variants.{Known, Unknown}
+use Rattle.promises.specs.Words.{sizes}
+use Rattle.promises.specs.RuleWords.{decode, ruleNodes as nodes}
 
 -- x is the result for the operands l from feature k on
 pub record Recalled (w : List ℕ) (o f n k : ℕ) (l : List ℕ) (x : ℕ) : Type 0 where

@@ -1,10 +1,11 @@
--- Operators that may be asked of the branch words themselves: whatever number each node stands for, the word told stands for the operator's. Assumes nothing.
+-- Contract between layers: operators that may be asked of the branch words themselves: whatever number each node stands for, the word told stands for the operator's. Assumes nothing.
 use mathlib.Core.Path.{_≡_}
 use mathlib.Core.List.{List}
 use Prim.Native.Nat.{ℕ, _≤_, _<_}
-use Rattle.words.specs.Tab.{tab}
 use Rattle.words.specs.Words.{listed}
-use Rattle.rule_operators.specs.Operators.{pairOf, opOf}
+use Rattle.rule_operators.specs.Operators.{opOf}
+use Rattle.promises.specs.Tab.{tab}
+use Rattle.promises.specs.Operators.{pairOf}
 
 -- a number for each branch word; a phrase stands for itself
 pub record Standing (F : ℕ → ℕ) : Type 0 where

@@ -17,11 +17,11 @@ use shortcuts::shortcut;
 use words::head_word;
 use words::wide;
 ghost use Prim.Native.Nat.{_<_};
-ghost use Rattle.words.specs.Words.{features};
 ghost use Rattle.notes.specs.Plain.{Resting, plain};
 ghost use Rattle.rule_nodes.specs.Nodes.{Result, Fills};
 ghost use Rattle.engine.specs.Joint.{joint, Operands};
 ghost use Rattle.engine.specs.Memory.{Noted, Still, StillIf};
+ghost use Rattle.promises.specs.Words.{features};
 
 // A list of branches, or that there was no room for them.
 struct Filled {

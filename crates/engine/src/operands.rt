@@ -6,10 +6,10 @@ use words::wide;
 ghost use mathlib.Core.Path.{_≡_};
 ghost use Prim.Native.Nat.{ℕ, _+_, _≤_, _<_};
 ghost use lib.ListN.{getD};
-ghost use Rattle.words.specs.Words.{features, size, count};
 ghost use Rattle.records.specs.Laid.{Laid};
 ghost use Rattle.notes.specs.Plain.{plain};
 ghost use Rattle.engine.specs.Joint.{turn, Operands, Next, Lowest};
+ghost use Rattle.promises.specs.Words.{features, size, count};
 
 // The lower of two features.
 fn lower(x: usize, y: usize) -> usize

@@ -3,10 +3,11 @@ use mathlib.Core.Path.{_≡_, refl}
 use mathlib.Core.List.{[], _∷_}
 use native.Mathlib.Omega.{arith}
 use lib.IntN.{pos}
-use Rattle.cost_laws.specs.Extremes.{highestOf, lowestOf, extreme}
-use Rattle.cost_laws.specs.Operations.{constant, largerOf, smallerOf, sum}
-use Rattle.cost_laws.specs.Range.{Leaves, Within, costMost}
+use Rattle.cost_laws.specs.Extremes.{highestOf, lowestOf}
 use Rattle.examples.specs.Examples.{sizes, P, Q, P+Q}
+use Rattle.promises.specs.CostSound.{extreme}
+use Rattle.promises.specs.CostOperations.{constant, largerOf, smallerOf, sum}
+use Rattle.promises.specs.Range.{Leaves, Within, costMost}
 
 lowest-and-highest : (lowestOf sizes P+Q ≡ pos 1) × (highestOf sizes P+Q ≡ pos 15)
 unfolding extreme smallerOf largerOf sizes P Q

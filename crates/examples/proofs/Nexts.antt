@@ -1,6 +1,6 @@
--- Document 01's examples of next and of BAD SELECTOR, in the rules a and c. Assumes nothing.
+-- The examples of next and of BAD SELECTOR, in the rules a and c. Assumes nothing.
 use mathlib.Core.Path.{_≡_, refl, sym, ap, _∙_}
-use mathlib.Core.Logic.{inl, inr}
+use mathlib.Core.Logic.{inl, inr, ⊎-elim}
 use mathlib.Core.List.{List, [], _∷_}
 use Prim.Native.Nat.{ℕ, zero, suc, _≤_, _<_}
 use native.Mathlib.Decide.{ℕ-discrete}
@@ -13,9 +13,11 @@ use Rattle.theory.specs.Rules.{Rule}
 use Rattle.theory.proofs.Lists.{getD-map-in}
 use Rattle.theory.proofs.Rank.{rank, rank-below, rank-order}
 use Rattle.theory.proofs.Counted.{settings-length, settings-at}
-use Rattle.rule_operators.specs.Operators.{pairOf}
-use Rattle.operations.specs.Literal.{bitOf}
-use Rattle.examples.specs.Examples.{sizes, a, b, c, numbers, six}
+use Rattle.settings.specs.declared.refusals.Refusal.the-variants.{BadSelector, None}
+use Rattle.settings.proofs.Endings.{stop, pass}
+use Rattle.promises.specs.RuleDeeds.{case, next-with}
+use Rattle.examples.specs.Examples.{sizes, a, b, c, shelf, RefusedAs, numbers, six}
+use Rattle.promises.specs.Operators.{pairOf, bitOf}
 
 -- a setting's number stands in the list at its rank
 number-at : (g : Rule) (u : List ℕ) → Valid sizes u → g u .end ≡ getD (numbers g) (rank sizes u) 0
@@ -82,10 +84,33 @@ next-one = record { valid = (omega arith, (omega arith, tt)); gives = refl; from
     least : (u : List ℕ) → Valid (2 ∷ 3 ∷ []) u → c u .end ≡ 1 → From (1 ∷ 1 ∷ []) u → From (1 ∷ 2 ∷ []) u
     least u v g f = only u v (rank sizes u) refl g (from-rank u v f)
 
-pub none-two : NoneFrom sizes c 2 (0 ∷ 0 ∷ [])
+none-two : NoneFrom sizes c 2 (0 ∷ 0 ∷ [])
 none-two = record { none = λ u v g f. omega (arith, c-at u v, at-most-one (rank sizes u)) }
 
--- a reaches the length of a list of one branch: BAD SELECTOR
-pub reached : Reaches sizes a (length (b ∷ []))
+-- NONE: c gives 2 to no setting
+pub refused-none : RefusedAs 11 (next-with 3 2 (0 ∷ 0 ∷ []) .cases shelf)
+unfolding shelf sizes
+refused-none =
+    (None, pass (λ n. n (record { each = each })) (pass (⊎-elim (λ h. omega arith) (λ h. h valid)) (stop none-two)), refl)
+  where
+    each : (j : ℕ) → j < 1 → getD (3 ∷ []) j 0 < 32
+    each zero h = omega arith
+    each (suc j) h = omega arith
+
+    valid : Valid sizes (0 ∷ 0 ∷ [])
+    valid = (omega arith, (omega arith, tt))
+
+-- BAD SELECTOR: a reaches the length of a list of one branch
+reached : Reaches sizes a 1
 unfolding sizes a bitOf
 reached = record { setting = 0 ∷ 0 ∷ []; valid = (omega arith, (omega arith, tt)); holds = omega arith }
+
+pub refused-selector : RefusedAs 7 (case 4 2 (0 ∷ []) .cases shelf)
+unfolding shelf
+refused-selector = (BadSelector, pass (λ n. n (record { each = each })) (pass (⊎-elim (λ h. omega arith) (λ h. omega arith)) (stop reached)), refl)
+  where
+    each : (j : ℕ) → j < 3 → getD (4 ∷ 2 ∷ 0 ∷ []) j 0 < 32
+    each zero h = omega arith
+    each (suc zero) h = omega arith
+    each (suc (suc zero)) h = omega arith
+    each (suc (suc (suc j))) h = omega arith

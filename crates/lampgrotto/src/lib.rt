@@ -1,4 +1,4 @@
-// The calls for C. Each answers document 01's refusal number, 0 where the call was taken; other results go into the lent words out,
+// The calls for C. Each answers the scope's refusal number, 0 where the call was taken; other results go into the lent words out,
 // as many as fit.
 mod filing; // filing.rt: the calls between a table and sheets
 mod reading; // reading.rt: the calls that only read, and the stepper

@@ -7,7 +7,13 @@ use c_results::put_two;
 use c_results::put_values;
 use settings::Setting;
 use settings::outcome_number;
-ghost use Rattle.lampgrotto.specs.Calls.{Looked, Compared, Tallied, Counted, Met, Stepped};
+ghost use mathlib.Core.List.{[]};
+ghost use Rattle.settings.specs.Step.{Steps, settingOf};
+ghost use Rattle.promises.specs.Deed.{Meets};
+ghost use Rattle.promises.specs.ForC.{heard, Hears, tell-compared, tell-counted, tell-looked, tell-met, tell-stepped, tell-tallied};
+ghost use Rattle.promises.specs.TableDeeds as D;
+ghost use Rattle.promises.specs.RuleDeeds as R;
+ghost use Rattle.promises.specs.RuleDeeds.{ruled};
 
 // The number that the rule of the place gives the setting, then how many features were asked.
 #[no_mangle]
@@ -17,7 +23,7 @@ pub extern "C" fn lampgrotto_rule_look_up(
     setting: &[u8],
     out: &mut [u32],
 ) -> u32
-    ensures { λ r. ⌜ Looked place (now (setting .entry)) (now (t .entry)) (now (out .entry)) (now (out .exit)) r ⌝ }
+    ensures { λ r. ⌜ Hears (Meets (D.look-up ruled place (now (setting .entry))) (now (t .entry)) (now (t .entry))) (tell-looked (now (out .entry))) (heard r (now (out .exit)) []) ⌝ }
 {
     let r = rules::look_up(t, place, setting);
     put_two(out, r.number, r.asked);
@@ -28,7 +34,7 @@ pub extern "C" fn lampgrotto_rule_look_up(
 // Whether the rules of two places agree at every setting: 1 or 0.
 #[no_mangle]
 pub extern "C" fn lampgrotto_same(t: &[u32], a: usize, b: usize, out: &mut [u32]) -> u32
-    ensures { λ r. ⌜ Compared a b (now (t .entry)) (now (out .entry)) (now (out .exit)) r ⌝ }
+    ensures { λ r. ⌜ Hears (Meets (D.same ruled a b) (now (t .entry)) (now (t .entry))) (tell-compared (now (out .entry))) (heard r (now (out .exit)) []) ⌝ }
 {
     let r = rules::same(t, a, b);
     put_flag(out, r.same);
@@ -39,7 +45,7 @@ pub extern "C" fn lampgrotto_same(t: &[u32], a: usize, b: usize, out: &mut [u32]
 // How many settings the rule of the place gives the number: two words, the low one first.
 #[no_mangle]
 pub extern "C" fn lampgrotto_count(t: &[u32], place: usize, number: u32, out: &mut [u32]) -> u32
-    ensures { λ r. ⌜ Counted place number (now (t .entry)) (now (out .entry)) (now (out .exit)) r ⌝ }
+    ensures { λ r. ⌜ Hears (Meets (R.count-with place number) (now (t .entry)) (now (t .entry))) (tell-counted (now (out .entry))) (heard r (now (out .exit)) []) ⌝ }
 {
     let r = operations::count(t, place, number);
     put_number(out, r.count);
@@ -56,7 +62,7 @@ pub extern "C" fn lampgrotto_next(
     setting: &[u8],
     out: &mut [u32],
 ) -> u32
-    ensures { λ r. ⌜ Met place number (now (setting .entry)) (now (t .entry)) (now (out .entry)) (now (out .exit)) r ⌝ }
+    ensures { λ r. ⌜ Hears (Meets (R.next-with place number (now (setting .entry))) (now (t .entry)) (now (t .entry))) (tell-met (now (out .entry))) (heard r (now (out .exit)) []) ⌝ }
 {
     let r = operations::next(t, place, number, setting);
     let s = r.setting;
@@ -69,7 +75,7 @@ pub extern "C" fn lampgrotto_next(
 // The number of distinct rests of all 32 rules.
 #[no_mangle]
 pub extern "C" fn lampgrotto_tally(t: &[u32], out: &mut [u32]) -> u32
-    ensures { λ r. ⌜ Tallied (now (t .entry)) (now (out .entry)) (now (out .exit)) r ⌝ }
+    ensures { λ r. ⌜ Hears (Meets (D.tally-all ruled) (now (t .entry)) (now (t .entry))) (tell-tallied (now (out .entry))) (heard r (now (out .exit)) []) ⌝ }
 {
     let r = rules::tally(t);
     put(out, r.count);
@@ -80,7 +86,7 @@ pub extern "C" fn lampgrotto_tally(t: &[u32], out: &mut [u32]) -> u32
 // The next setting in order: whether the given one was the last, then 16 words, the next one's values and 0 past them.
 #[no_mangle]
 pub extern "C" fn lampgrotto_step(features: &[u8], setting: &[u8], out: &mut [u32]) -> u32
-    ensures { λ r. ⌜ Stepped (now (features .entry)) (now (setting .entry)) (now (out .entry)) (now (out .exit)) r ⌝ }
+    ensures { λ r. ⌜ Hears (Steps (now (features .entry)) (settingOf (now (setting .entry)))) (tell-stepped (now (out .entry))) (heard r (now (out .exit)) []) ⌝ }
 {
     let r = Setting::of(setting).next(features);
     let s = r.setting;

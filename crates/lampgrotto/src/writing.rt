@@ -1,16 +1,19 @@
 // The calls for C that write a table.
 use c_results::put;
 use settings::outcome_number;
-ghost use Rattle.c_results.specs.Calls.{Wrote};
-ghost use Rattle.lampgrotto.specs.Calls.{Opened, Spelled};
-ghost use Rattle.rules.specs.Writing.{Constant, Copies};
-ghost use Rattle.operations.specs.Joining.{Operates, Chooses, Forgets};
-ghost use Rattle.operations.specs.Restricting.{Restricts};
+ghost use mathlib.Core.List.{[]};
+ghost use lib.ListN.{length};
+ghost use Rattle.theory.specs.Rules.{says};
+ghost use Rattle.promises.specs.Deed.{Meets};
+ghost use Rattle.promises.specs.ForC.{heard, Hears, tell-ending, tell-spelled};
+ghost use Rattle.promises.specs.TableDeeds as D;
+ghost use Rattle.promises.specs.RuleDeeds as R;
+ghost use Rattle.promises.specs.RuleDeeds.{ruled};
 
 // Opens a rule table over the feature list in the words t, with room for capacity nodes.
 #[no_mangle]
 pub extern "C" fn lampgrotto_open(t: &mut [u32], features: &[u8], capacity: usize) -> u32
-    ensures { λ r. ⌜ Opened (now (features .entry)) capacity (now (t .entry)) (now (t .exit)) r ⌝ }
+    ensures { λ r. ⌜ Hears (Meets (D.open-table ruled (now (features .entry)) capacity (length (now (t .entry)))) (now (t .entry)) (now (t .exit))) (tell-ending []) (heard r [] []) ⌝ }
 {
     outcome_number(rules::open(t, features, capacity))
 }
@@ -18,7 +21,7 @@ pub extern "C" fn lampgrotto_open(t: &mut [u32], features: &[u8], capacity: usiz
 // The rule of the place becomes the constant number.
 #[no_mangle]
 pub extern "C" fn lampgrotto_constant(t: &mut [u32], place: usize, number: u32) -> u32
-    ensures { λ r. ⌜ Wrote (Constant place number (now (t .entry)) (now (t .exit))) r ⌝ }
+    ensures { λ r. ⌜ Hears (Meets (D.constant ruled place (says number)) (now (t .entry)) (now (t .exit))) (tell-ending []) (heard r [] []) ⌝ }
 {
     outcome_number(rules::constant(t, place, number))
 }
@@ -26,7 +29,7 @@ pub extern "C" fn lampgrotto_constant(t: &mut [u32], place: usize, number: u32) 
 // The rule of the place becomes that of another.
 #[no_mangle]
 pub extern "C" fn lampgrotto_copy(t: &mut [u32], place: usize, from: usize) -> u32
-    ensures { λ r. ⌜ Wrote (Copies place from (now (t .entry)) (now (t .exit))) r ⌝ }
+    ensures { λ r. ⌜ Hears (Meets (D.copy ruled place from) (now (t .entry)) (now (t .exit))) (tell-ending []) (heard r [] []) ⌝ }
 {
     outcome_number(rules::copy(t, place, from))
 }
@@ -40,7 +43,7 @@ pub extern "C" fn lampgrotto_literal(
     bits: u32,
     out: &mut [u32],
 ) -> u32
-    ensures { λ r. ⌜ Spelled place feature bits (now (t .entry)) (now (t .exit)) (now (out .entry)) (now (out .exit)) r ⌝ }
+    ensures { λ r. ⌜ Hears (Meets (R.literal place feature bits) (now (t .entry)) (now (t .exit))) (tell-spelled (now (out .entry))) (heard r (now (out .exit)) []) ⌝ }
 {
     let r = operations::literal(t, place, feature, bits);
     put(out, r.size);
@@ -57,7 +60,7 @@ pub extern "C" fn lampgrotto_case(
     selector: usize,
     branches: &[u32],
 ) -> u32
-    ensures { λ r. ⌜ Wrote (Chooses place selector (now (branches .entry)) (now (t .entry)) (now (t .exit))) r ⌝ }
+    ensures { λ r. ⌜ Hears (Meets (R.case place selector (now (branches .entry))) (now (t .entry)) (now (t .exit))) (tell-ending []) (heard r [] []) ⌝ }
 {
     outcome_number(operations::case(t, scratch, place, selector, branches))
 }
@@ -72,7 +75,7 @@ pub extern "C" fn lampgrotto_apply(
     a: usize,
     b: usize,
 ) -> u32
-    ensures { λ r. ⌜ Wrote (Operates place operator a b (now (t .entry)) (now (t .exit))) r ⌝ }
+    ensures { λ r. ⌜ Hears (Meets (R.apply place operator a b) (now (t .entry)) (now (t .exit))) (tell-ending []) (heard r [] []) ⌝ }
 {
     outcome_number(operations::apply(t, scratch, place, operator, a, b))
 }
@@ -86,7 +89,7 @@ pub extern "C" fn lampgrotto_restrict(
     feature: usize,
     value: usize,
 ) -> u32
-    ensures { λ r. ⌜ Wrote (Restricts place from feature value (now (t .entry)) (now (t .exit))) r ⌝ }
+    ensures { λ r. ⌜ Hears (Meets (R.restrict place from feature value) (now (t .entry)) (now (t .exit))) (tell-ending []) (heard r [] []) ⌝ }
 {
     outcome_number(operations::restrict(t, place, from, feature, value))
 }
@@ -100,7 +103,7 @@ pub extern "C" fn lampgrotto_forget(
     from: usize,
     feature: usize,
 ) -> u32
-    ensures { λ r. ⌜ Wrote (Forgets place from feature (now (t .entry)) (now (t .exit))) r ⌝ }
+    ensures { λ r. ⌜ Hears (Meets (R.forget place from feature) (now (t .entry)) (now (t .exit))) (tell-ending []) (heard r [] []) ⌝ }
 {
     outcome_number(operations::forget(t, scratch, place, from, feature))
 }

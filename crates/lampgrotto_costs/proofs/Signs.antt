@@ -8,10 +8,10 @@ use lib.Signed.{ltZ}
 use mir.Syntax.{w64}
 use mir.Val.{SFits, toZ, ofZ}
 use mir.Facts.{toZ-ofZ}
-use Rattle.cost_laws.specs.Integers.{Fit}
-use Rattle.cost_laws.specs.Range.{costMost}
 use Rattle.cost_laws.proofs.Integers.{sum-ℕ, ℕ-eq, test-lt, test-le}
-use Rattle.lampgrotto_costs.specs.Signed.{signed}
+use Rattle.promises.specs.Integers.{Fit}
+use Rattle.promises.specs.Range.{costMost}
+use Rattle.promises.specs.ForC.{signed}
 
 -- a cost's word is a word
 pub signed-small : (z : ℤ) → Fit costMost z → signed z < 4294967296

@@ -1,10 +1,10 @@
 // The calls for C that are lent a rule table and a cost table.
 use crate::signed::put_found;
 use settings::outcome_number;
-ghost use Rattle.c_results.specs.Calls.{Wrote};
-ghost use Rattle.both_tables.specs.Choosing.{Chooses};
-ghost use Rattle.both_tables.specs.Comparing.{Compares};
-ghost use Rattle.lampgrotto_costs.specs.Calls.{Found};
+ghost use mathlib.Core.List.{[]};
+ghost use Rattle.promises.specs.Deed.{Meets};
+ghost use Rattle.promises.specs.ForC.{heard, Hears, tell-ending, tell-found};
+ghost use Rattle.promises.specs.BothDeeds as B;
 
 // The cost of the place becomes that of the first place where the rule is not 0, else that of the second.
 #[no_mangle]
@@ -17,7 +17,7 @@ pub extern "C" fn lampgrotto_choose(
     a: usize,
     b: usize,
 ) -> u32
-    ensures { λ r. ⌜ Wrote (Chooses place rule a b (now (rules .entry)) (now (t .entry)) (now (t .exit))) r ⌝ }
+    ensures { λ r. ⌜ Hears (Meets (B.choose place rule a b) (now (rules .entry), now (t .entry)) (now (rules .entry), now (t .exit))) (tell-ending []) (heard r [] []) ⌝ }
 {
     outcome_number(both_tables::choose(t, rules, scratch, place, rule, a, b))
 }
@@ -32,7 +32,7 @@ pub extern "C" fn lampgrotto_less(
     a: usize,
     b: usize,
 ) -> u32
-    ensures { λ r. ⌜ Wrote (Compares place a b (now (costs .entry)) (now (t .entry)) (now (t .exit))) r ⌝ }
+    ensures { λ r. ⌜ Hears (Meets (B.less-than place a b) (now (t .entry), now (costs .entry)) (now (t .exit), now (costs .entry))) (tell-ending []) (heard r [] []) ⌝ }
 {
     outcome_number(both_tables::less(t, costs, scratch, place, a, b))
 }
@@ -47,7 +47,7 @@ pub extern "C" fn lampgrotto_lowest(
     rule: usize,
     out: &mut [u32],
 ) -> u32
-    ensures { λ r. ⌜ Found place rule (now (rules .entry)) (now (costs .entry)) (now (out .entry)) (now (out .exit)) r ⌝ }
+    ensures { λ r. ⌜ Hears (Meets (B.lowest place rule) (now (rules .entry), now (costs .entry)) (now (rules .entry), now (costs .entry))) (tell-found (now (out .entry))) (heard r (now (out .exit)) []) ⌝ }
 {
     let r = both_tables::lowest(costs, rules, scratch, place, rule);
     let s = r.setting;

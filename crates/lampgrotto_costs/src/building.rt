@@ -1,8 +1,9 @@
 // The cost calls for C that build nodes.
 use settings::outcome_number;
-ghost use Rattle.c_results.specs.Calls.{Wrote};
-ghost use Rattle.cost_operations.specs.Pricing.{Prices};
-ghost use Rattle.cost_operations.specs.Joining.{Adds, Subtracts, TakesSmaller, TakesLarger, Scales};
+ghost use mathlib.Core.List.{[]};
+ghost use Rattle.promises.specs.Deed.{Meets};
+ghost use Rattle.promises.specs.ForC.{heard, Hears, tell-ending};
+ghost use Rattle.promises.specs.CostDeeds as C;
 
 // The cost of the place becomes the price of the feature's value.
 #[no_mangle]
@@ -12,7 +13,7 @@ pub extern "C" fn lampgrotto_price(
     feature: usize,
     prices: &[i64],
 ) -> u32
-    ensures { λ r. ⌜ Wrote (Prices place feature (now (prices .entry)) (now (t .entry)) (now (t .exit))) r ⌝ }
+    ensures { λ r. ⌜ Hears (Meets (C.price place feature (now (prices .entry))) (now (t .entry)) (now (t .exit))) (tell-ending []) (heard r [] []) ⌝ }
 {
     outcome_number(cost_operations::price(t, place, feature, prices))
 }
@@ -26,7 +27,7 @@ pub extern "C" fn lampgrotto_add(
     a: usize,
     b: usize,
 ) -> u32
-    ensures { λ r. ⌜ Wrote (Adds place a b (now (t .entry)) (now (t .exit))) r ⌝ }
+    ensures { λ r. ⌜ Hears (Meets (C.add place a b) (now (t .entry)) (now (t .exit))) (tell-ending []) (heard r [] []) ⌝ }
 {
     outcome_number(cost_operations::add(t, scratch, place, a, b))
 }
@@ -40,7 +41,7 @@ pub extern "C" fn lampgrotto_subtract(
     a: usize,
     b: usize,
 ) -> u32
-    ensures { λ r. ⌜ Wrote (Subtracts place a b (now (t .entry)) (now (t .exit))) r ⌝ }
+    ensures { λ r. ⌜ Hears (Meets (C.subtract place a b) (now (t .entry)) (now (t .exit))) (tell-ending []) (heard r [] []) ⌝ }
 {
     outcome_number(cost_operations::subtract(t, scratch, place, a, b))
 }
@@ -54,7 +55,7 @@ pub extern "C" fn lampgrotto_smaller(
     a: usize,
     b: usize,
 ) -> u32
-    ensures { λ r. ⌜ Wrote (TakesSmaller place a b (now (t .entry)) (now (t .exit))) r ⌝ }
+    ensures { λ r. ⌜ Hears (Meets (C.smaller place a b) (now (t .entry)) (now (t .exit))) (tell-ending []) (heard r [] []) ⌝ }
 {
     outcome_number(cost_operations::smaller(t, scratch, place, a, b))
 }
@@ -68,7 +69,7 @@ pub extern "C" fn lampgrotto_larger(
     a: usize,
     b: usize,
 ) -> u32
-    ensures { λ r. ⌜ Wrote (TakesLarger place a b (now (t .entry)) (now (t .exit))) r ⌝ }
+    ensures { λ r. ⌜ Hears (Meets (C.larger place a b) (now (t .entry)) (now (t .exit))) (tell-ending []) (heard r [] []) ⌝ }
 {
     outcome_number(cost_operations::larger(t, scratch, place, a, b))
 }
@@ -82,7 +83,7 @@ pub extern "C" fn lampgrotto_scale(
     a: usize,
     factor: i64,
 ) -> u32
-    ensures { λ r. ⌜ Wrote (Scales place a factor (now (t .entry)) (now (t .exit))) r ⌝ }
+    ensures { λ r. ⌜ Hears (Meets (C.scale place a factor) (now (t .entry)) (now (t .exit))) (tell-ending []) (heard r [] []) ⌝ }
 {
     outcome_number(cost_operations::scale(t, scratch, place, a, factor))
 }

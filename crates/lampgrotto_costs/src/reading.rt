@@ -3,7 +3,11 @@ use crate::signed::put_cost;
 use c_results::put;
 use c_results::put_flag;
 use settings::outcome_number;
-ghost use Rattle.lampgrotto_costs.specs.Calls.{Looked, Compared, Tallied};
+ghost use mathlib.Core.List.{[]};
+ghost use Rattle.promises.specs.Deed.{Meets};
+ghost use Rattle.promises.specs.ForC.{heard, Hears, tell-compared, tell-cost-looked, tell-tallied};
+ghost use Rattle.promises.specs.TableDeeds as D;
+ghost use Rattle.promises.specs.CostDeeds.{costed};
 
 // The cost that the place gives the setting, then how many features were asked.
 #[no_mangle]
@@ -13,7 +17,7 @@ pub extern "C" fn lampgrotto_cost_look_up(
     setting: &[u8],
     out: &mut [u32],
 ) -> u32
-    ensures { λ r. ⌜ Looked place (now (setting .entry)) (now (t .entry)) (now (out .entry)) (now (out .exit)) r ⌝ }
+    ensures { λ r. ⌜ Hears (Meets (D.look-up costed place (now (setting .entry))) (now (t .entry)) (now (t .entry))) (tell-cost-looked (now (out .entry))) (heard r (now (out .exit)) []) ⌝ }
 {
     let r = costs::look_up(t, place, setting);
     put_cost(out, r.cost, r.asked);
@@ -24,7 +28,7 @@ pub extern "C" fn lampgrotto_cost_look_up(
 // Whether the costs of two places agree at every setting: 1 or 0.
 #[no_mangle]
 pub extern "C" fn lampgrotto_cost_same(t: &[u32], a: usize, b: usize, out: &mut [u32]) -> u32
-    ensures { λ r. ⌜ Compared a b (now (t .entry)) (now (out .entry)) (now (out .exit)) r ⌝ }
+    ensures { λ r. ⌜ Hears (Meets (D.same costed a b) (now (t .entry)) (now (t .entry))) (tell-compared (now (out .entry))) (heard r (now (out .exit)) []) ⌝ }
 {
     let r = costs::same(t, a, b);
     put_flag(out, r.same);
@@ -35,7 +39,7 @@ pub extern "C" fn lampgrotto_cost_same(t: &[u32], a: usize, b: usize, out: &mut 
 // The number of distinct rests of all 16 costs.
 #[no_mangle]
 pub extern "C" fn lampgrotto_cost_tally(t: &[u32], out: &mut [u32]) -> u32
-    ensures { λ r. ⌜ Tallied (now (t .entry)) (now (out .entry)) (now (out .exit)) r ⌝ }
+    ensures { λ r. ⌜ Hears (Meets (D.tally-all costed) (now (t .entry)) (now (t .entry))) (tell-tallied (now (out .entry))) (heard r (now (out .exit)) []) ⌝ }
 {
     let r = costs::tally(t);
     put(out, r.count);

@@ -3,10 +3,9 @@ use c_results::put_before;
 use c_results::put_two;
 ghost use mathlib.Core.Path.{_≡_};
 ghost use mathlib.Core.List.{[], _∷_};
-ghost use Rattle.cost_laws.specs.Integers.{Fit};
-ghost use Rattle.cost_laws.specs.Range.{costMost};
-ghost use Rattle.c_results.specs.Results.{placed};
-ghost use Rattle.lampgrotto_costs.specs.Signed.{signed};
+ghost use Rattle.promises.specs.Integers.{Fit};
+ghost use Rattle.promises.specs.Range.{costMost};
+ghost use Rattle.promises.specs.ForC.{placed, signed};
 
 // The word of a cost.
 fn signed_word(z: i64) -> u32

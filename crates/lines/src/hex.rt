@@ -3,7 +3,6 @@ use crate::numbers::digit;
 use crate::words::Listed;
 use crate::words::none;
 use libc::STDOUT_FILENO;
-ghost use mathlib.Core.Path.{_≡_};
 ghost use Rattle.io.specs.Counts.{Counts};
 
 fn wide(x: u8) -> u32 {

@@ -7,10 +7,9 @@ use native.Mathlib.Omega.{arith}
 use lib.ListN.{length, getD}
 use Rattle.theory.specs.Diagrams.{Node}
 use Rattle.theory.specs.Kind.{Kind}
-use Rattle.words.specs.Tab.{tab}
 use Rattle.words.specs.Coding.{Code, Faithful, nodeAt, nodes}
 use Rattle.words.specs.Holding as H
-use Rattle.words.specs.Words.{head, word, capacity, features, size, sizes, count, bound, feature, body, hashAt, lastOf, Kept}
+use Rattle.words.specs.Words.{Kept}
 use Rattle.words.proofs.Chains.{last-ext}
 use Rattle.words.proofs.Coding.{node-is}
 use Rattle.words.proofs.Sparing.{spared-same}
@@ -20,6 +19,8 @@ use Rattle.records.specs.Laid.{Laid}
 use Rattle.records.specs.Nodes.{NodesLaid, layoutOf}
 use Rattle.notes.specs.Plain.{Roomy, plain}
 use Rattle.notes.proofs.Plain.{length-plain, plain-near, plain-far, plain-past, plain-capacity}
+use Rattle.promises.specs.Tab.{tab}
+use Rattle.promises.specs.Words.{nodesBy, head, word, capacity, features, size, sizes, count, bound, feature, body, hashAt, lastOf}
 
 pub record Like (w u : List ℕ) : Type 0 where
   pub long : length u ≡ length w
@@ -82,7 +83,7 @@ module _ {w u : List ℕ} (e : Like w u) where
 
     module _ {K : Kind} {C : Code K} (F : Faithful C) where
       pub like-nodes : nodes C u ≡ nodes C w
-      unfolding nodes
+      unfolding nodesBy
       like-nodes =
           ap (tab (nodeAt C u)) cnt
           ∙ tab-ext (nodeAt C u) (nodeAt C w) (count w)

@@ -7,11 +7,12 @@ use native.Mathlib.Omega.{arith}
 use borrow.Author.Tests.{lt-ltb, le-ltb}
 use lib.ListN.{length, getD, take, drop, length-drop, length-append, List·getD-append}
 use lib.Seq.{length-take-le, getD-take, getD-drop, getD-append-add, ext-getD}
-use Rattle.words.specs.Words.{head, capacity, bound, Kept}
+use Rattle.words.specs.Words.{Kept}
 use Rattle.words.proofs.Tab.{split}
 use Rattle.notes.specs.Plain.{Roomy, Resting, Cleared, plain}
 use Rattle.notes.specs.Far.{far, memory, Aside}
 use Rattle.notes.proofs.Plain.{plain-is, plain-of}
+use Rattle.promises.specs.Words.{head, capacity, bound}
 
 -- ---- which words remember
 pub memory-far : (w s : List ℕ) → length s < 16 * capacity w → memory w s ≡ far w

@@ -7,9 +7,9 @@ use native.Mathlib.Omega.{arith}
 use borrow.Author.Tests.{lt-ltb, le-ltb}
 use lib.ListN.{length, getD, set, length-set, List·getD-eq-default}
 use lib.Seq.{getD-set-other, ext-getD}
-use Rattle.words.specs.Words.{head, capacity, bound, Zeros}
 use Rattle.words.proofs.Tab.{split, length-tab, getD-tab}
 use Rattle.notes.specs.Plain.{Roomy, plainAt, plain}
+use Rattle.promises.specs.Words.{head, capacity, bound, Zeros}
 
 -- ---- the words one by one
 pub length-plain : (w : List ℕ) → length (plain w) ≡ length w

@@ -1,10 +1,10 @@
--- Where a walk over a table remembers: in the scratch, or in the far records where these are more. Assumes nothing.
+-- Contract between layers: where a walk over a table remembers: in the scratch, or in the far records where these are more. Assumes nothing.
 use mathlib.Core.Path.{_≡_}
 use mathlib.Core.List.{List}
 use Prim.Native.Nat.{ℕ, _+_, _*_}
 use lib.Dec.{ltb}
 use lib.ListN.{length, take, drop}
-use Rattle.words.specs.Words.{capacity, pick}
+use Rattle.promises.specs.Words.{capacity, pick}
 
 -- the words of the far records
 unfoldable pub far : List ℕ → List ℕ

@@ -1,11 +1,11 @@
--- A table while a call works has notes in its far records: the words without them. Assumes nothing.
+-- Contract between layers: a table while a call works has notes in its far records: the words without them. Assumes nothing.
 use mathlib.Core.Path.{_≡_}
 use mathlib.Core.List.{List}
 use Prim.Native.Nat.{ℕ, _+_, _*_, _≤_, _<_}
 use lib.Dec.{ltb}
 use lib.ListN.{length, getD}
-use Rattle.words.specs.Tab.{tab}
-use Rattle.words.specs.Words.{capacity, bound, pick, Zeros}
+use Rattle.promises.specs.Tab.{tab}
+use Rattle.promises.specs.Words.{capacity, bound, pick, Zeros}
 
 -- the words have room for the far records
 pub record Roomy (w : List ℕ) : Type 0 where

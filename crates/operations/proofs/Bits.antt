@@ -15,20 +15,24 @@ use Rattle.theory.specs.Rules.{Branch, Node, Built, says}
 use Rattle.theory.proofs.Canonical.{each-stays}
 use Rattle.theory.proofs.Rules.{value-phrase}
 use Rattle.words.specs.Holding.{eachTo, built as builtOf}
-use Rattle.words.specs.Words.{features, size, sizes, listed}
+use Rattle.words.specs.Words.{listed}
 use Rattle.words.proofs.Filling.{grown-refl}
 use Rattle.words.proofs.Tab.{split, length-tab, getD-tab}
-use Rattle.rule_words.specs.Words.{decode, branches, nodes}
+use Rattle.rule_words.specs.Words.{branches}
 use Rattle.rule_words.proofs.Reading.{decode-phrase, length-nodes}
 use Rattle.rule_nodes.specs.Nodes.{layout, Holds, Listed, Makes, Result, built, Filling}
 use Rattle.rule_nodes.specs.declared.Answer.{Answer}
 use Rattle.rule_nodes.proofs.Filling.{gives-eq, built-skip, built-there, fill-listed, fill-make}
 use Rattle.rule_nodes.proofs.Reading.{lawful}
+use Rattle.settings.specs.declared.refusals.Refusal.{Refusal}
 use Rattle.settings.specs.declared.refusals.Outcome.{Outcome}
-use Rattle.settings.specs.declared.refusals.Outcome.the-variants.{Taken}
-use Rattle.rules.specs.Writing.{Writes}
-use Rattle.operations.specs.declared.spelling.Made.{Made}
-use Rattle.operations.specs.Literal.{bitOf, literalOf, literal-cases, setSize, Sized, Spelled, Literals}
+use Rattle.settings.specs.declared.refusals.Outcome.the-variants.{Taken, Refused}
+use Rattle.promises.specs.declared.Spelled.{Spelled}
+use Rattle.promises.specs.Words.{features, size, sizes}
+use Rattle.promises.specs.RuleWords.{decode, ruleNodes as nodes}
+use Rattle.promises.specs.Operators.{bitOf, literalOf, setSize}
+use Rattle.promises.specs.RuleDeeds.{spelled}
+use Rattle.operations.specs.Literal.{BitList, Sized}
 
 -- ---- bits
 bit-small : (x v : ℕ) → bitOf x v < 65536
@@ -74,7 +78,7 @@ down w x k (suc d) ok h =
     let e : k + suc d ≡ k + 1 + d = omega arith in
     rw e (built-skip w k (literalOf (suc d) x) (literalOf d x) ok (omega arith) (λ v l s. refl) ∙ down w x (k + 1) d ok (omega arith))
 
-module _ (w : List ℕ) (f x : ℕ) (l : List ℕ) (ok : Holds w) (hf : f < features w) (bits : Spelled x (size w f) l) where
+module _ (w : List ℕ) (f x : ℕ) (l : List ℕ) (ok : Holds w) (hf : f < features w) (bits : BitList x (size w f) l) where
   small : (v : ℕ) → v < size w f → listed l v < 65536
   small v h = rw (bits .each v h) (bit-small x v)
 
@@ -109,11 +113,10 @@ module _ (w : List ℕ) (f x : ℕ) (l : List ℕ) (ok : Holds w) (hf : f < feat
   literal-made t a m =
       gives-eq (down w x 0 f ok (omega arith) ∙ ap (λ (k : ℕ). built w k (literalOf 0 x)) (zero-add f)) (fill-make w f (literalOf 0 x) ok hf w t l a filled m)
 
--- ---- the answer: what was written, and the size of the set
-pub literal-answered : {p f x : ℕ} {w w′ : List ℕ} {r : Made} (o : Outcome) → Writes (literal-cases p f x w) p (literalOf f x) w w′ o → Sized o x r → (o ≡ Taken → x < 2 ^ size w f) → Literals p f x w w′ r
-literal-answered {p} {f} {x} {w} {w′} {r} o d z h =
-    record {
-      writes = subst (Writes (literal-cases p f x w) p (literalOf f x) w w′) (sym (z .outcome)) d;
-      gives = λ e. let q : o ≡ Taken = sym (z .outcome) ∙ e in z .taken q ∙ ones-size (size w f) x (h q);
-      refused = λ y e. z .refused y (sym (z .outcome) ∙ e);
-    }
+-- ---- the answer that goes with an ending: the size of the set, or 0
+module _ {o : Outcome} {x : ℕ} {r : Spelled} (z : Sized o x r) where
+  pub sized-taken : (n : ℕ) → x < 2 ^ n → o ≡ Taken → r .size ≡ setSize n x
+  sized-taken n h k = z .taken k ∙ ones-size n x h
+
+  pub sized-refused : (y : Refusal) → o ≡ Refused y → r ≡ spelled .made (Refused y) 0
+  sized-refused y k = λ i. record { outcome = (z .outcome ∙ k) i; size = z .refused y k i }

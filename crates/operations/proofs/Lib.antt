@@ -1,3 +1,5 @@
 pub mod Operands
 pub mod Bits
 pub mod Firsts
+pub mod Doors
+pub mod Putting

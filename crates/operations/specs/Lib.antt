@@ -1,5 +1,3 @@
 pub mod Joining
-pub mod Restricting
 pub mod Literal
-pub mod Counting
 pub mod Meeting

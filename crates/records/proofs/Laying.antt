@@ -5,12 +5,13 @@ use mathlib.Core.List.{List}
 use Prim.Native.Nat.{ℕ, suc, _+_, _*_, _<_}
 use native.Mathlib.Numerals.{add-one}
 use native.Mathlib.Omega.{arith}
-use Rattle.words.specs.Words.{word, capacity, features, count, listed, feature, body, link, bucket, hashOf, hashAt, lastOf, Kept}
+use Rattle.words.specs.Words.{listed, Kept}
 use Rattle.words.proofs.Tab.{split, same}
 use Rattle.words.proofs.Words.{kept-features, kept-capacity, kept-size, hash-ext, hash-small, hashAt-ext}
 use Rattle.words.proofs.Chains.{last-ext, last-here, last-not}
 use Rattle.records.specs.Laid.{Laid}
 use Rattle.records.specs.Changes.{Pushed, Popped, RecordIs}
+use Rattle.promises.specs.Words.{word, capacity, features, count, feature, body, link, bucket, hashOf, hashAt, lastOf}
 
 -- the new record is what was asked for
 pub pushed-is : (w w′ : List ℕ) (k : ℕ) (l : List ℕ) {x y : ℕ} → Pushed w w′ k l x y → RecordIs w′ (count w) k l

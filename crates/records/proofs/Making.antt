@@ -18,8 +18,7 @@ use Rattle.theory.proofs.Offsets.{Level, branchTo}
 use Rattle.theory.proofs.WellFormed.{length-snoc}
 use Rattle.words.specs.Coding.{Code, Faithful, branches, nodeAt, nodes}
 use Rattle.words.specs.Holding.{Lawful, Holds, Gives}
-use Rattle.words.specs.Tab.{tab}
-use Rattle.words.specs.Words.{capacity, features, size, sizes, count, word, feature, body, listed, Kept}
+use Rattle.words.specs.Words.{listed, Kept}
 use Rattle.words.proofs.Coding.{length-nodes, at-nodes, bodies-same, node-is}
 use Rattle.words.proofs.Filling.{grown-refl}
 use Rattle.words.proofs.Sparing.{spare-ext}
@@ -28,6 +27,8 @@ use Rattle.words.proofs.Words.{length-sizes, at-sizes, kept-refl, kept-trans, k
 use Rattle.records.specs.Changes.{Pushed, RecordIs, Finds}
 use Rattle.records.specs.Nodes.{NodesLaid, layoutOf, Listed, nodeOf, Behind, Absent}
 use Rattle.records.proofs.Laying.{pushed-kept, pushed-laid}
+use Rattle.promises.specs.Tab.{tab}
+use Rattle.promises.specs.Words.{nodesBy, capacity, features, size, sizes, count, word, feature, body}
 
 -- such a table is a lawful holder
 pub lawful : {K : Kind} (C : Code K) → Lawful (layoutOf C)
@@ -72,7 +73,7 @@ module _ {K : Kind} {C : Code K} (F : Faithful C) where
     node-new = node-is F w′ (count w) k (size w k) (listed l) (p .feature) (sz k hk) (most k hk) (p .new)
 
     pub pushed-nodes : nodes C w′ ≡ nodes C w ++ (nodeOf C w k l ∷ [])
-    unfolding nodes
+    unfolding nodesBy
     pushed-nodes =
         ap (tab (nodeAt C w′)) (p .more ∙ add-one (count w)) ∙ tab-snoc (nodeAt C w′) (count w)
         ∙ ap₂ (λ (a : List (Node K)) (b : Node K). a ++ (b ∷ [])) (tab-ext (nodeAt C w′) (nodeAt C w) (count w) node-old) node-new

@@ -11,7 +11,6 @@ use Rattle.theory.proofs.Growing.{ext-le}
 use Rattle.theory.proofs.WellFormed.{at-more}
 use Rattle.words.specs.Coding.{Code, Faithful, branches, nodeAt, nodes}
 use Rattle.words.specs.Holding.{Holds, Grown}
-use Rattle.words.specs.Words.{size, sizes, count, word, feature, body}
 use Rattle.words.proofs.Coding.{length-nodes, at-nodes, bodies-same}
 use Rattle.words.proofs.Filling.{grown-ext}
 use Rattle.words.proofs.Sparing.{spare-ext}
@@ -21,6 +20,7 @@ use Rattle.records.specs.Changes.{Rolled}
 use Rattle.records.specs.Nodes.{layoutOf}
 use Rattle.records.proofs.Making.{lawful}
 use Rattle.records.proofs.Undoing.{undone}
+use Rattle.promises.specs.Words.{size, sizes, count, word, feature, body}
 
 module _ {K : Kind} {C : Code K} (F : Faithful C) (w t : List ℕ) (N : List (Node K)) (ok : Holds (layoutOf C) w) (g : Grown (layoutOf C) w t N) (e : Ext (nodes C w) N) where
   x : Ext (nodes C w) (nodes C t)

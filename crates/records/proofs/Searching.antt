@@ -4,13 +4,14 @@ use mathlib.Core.Logic.{⊎-elim}
 use mathlib.Core.List.{List}
 use Prim.Native.Nat.{ℕ, _-_, _≤_, _<_}
 use native.Mathlib.Omega.{arith}
-use Rattle.words.specs.Words.{count, listed, link, bucket, hashOf, hashAt}
+use Rattle.words.specs.Words.{listed}
 use Rattle.words.proofs.Tab.{split, same}
 use Rattle.words.proofs.Words.{hash-small}
 use Rattle.words.proofs.Chains.{Last, last-is}
 use Rattle.records.specs.Laid.{Laid}
 use Rattle.records.specs.Changes.{RecordIs, Finds}
 use Rattle.records.proofs.Laying.{hash-is}
+use Rattle.promises.specs.Words.{count, link, bucket, hashOf, hashAt}
 
 -- the search stands at the chain's word c: the records from c on are not it
 pub record Searched (w : List ℕ) (k : ℕ) (l : List ℕ) (c : ℕ) : Type 0 where

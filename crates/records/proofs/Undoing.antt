@@ -7,13 +7,14 @@ use native.Mathlib.Nat.{div-add-mod, mod-lt}
 use native.Mathlib.Omega.{arith}
 use lib.ListN.{getD}
 use lib.Seq.{ext-getD}
-use Rattle.words.specs.Words.{word, head, capacity, count, link, hashAt, lastOf, Kept}
+use Rattle.words.specs.Words.{Kept}
 use Rattle.words.proofs.Tab.{split, same}
 use Rattle.words.proofs.Words.{kept-capacity, kept-refl, kept-trans, hashAt-ext}
 use Rattle.words.proofs.Chains.{last-ext}
 use Rattle.records.specs.Laid.{Laid}
 use Rattle.records.specs.Changes.{Popped, Rolled}
 use Rattle.records.proofs.Laying.{popped-kept, popped-laid}
+use Rattle.promises.specs.Words.{word, head, capacity, count, link, hashAt, lastOf}
 
 pub roll-none : (w : List ℕ) (n : ℕ) → Laid w → n ≡ count w → Rolled w w n
 roll-none w n ok e = record { kept = kept-refl w; laid = ok; fewer = sym e; old = λ i j a b. refl }

@@ -6,9 +6,10 @@ use Prim.Native.Nat.{ℕ, zero, suc, _+_, _*_, _≤_, _<_}
 use native.Mathlib.Omega.{arith}
 use lib.ListN.{length, getD, set, length-set}
 use lib.Seq.{getD-set-same, getD-set-other}
-use Rattle.words.specs.Words.{word, head, count, listed, hashOf, hashAt}
+use Rattle.words.specs.Words.{listed}
 use Rattle.words.proofs.Tab.{same}
 use Rattle.records.specs.Changes.{Pushed, Popped, pairOf}
+use Rattle.promises.specs.Words.{word, head, count, hashOf, hashAt}
 
 -- one more of a run of stores
 pub run-more : (t l : List ℕ) (b v : ℕ) → b + v < length t

@@ -1,10 +1,11 @@
--- One record more, one fewer, the records from n on taken away, and a record found. Assumes nothing.
+-- Contract between layers: one record more, one fewer, the records from n on taken away, and a record found. Assumes nothing.
 use mathlib.Core.Path.{_≡_}
 use mathlib.Core.List.{List}
 use Prim.Native.Nat.{ℕ, zero, suc, _+_, _*_, _-_, _≤_, _<_}
 use lib.ListN.{length, getD}
-use Rattle.words.specs.Words.{head, word, count, listed, feature, body, link, bucket, hashOf, hashAt, Kept}
+use Rattle.words.specs.Words.{listed, Kept}
 use Rattle.records.specs.Laid.{Laid}
+use Rattle.promises.specs.Words.{head, word, count, feature, body, link, bucket, hashOf, hashAt}
 
 -- the first of two, else the second
 abbrev pub pairOf : ℕ → ℕ → ℕ → ℕ

@@ -1,9 +1,9 @@
--- What the words of a table of any kind are: every word but the header's, the bodies, the spare words and what lies past the near records follows from the records. Assumes nothing.
+-- Contract between layers: what the words of a table of any kind are: every word but the header's, the bodies, the spare words and what lies past the near records follows from the records. Assumes nothing.
 use mathlib.Core.Path.{_≡_}
 use mathlib.Core.List.{List}
 use Prim.Native.Nat.{ℕ, _+_, _*_, _≤_, _<_}
 use lib.ListN.{length, getD}
-use Rattle.words.specs.Words.{capacity, features, size, count, feature, link, bucket, hashAt, lastOf}
+use Rattle.promises.specs.Words.{capacity, features, size, count, feature, link, bucket, hashAt, lastOf}
 
 pub record Laid (w : List ℕ) : Type 0 where
   pub room : 8192 + 16 * capacity w ≤ length w

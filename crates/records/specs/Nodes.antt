@@ -1,4 +1,4 @@
--- A table of any kind as the holder of a node list, given how its body words say branches; one node that is asked for. Assumes nothing.
+-- Contract between layers: a table of any kind as the holder of a node list, given how its body words say branches; one node that is asked for. Assumes nothing.
 use mathlib.Core.Path.{_≡_}
 use mathlib.Core.List.{List, [], _∷_, _++_}
 use Prim.Native.Nat.{ℕ, suc, _<_}
@@ -8,9 +8,10 @@ use Rattle.theory.specs.Diagrams.{Node, blank, empty}
 use Rattle.theory.specs.WellFormed.{Ok}
 use Rattle.words.specs.Coding.{Code, Spared, branches, nodes}
 use Rattle.words.specs.Holding.{Layout}
-use Rattle.words.specs.Words.{capacity, size, sizes, count, feature, body, listed, Kept}
+use Rattle.words.specs.Words.{listed, Kept}
 use Rattle.records.specs.Changes.{pairOf}
 use Rattle.records.specs.Laid.{Laid}
+use Rattle.promises.specs.Words.{capacity, size, sizes, count, feature, body}
 
 module _ {K : Kind} (C : Code K) where
   -- laid out as every table, each body says nothing past the values of its feature, and each spare word is its node's

@@ -2,7 +2,6 @@
 ghost use mathlib.Core.Path.{_≡_};
 ghost use Prim.Native.Nat.{_+_, _*_, _-_, _≤_, _<_};
 ghost use lib.ListN.{length};
-ghost use Rattle.words.specs.Words.{count, capacity};
 ghost use Rattle.settings.specs.Tells.{Tells};
 ghost use Rattle.records.specs.Laid.{Laid};
 ghost use Rattle.records.specs.Changes.{Pushed, Popped, Rolled, RecordIs, Finds};
@@ -12,6 +11,7 @@ use words::head_word;
 use words::narrow;
 use words::record_word;
 use words::wide;
+ghost use Rattle.promises.specs.Words.{count, capacity};
 
 // Adds a record of feature k with the list as its body and two spare words, at the head of its chain; the answer is its index.
 pub fn push(t: &mut [u32], k: usize, list: [u32; 12], x: u32, y: u32) -> usize

@@ -7,13 +7,15 @@ use lib.ListN.{length, set}
 use lib.Seq.{getD-set-same, getD-set-other}
 use Rattle.theory.specs.Diagrams as D
 use Rattle.theory.specs.Rules.{Branch}
-use Rattle.words.specs.Words.{size, count, feature, body, listed}
+use Rattle.words.specs.Words.{listed}
 use Rattle.words.proofs.Tab.{tab-none, tab-snoc, tab-ext}
-use Rattle.rule_words.specs.Words.{decode, branches, code, nodes}
+use Rattle.rule_words.specs.Words.{branches, code}
 use Rattle.rule_words.proofs.Reading.{decode-phrase, decode-index, length-nodes, under-word, faithful}
 use Rattle.sweep.specs.Collecting.{Good, Ready, Moved, Turning, Moving}
 use Rattle.sweep.proofs.Copying.{moved-leaf, turning-none, turning-more}
 use Rattle.sweep.proofs.Framing.{value-small, still-before}
+use Rattle.promises.specs.Words.{size, count, feature, body}
+use Rattle.promises.specs.RuleWords.{decode, ruleNodes as nodes}
 
 pub good-below : (w : List ℕ) (b : ℕ) → Good code w (decode b .to) → b < 65536 + count w
 good-below w b g = omega (arith, under-word (nodes w) (length (nodes w)) 0 b g, length-nodes w)

@@ -10,11 +10,12 @@ use words::wide;
 ghost use Prim.Native.Nat.{_<_};
 ghost use Rattle.theory.specs.Diagrams.{meaning};
 ghost use Rattle.theory.specs.WellFormed.{Ok};
-ghost use Rattle.words.specs.Words.{count, size, feature};
-ghost use Rattle.rule_words.specs.Words.{decode, code, nodes};
+ghost use Rattle.rule_words.specs.Words.{code};
 ghost use Rattle.rule_words.specs.Picture.{Becomes};
 ghost use Rattle.sweep.specs.Collecting.{Good, Loose, Ready, Moved, Moving, Rooted, Collected};
 ghost use Rattle.rule_collect.specs.Tidy.{form, Untidy, Tidied};
+ghost use Rattle.promises.specs.Words.{count, size, feature};
+ghost use Rattle.promises.specs.RuleWords.{decode, ruleNodes as nodes};
 
 // The copy of a branch, made where there is none.
 fn copy_branch(t: &mut [u32], b: u32) -> u32

@@ -1,1 +1,4 @@
+mod Inside
 pub mod Lending
+pub mod Building
+pub mod Settling

@@ -1,20 +1,11 @@
--- What a rule table lends to the part above it: branch words and the rules that they mean, which the part above knows by its laws alone. Assumes nothing.
+-- Contract between layers: what a rule table lends to the part above it: branch words and the rules that they mean, which the part above knows by its laws alone. Assumes nothing.
 use mathlib.Core.Path.{_≡_}
 use mathlib.Core.List.{List, _∷_}
 use Prim.Native.Nat.{ℕ, _+_, _≤_, _<_}
-use Rattle.theory.specs.Diagrams.{value}
-use Rattle.theory.specs.Rules.{Rule}
-use Rattle.words.specs.Words.{features}
-use Rattle.rule_words.specs.Words.{decode, nodes, ruleOf}
-use Rattle.rule_nodes.specs.Nodes.{Place}
-
--- b is a branch word of the rule table w where the features from k on are left
-pub record Lent (w : List ℕ) (k b : ℕ) : Type 0 where
-  pub place : Place w k b
-
--- the rule of features k and up that it means
-unfoldable pub lent : List ℕ → ℕ → ℕ → Rule
-lent w k b = value (nodes w) k (decode b)
+-- shut: a branch word where the features from k on are left, the rule that it means; a phrase number, which one it is; a key of it
+pub use Rattle.rule_inside.specs.Branches.{Lent, lent, Number, Says, keyOf}
+use Rattle.promises.specs.Words.{features}
+use Rattle.promises.specs.RuleWords.{ruleOf}
 
 -- b is a branch word from some feature on
 pub record Lends (w : List ℕ) (b : ℕ) : Type 0 where
@@ -31,11 +22,16 @@ pub record Goes (w : List ℕ) (k b v r : ℕ) : Type 0 where
   pub there : Lent w (k + 1) r
   pub means : (s : List ℕ) → lent w k b (v ∷ s) ≡ lent w (k + 1) r s
 
--- b, where the features from k on are left, tests no feature below r; with r the number of features it is a phrase number
+-- b, where the features from k on are left, tests no feature below r, and may stand up to there
 pub record Tops (w : List ℕ) (k b r : ℕ) : Type 0 where
   pub from : k ≤ r
   pub most : r ≤ features w
   pub there : (j : ℕ) → k ≤ j → j ≤ r → Lent w j b
   pub waits : (j v : ℕ) (s : List ℕ) → k ≤ j → j < r → lent w j b (v ∷ s) ≡ lent w (j + 1) b s
-  pub phrase : r ≡ features w → b < 65536
-  pub tests : 65536 ≤ b → r < features w
+
+-- how many phrase numbers there are, and the bound of all keys
+abbrev pub phrases : ℕ
+phrases = 65536
+
+abbrev pub keys : ℕ
+keys = 131072

@@ -1,1 +1,3 @@
 pub mod Lending
+pub mod Building
+pub mod Settling

@@ -12,38 +12,40 @@ use lib.Signed.{ltZ}
 use Rattle.theory.specs.Costs.{costs}
 use Rattle.theory.specs.Diagrams.{Branch, Node, meaning}
 use Rattle.theory.specs.Functions.{held}
-use Rattle.theory.specs.Rules.{says}
+use Rattle.theory.specs.Rules.{Rule, says}
 use Rattle.theory.specs.Settings.{Pos}
 use Rattle.theory.specs.WellFormed.{Ok}
 use Rattle.theory.proofs.Lists.{pos-drop}
-use Rattle.cost_laws.specs.Integers.{Fit, int}
 use Rattle.cost_laws.specs.Narrow.{Placed}
-use Rattle.cost_laws.specs.Operations.{isBelow}
-use Rattle.cost_laws.specs.Range.{addMost, costMost}
 use Rattle.cost_laws.specs.Relative.{branchAt, belowFrom, onward}
 use Rattle.cost_laws.proofs.Less.{below-step, below-wait, below-split, below-same}
 use Rattle.cost_laws.proofs.Placing.{placed-start, placed-wait, placed-step, placed-fits, placed-ahead}
 use Rattle.cost_laws.proofs.Relative.{branch-under}
-use Rattle.words.specs.Words.{features, size, sizes, Kept}
 use Rattle.words.proofs.Tab.{split}
-use Rattle.words.proofs.Words.{kept-sizes}
 use Rattle.calls.proofs.Lists.{as-long}
-use Rattle.cost_words.specs.Words.{target, branch, nodes}
 use Rattle.cost_nodes.specs.Nodes.{Good, top, Place}
-use Rattle.cost_nodes.proofs.Reading.{lawful}
+use Rattle.cost_nodes.proofs.Reading.{lawful, sizes-from}
 use Rattle.cost_nodes.proofs.Stepping.{good-small, good-top, top-good, top-most, top-below}
-use Rattle.rule_nodes.specs.Nodes.{Result, Holds as HoldsRules}
-use Rattle.rule_nodes.specs.declared.Answer.{Answer}
-use Rattle.rule_nodes.specs.declared.Answer.the-variants.{Is}
-use Rattle.rule_nodes.proofs.Filling.{gives-eq, result-agree, built-skip, sizes-from}
-use Rattle.rule_nodes.proofs.Staying.{result-phrase}
+use Rattle.rule_lending.specs.Lending.{Says, phrases}
+use Rattle.rule_lending.specs.Building.{Filling, Result}
+use Rattle.rule_lending.specs.declared.Answer.{Answer}
+use Rattle.rule_lending.specs.declared.Answer.the-variants.{Is}
+use Rattle.rule_lending.proofs.Building.{result-agree, result-number, result-skip, filling-ready, filling-sizes}
 use Rattle.rule_less.specs.Less.{Beside, Comparable, lessFrom, Operands}
+use Rattle.promises.specs.Integers.{Fit, int}
+use Rattle.promises.specs.CostOperations.{isBelow}
+use Rattle.promises.specs.Range.{addMost, costMost}
+use Rattle.promises.specs.Words.{features, size, sizes}
+use Rattle.promises.specs.CostWords.{target, costBranch as branch, costNodes as nodes}
 
--- ---- the rule table beside
-module _ (w v : List ℕ) (b : Beside w v) where
-  -- when it has grown
-  pub beside-grown : (t : List ℕ) → HoldsRules t → Kept v t → Beside w t
-  beside-grown t ok kp = record { holds = ok; same = kept-sizes v t kp (b .holds .laid .laid .few) ∙ b .same }
+-- ---- the rule table beside, when it has grown
+pub beside-grown : {w v t : List ℕ} {k u : ℕ} {g : Rule} {l : List ℕ} → Beside w v → Filling v t k g u l → Beside w t
+beside-grown b f = record { ready = filling-ready f; same = filling-sizes f (b .ready) ∙ b .same }
+
+-- a bit is a phrase number
+pub bit-small : {e : ℕ} (t : Bool) → e ≡ cond t 1 0 → e < phrases
+bit-small true h = omega (arith, h)
+bit-small false h = omega (arith, h)
 
 -- the word of the difference one value on
 pub onward-word : (d a b r g : ℕ) → int r ≡ int d +ℤ int b → int g ≡ int r -ℤ int a → int g ≡ onward (int d) (int a) (int b)
@@ -69,12 +71,8 @@ module _ (w : List ℕ) (k x y d : ℕ) (p : Operands w k x y d) where
   unfolding lessFrom
   less-same s e = ap (λ (z : ℕ). belowFrom (nodes w) k (target x) (target z) (int d) s) (sym e) ∙ below-same (nodes w) k (target x) (int d) s
 
-  pub less-equal : (v : List ℕ) (e : ℕ) → Beside w v → x ≡ y → e ≡ cond (ltZ (pos 0) (int d)) 1 0 → Result v v k (lessFrom w k x y d) (Is e)
-  less-equal v e b q h = result-phrase v k e (lessFrom w k x y d) (b .holds) (rw h (bit-small (ltZ (pos 0) (int d)))) (λ s. less-same s q ∙ ap says (sym h))
-    where
-      bit-small : (t : Bool) → cond t 1 0 < 65536
-      bit-small true = omega arith
-      bit-small false = omega arith
+  pub less-equal : {v : List ℕ} {e z : ℕ} → Beside w v → x ≡ y → e ≡ cond (ltZ (pos 0) (int d)) 1 0 → Says z e → Result v v k (lessFrom w k x y d) (Is z)
+  less-equal b q h z = result-number (b .ready) z (λ s. less-same s q ∙ ap says (sym h))
 
   -- both in range from feature k on
   listed-placed : k < features w → Placed costMost (size w k ∷ drop (suc k) (sizes w)) (nodes w) k (target x) (target y) (int d)
@@ -104,9 +102,8 @@ module _ (w : List ℕ) (k x y d : ℕ) (p : Operands w k x y d) where
     pub less-skip : (v t : List ℕ) (a : Answer) → Beside w v → Result v t (k + 1) (lessFrom w (k + 1) x y d) a → Result v t k (lessFrom w k x y d) a
     unfolding lessFrom
     less-skip v t a b r =
-        gives-eq
-        (built-skip v k (lessFrom w k x y d) (lessFrom w (k + 1) x y d) (b .holds) (omega (arith, as-long v w (b .same), skip-left))
-        (λ u l s. rw add-one (below-wait (nodes w) k (target x) (target y) (int d) (on x (p .first) hx) (on y (p .second) hy) u s))) r
+        result-skip (b .ready) a (omega (arith, as-long v w (b .same), skip-left))
+        (λ u l s. rw add-one (below-wait (nodes w) k (target x) (target y) (int d) (on x (p .first) hx) (on y (p .second) hy) u s)) r
 
   -- ---- one value on
   module _ (hk : k < features w) (v xa a yb b : ℕ) (hv : v < size w k) (ea : branch xa a ≡ branchAt (nodes w) k (target x) v) (eb : branch yb b ≡ branchAt (nodes w) k (target y) v) where
@@ -181,5 +178,5 @@ module _ (w v : List ℕ) (x a y b : ℕ) (p : Comparable w v (branch x a) (bran
       Result v t 0 (isBelow (meaning (nodes w) (branch x a)) (meaning (nodes w) (branch y b))) r
   unfolding lessFrom
   less-start d e t r g =
-      result-agree v t 0 (isBelow (meaning (nodes w) (branch x a)) (meaning (nodes w) (branch y b))) (lessFrom w 0 x y d) r
+      result-agree r
       (λ s. below-split (nodes w) 0 (branch x a) (branch y b) s ∙ ap (λ (z : ℤ). belowFrom (nodes w) 0 (target x) (target y) z s) (sym e)) g

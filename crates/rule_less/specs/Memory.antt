@@ -1,12 +1,12 @@
--- What the scratch words remember of less: under a feature + 1, for two targets and their difference, the branch word of the rule. Assumes nothing.
+-- Contract between layers: what the scratch words remember of less: under a feature + 1, for two targets and their difference, the branch word of the rule. Assumes nothing.
 use mathlib.Core.Bool.{Bool, true, false}
 use mathlib.Core.Path.{_≡_}
 use mathlib.Core.List.{List}
 use Prim.Native.Nat.{ℕ, _+_}
 use Rattle.cost_memory.specs.Memory.{Remembers}
-use Rattle.rule_nodes.specs.Nodes.{Result}
-use Rattle.rule_nodes.specs.declared.Answer.{Answer}
-use Rattle.rule_nodes.specs.declared.Answer.the-variants.{Is, NoRoom}
+use Rattle.rule_lending.specs.Building.{Result}
+use Rattle.rule_lending.specs.declared.Answer.{Answer}
+use Rattle.rule_lending.specs.declared.Answer.the-variants.{Is, NoRoom}
 use Rattle.rule_less.specs.Less.{lessFrom}
 
 -- the branch word z is in the rule table v, and is the result for the targets x and y of the cost table w with the difference d, from the tag's feature on

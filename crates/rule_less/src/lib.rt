@@ -9,8 +9,9 @@ use cost_nodes::top_of;
 use cost_words::difference_word;
 use cost_words::sum_word;
 use notes::clear;
-use rule_nodes::Answer;
-use rule_nodes::make;
+use rule_lending::Answer;
+use rule_lending::branch_of;
+use rule_lending::make;
 use words::head_word;
 use words::narrow;
 use words::wide;
@@ -20,14 +21,14 @@ ghost use Prim.Native.Nat.{_<_};
 ghost use lib.IntN.{pos};
 ghost use lib.Signed.{ltZ};
 ghost use Rattle.theory.specs.Diagrams.{meaning};
-ghost use Rattle.cost_laws.specs.Integers.{int};
-ghost use Rattle.cost_laws.specs.Operations.{isBelow};
-ghost use Rattle.words.specs.Words.{features};
-ghost use Rattle.cost_words.specs.Words.{branch, nodes};
-ghost use Rattle.rule_nodes.specs.Nodes.{Result, Fills};
+ghost use Rattle.rule_lending.specs.Building.{Result, Fills};
 ghost use Rattle.cost_memory.specs.Memory.{Remembers};
 ghost use Rattle.rule_less.specs.Less.{Beside, Comparable, lessFrom, Operands};
 ghost use Rattle.rule_less.specs.Memory.{Recalled, Still, StillIf};
+ghost use Rattle.promises.specs.Integers.{int};
+ghost use Rattle.promises.specs.CostOperations.{isBelow};
+ghost use Rattle.promises.specs.Words.{features};
+ghost use Rattle.promises.specs.CostWords.{costBranch as branch, costNodes as nodes};
 
 // The list of a node's branches, or that there was no room for them.
 struct Filled {
@@ -48,7 +49,7 @@ fn rest_result(c: &[u32], t: &mut [u32], s: &mut [u32], k: usize, x: u32, y: u32
     ensures { λ r. ⌜ (Result (now (t .entry)) (now (t .exit)) k (lessFrom (now (c .entry)) k x y d) r) × (Still (now (c .entry)) (now (t .exit)) (now (s .exit)) r) ⌝ }
 {
     if x == y {
-        return Answer::Is(above_zero(d));
+        return Answer::Is(branch_of(above_zero(d)));
     }
     if k < top_of(c, x) {
         if k < top_of(c, y) {

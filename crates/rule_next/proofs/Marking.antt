@@ -13,15 +13,15 @@ use Rattle.theory.specs.Functions.{held}
 use Rattle.theory.specs.Rules.{Rule}
 use Rattle.theory.proofs.Counted.{meet-some}
 use Rattle.theory.proofs.Rules.{value-phrase, numbers}
-use Rattle.words.specs.Words.{features, size, sizes, count}
 use Rattle.words.proofs.Tab.{split, same}
-use Rattle.rule_words.specs.Words.{decode, nodes}
 use Rattle.rule_words.proofs.Reading.{decode-phrase}
 use Rattle.settings.specs.Tells.{Tells}
 use Rattle.rule_count.specs.Figures.{answered}
 use Rattle.rule_count.proofs.Asking.{answered-tells}
 use Rattle.rule_next.specs.Marks.{Leads, Spot, Marks, ruleFrom, Smallest}
 use Rattle.rule_next.proofs.Stepping.{spot-is, spot-next, rule-next, sizes-left}
+use Rattle.promises.specs.Words.{features, size, sizes, count}
+use Rattle.promises.specs.RuleWords.{decode, ruleNodes as nodes}
 
 -- ---- a branch word
 -- a phrase means itself

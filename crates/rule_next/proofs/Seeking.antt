@@ -16,17 +16,17 @@ use Rattle.theory.specs.Rules.{Rule}
 use Rattle.theory.specs.Settings.{Valid}
 use Rattle.theory.proofs.First.{first-end, first-from-end, none-end, given-end, first-smallest, first-same, first-greater, none-greater}
 use Rattle.theory.proofs.Ranges.{valid-length}
-use Rattle.words.specs.Words.{features, size, sizes, count}
 use Rattle.words.proofs.Words.{length-sizes}
-use Rattle.rule_words.specs.Words.{decode, nodes, root, ruleOf}
 use Rattle.settings.specs.Step.{settingOf}
 use Rattle.settings.proofs.Holding.{values-held, rest-held}
 use Rattle.settings.proofs.Places.{keeps-all, keeps-less, keeps-set, places, set-place, held-first}
-use Rattle.rule_sound.specs.Sound.{Sound}
 use Rattle.rule_next.specs.Marks.{Leads, Spot, Smallest, ruleFrom}
 use Rattle.rule_next.specs.Next.{Completes, Finds, Seeks, Answers}
 use Rattle.rule_next.proofs.Stepping.{spot-is, rule-next, sizes-left}
 use Rattle.rule_next.proofs.Marking.{phrase-gives}
+use Rattle.promises.specs.Words.{features, size, sizes, count}
+use Rattle.promises.specs.RuleWords.{decode, ruleNodes as nodes, ruleRoot as root, ruleOf}
+use Rattle.promises.specs.RuleSound.{RuleSound as Sound}
 
 module _ {w : List ℕ} {k b : ℕ} (s : Spot w k b) (x : ℕ) where
   few : features w ≤ 16

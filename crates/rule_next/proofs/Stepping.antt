@@ -12,15 +12,15 @@ use Rattle.theory.specs.Rules.{Branch, node}
 use Rattle.theory.specs.WellFormed.{Ok, WF}
 use Rattle.theory.proofs.First.{held-next}
 use Rattle.theory.proofs.Values.{next-here, next-wait, next-ok}
-use Rattle.words.specs.Words.{features, size, sizes, count, feature, body}
 use Rattle.words.proofs.Words.{length-sizes, at-sizes}
-use Rattle.rule_words.specs.Words.{decode, nodes, root}
 use Rattle.rule_words.proofs.Reading.{decode-phrase, decode-node, length-nodes, branch-at}
-use Rattle.rule_sound.specs.Sound.{Sound}
 use Rattle.rule_sound.proofs.Sitting.{sits-ok}
 use Rattle.rule_sound.proofs.Pictures.{sound-tidy}
 use Rattle.rule_count.proofs.Counts.{tests}
 use Rattle.rule_next.specs.Marks.{Spot, ruleFrom}
+use Rattle.promises.specs.Words.{features, size, sizes, count, feature, body}
+use Rattle.promises.specs.RuleWords.{decode, ruleNodes as nodes, ruleRoot as root}
+use Rattle.promises.specs.RuleSound.{RuleSound as Sound}
 
 -- ---- a sound table
 module _ {w : List ℕ} (s : Sound w) where

@@ -1,4 +1,4 @@
--- Which branches of a rule table lead to a number: what the pass over the nodes tells. Assumes nothing.
+-- Contract between layers: which branches of a rule table lead to a number: what the pass over the nodes tells. Assumes nothing.
 use mathlib.Core.Bool.{Bool, true}
 use mathlib.Core.List.{List}
 use Prim.Native.Nat.{ℕ, _+_, _≤_, _<_}
@@ -8,10 +8,10 @@ use Rattle.theory.specs.Diagrams.{value}
 use Rattle.theory.specs.Functions.{held}
 use Rattle.theory.specs.Rules.{Rule}
 use Rattle.theory.specs.WellFormed.{Ok}
-use Rattle.words.specs.Words.{features, size, count, sizes}
-use Rattle.rule_words.specs.Words.{decode, nodes}
-use Rattle.rule_sound.specs.Sound.{Sound}
 use Rattle.rule_count.specs.Figures.{Answered}
+use Rattle.promises.specs.Words.{features, size, count, sizes}
+use Rattle.promises.specs.RuleWords.{decode, ruleNodes as nodes}
+use Rattle.promises.specs.RuleSound.{RuleSound as Sound}
 
 -- the rule that the branch word b means where the features from k on are left
 abbrev pub ruleFrom : List ℕ → ℕ → ℕ → Rule

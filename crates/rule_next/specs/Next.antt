@@ -1,4 +1,4 @@
--- The search for the first setting at or after a given one with a number: what it answers. Assumes nothing.
+-- Contract between layers: the search for the first setting at or after a given one with a number: what it answers. Assumes nothing.
 use mathlib.Core.Bool.{Bool, true, false}
 use mathlib.Core.Path.{_≡_}
 use mathlib.Core.List.{List, []}
@@ -7,11 +7,11 @@ use lib.ListN.{drop}
 use lib.Seq.{slice}
 use Rattle.theory.specs.First.{First, FirstFrom, NoneFrom}
 use Rattle.theory.specs.Rules.{Rule}
-use Rattle.words.specs.Words.{features, sizes}
 use Rattle.settings.specs.Places.{Keeps}
 use Rattle.settings.specs.Step.{settingOf}
 use Rattle.settings.specs.declared.steps.Setting.{Setting}
 use Rattle.rule_next.specs.Marks.{ruleFrom}
+use Rattle.promises.specs.Words.{features, sizes}
 
 -- the places of the features from k on hold the first of all settings that the branch b gives x
 pub record Completes (w : List ℕ) (x k b : ℕ) (v r : List ℕ) : Type 0 where

@@ -1,4 +1,4 @@
-// Document 01's "next": the first setting at or after a given one with a given number, by one pass over the nodes and two descents.
+// The scope's "next": the first setting at or after a given one with a given number, by one pass over the nodes and two descents.
 use rule_count::answers;
 use rule_count::branch_meets;
 use rule_words::root_word;
@@ -12,11 +12,11 @@ ghost use lib.ListN.{drop};
 ghost use lib.Seq.{slice};
 ghost use Rattle.theory.specs.Diagrams.{next};
 ghost use Rattle.theory.specs.Settings.{Valid};
-ghost use Rattle.words.specs.Words.{features, size, sizes};
-ghost use Rattle.rule_words.specs.Words.{decode, nodes, ruleOf};
-ghost use Rattle.rule_sound.specs.Sound.{Sound};
 ghost use Rattle.rule_next.specs.Marks.{Leads, Spot, Marks, Smallest};
 ghost use Rattle.rule_next.specs.Next.{Completes, Seeks, Answers};
+ghost use Rattle.promises.specs.Words.{features, size, sizes};
+ghost use Rattle.promises.specs.RuleWords.{decode, ruleNodes as nodes, ruleOf};
+ghost use Rattle.promises.specs.RuleSound.{RuleSound as Sound};
 
 // What the search answers: whether there is such a setting, and the setting.
 pub struct Seen {

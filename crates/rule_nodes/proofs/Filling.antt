@@ -15,16 +15,18 @@ use Rattle.theory.specs.WellFormed.{Mean, Ok}
 use Rattle.theory.proofs.Canonical.{build-agree}
 use Rattle.words.specs.Holding as H
 use Rattle.words.specs.Holding.{built as builtOf}
-use Rattle.words.specs.Words.{features, size, sizes, listed}
+use Rattle.words.specs.Words.{listed}
 use Rattle.words.proofs.Filling as F
 use Rattle.words.proofs.Tab.{tab-none, tab-snoc, tab-ext, getD-tab}
 use Rattle.words.proofs.Words.{length-sizes, at-sizes, kept-size}
-use Rattle.rule_words.specs.Words.{decode, branches, nodes}
+use Rattle.rule_words.specs.Words.{branches}
 use Rattle.rule_nodes.specs.Nodes.{layout, Holds, told, Gives, Makes, Result, built, Good, Listed, Place, Filling, Stopped, Fills}
 use Rattle.rule_nodes.specs.declared.Answer.{Answer}
 use Rattle.rule_nodes.specs.declared.Answer.the-variants.{Is, NoRoom}
 use Rattle.rule_nodes.proofs.Reading.{lawful}
 use Rattle.rule_nodes.proofs.Stepping.{place-ext}
+use Rattle.promises.specs.Words.{features, size, sizes}
+use Rattle.promises.specs.RuleWords.{decode, ruleNodes as nodes}
 
 -- ---- answers
 to : {w t : List ℕ} {r : Built} {a : Answer} → Gives w t r a → H.Gives layout w t r (told a)

@@ -8,17 +8,19 @@ use Rattle.theory.specs.Deciding.{Alike}
 use Rattle.theory.specs.Diagrams.{blank}
 use Rattle.theory.specs.Rules.{Branch, Built}
 use Rattle.words.specs.Holding as H
-use Rattle.words.specs.Words.{capacity, features, size, count, listed}
+use Rattle.words.specs.Words.{listed}
 use Rattle.records.specs.Changes.{pairOf, Pushed, RecordIs, Finds as FindsRecord}
 use Rattle.records.specs.Nodes.{Absent}
 use Rattle.records.proofs.Making as M
-use Rattle.rule_words.specs.Words.{decode, branches, code, nodes}
+use Rattle.rule_words.specs.Words.{branches, code}
 use Rattle.rule_words.proofs.Reading.{decode-index, decode-inj, faithful}
 use Rattle.rule_nodes.specs.Nodes.{layout, Holds, Makes, Listed, AllSame, Finds}
 use Rattle.rule_nodes.specs.declared.Answer.the-variants.{Is, NoRoom}
 use Rattle.rule_nodes.specs.declared.Found.{Found}
 use Rattle.rule_nodes.specs.declared.Found.the-variants.{At, Missing}
 use Rattle.rule_words.specs.declared.Branch.{Branch as CodeBranch}
+use Rattle.promises.specs.Words.{capacity, features, size, count}
+use Rattle.promises.specs.RuleWords.{decode, ruleNodes as nodes}
 
 -- ---- what the search's answer tells
 pub found-at : (w : List ℕ) (k : ℕ) (l : List ℕ) (r : Found) (b : CodeBranch) → r ≡ At b → Finds w k l r → Finds w k l (At b)

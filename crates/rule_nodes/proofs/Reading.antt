@@ -4,11 +4,12 @@ use Prim.Native.Nat.{ℕ, _+_, _<_}
 use native.Mathlib.Omega.{arith}
 use lib.ListN.{length}
 use Rattle.words.specs.Holding.{Lawful}
-use Rattle.words.specs.Words.{count}
 use Rattle.records.proofs.Making as M
-use Rattle.rule_words.specs.Words.{code, nodes}
+use Rattle.rule_words.specs.Words.{code}
 use Rattle.rule_words.proofs.Reading.{under-word, length-nodes}
 use Rattle.rule_nodes.specs.Nodes.{layout, Good}
+use Rattle.promises.specs.Words.{count}
+use Rattle.promises.specs.RuleWords.{ruleNodes as nodes}
 
 pub lawful : Lawful layout
 lawful = M.lawful code

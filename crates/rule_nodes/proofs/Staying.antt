@@ -8,16 +8,18 @@ use Rattle.theory.specs.Rules.{Branch, Rule, says}
 use Rattle.theory.proofs.Growing.{make-grows}
 use Rattle.theory.proofs.Rules.{value-phrase}
 use Rattle.theory.proofs.Values.{mean-more}
-use Rattle.words.specs.Words.{size, sizes, listed}
+use Rattle.words.specs.Words.{listed}
 use Rattle.words.proofs.Filling.{grown-nodes}
 use Rattle.words.proofs.Words.{kept-sizes}
-use Rattle.rule_words.specs.Words.{branches, nodes}
+use Rattle.rule_words.specs.Words.{branches}
 use Rattle.rule_words.proofs.Reading.{decode-phrase}
 use Rattle.rule_nodes.specs.Nodes.{Holds, Makes, Result}
 use Rattle.rule_nodes.specs.declared.Answer.{Answer}
 use Rattle.rule_nodes.specs.declared.Answer.the-variants.{Is}
 use Rattle.rule_nodes.proofs.Reading.{lawful}
 use Rattle.rule_nodes.proofs.Filling.{gives-is, result-there, built-there, result-mean, mean-result}
+use Rattle.promises.specs.Words.{size, sizes}
+use Rattle.promises.specs.RuleWords.{ruleNodes as nodes}
 
 -- a rule that gives one number everywhere is that phrase
 pub result-phrase : (w : List ℕ) (k x : ℕ) (g : Rule) → Holds w → x < 65536 → ((s : List ℕ) → g s ≡ says x) → Result w w k g (Is x)

@@ -12,13 +12,14 @@ use Rattle.theory.specs.Rules.{Branch, Node, node}
 use Rattle.theory.specs.WellFormed.{Ok}
 use Rattle.theory.proofs.Values.{next-here, next-wait, next-ok}
 use Rattle.theory.proofs.WellFormed.{ok-ext}
-use Rattle.words.specs.Words.{features, size, sizes, count, feature, body, Kept}
+use Rattle.words.specs.Words.{Kept}
 use Rattle.words.proofs.Tab.{split}
 use Rattle.words.proofs.Words.{kept-features}
-use Rattle.rule_words.specs.Words.{decode, nodes}
 use Rattle.rule_words.proofs.Reading.{decode-phrase, decode-node, length-nodes, at-nodes, branch-at}
 use Rattle.rule_nodes.specs.Nodes.{Holds, Good, top, Place}
 use Rattle.rule_nodes.proofs.Reading.{good-small}
+use Rattle.promises.specs.Words.{features, size, sizes, count, feature, body}
+use Rattle.promises.specs.RuleWords.{decode, ruleNodes as nodes}
 
 -- ---- tops
 pub top-phrase : (w : List ℕ) (b : ℕ) → b < 65536 → top w b ≡ features w

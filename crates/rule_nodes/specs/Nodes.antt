@@ -1,4 +1,4 @@
--- A rule table as the holder of a node list: the unique search, the making of a node, steps down a diagram, and the contract of what adds nodes. Assumes nothing.
+-- Contract between layers: a rule table as the holder of a node list: the unique search, the making of a node, steps down a diagram, and the contract of what adds nodes. Assumes nothing.
 use mathlib.Core.Bool.{Bool, true, false}
 use mathlib.Core.Path.{_≡_}
 use mathlib.Core.List.{List}
@@ -10,13 +10,15 @@ use Rattle.theory.specs.Build.{make}
 use Rattle.theory.specs.Rules.{rules, Branch, Node, Rule, Built}
 use Rattle.theory.specs.WellFormed.{Ok}
 use Rattle.words.specs.Holding as H
-use Rattle.words.specs.Words.{capacity, features, size, sizes, feature, listed, pick}
+use Rattle.words.specs.Words.{listed}
 use Rattle.records.specs.Nodes as R
-use Rattle.rule_words.specs.Words.{decode, branches, code, nodes, wordOf}
+use Rattle.rule_words.specs.Words.{branches, code, wordOf}
 use Rattle.rule_nodes.specs.declared.Found.{Found}
 use Rattle.rule_nodes.specs.declared.Found.the-variants.{At, Missing}
 use Rattle.rule_nodes.specs.declared.Answer.{Answer}
 use Rattle.rule_nodes.specs.declared.Answer.the-variants.{Is, NoRoom}
+use Rattle.promises.specs.Words.{capacity, features, size, sizes, feature, pick}
+use Rattle.promises.specs.RuleWords.{decode, ruleNodes as nodes}
 
 -- ---- the table
 -- laid out as every table, and a body is 0 past the values of its feature

@@ -11,11 +11,11 @@ use words::wide;
 ghost use mathlib.Core.Path.{_≡_};
 ghost use Prim.Native.Nat.{_+_, _≤_, _<_};
 ghost use Rattle.theory.specs.Diagrams.{next};
-ghost use Rattle.words.specs.Words.{features, size, count};
 ghost use Rattle.records.specs.Laid.{Laid};
 ghost use Rattle.settings.specs.Tells.{Tells};
-ghost use Rattle.rule_words.specs.Words.{decode, nodes};
 ghost use Rattle.rule_nodes.specs.Nodes.{Holds, Listed, AllSame, Finds, Makes, top, Place};
+ghost use Rattle.promises.specs.Words.{features, size, count};
+ghost use Rattle.promises.specs.RuleWords.{decode, ruleNodes as nodes};
 
 // The answer of the unique search: the branch that is there, or that its node must be made.
 pub enum Found {

@@ -4,17 +4,17 @@ use mathlib.Core.Logic.{⊎-elim}
 use mathlib.Core.List.{List}
 use Prim.Native.Nat.{ℕ, _+_, _-_, _<_}
 use native.Mathlib.Omega.{arith}
-use Rattle.words.specs.Words.{head, capacity, features, size, count}
 use Rattle.words.proofs.Tab.{split}
 use Rattle.records.specs.Laid.{Laid}
 use Rattle.notes.specs.Plain.{plain}
 use Rattle.notes.proofs.Alike as N
 use Rattle.notes.proofs.Alike.{Like, plain-like, like-sym, like-head, like-laid, like-size, like-record, plain-grown}
-use Rattle.rule_words.specs.Words.{nodes}
 use Rattle.rule_words.proofs.Reading.{faithful}
 use Rattle.rule_nodes.specs.Nodes.{Holds, Makes, Listed, Place, top}
 use Rattle.rule_nodes.specs.declared.Answer.{Answer}
 use Rattle.rule_nodes.proofs.Stepping.{top-phrase, top-node}
+use Rattle.promises.specs.Words.{head, capacity, features, size, count}
+use Rattle.promises.specs.RuleWords.{ruleNodes as nodes}
 
 module _ {w u : List ℕ} (e : Like w u) where
   pub like-holds : Holds w → Holds u

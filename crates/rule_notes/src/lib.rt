@@ -6,12 +6,12 @@ use rule_nodes::top_of;
 ghost use mathlib.Core.Path.{_≡_};
 ghost use Prim.Native.Nat.{_+_, _<_};
 ghost use Rattle.theory.specs.Diagrams.{next};
-ghost use Rattle.words.specs.Words.{features, size, count};
 ghost use Rattle.records.specs.Laid.{Laid};
 ghost use Rattle.notes.specs.Far.{Aside};
 ghost use Rattle.notes.specs.Plain.{Roomy, plain};
-ghost use Rattle.rule_words.specs.Words.{decode, nodes};
 ghost use Rattle.rule_nodes.specs.Nodes.{Holds, Listed, Makes, top, Place};
+ghost use Rattle.promises.specs.Words.{features, size, count};
+ghost use Rattle.promises.specs.RuleWords.{decode, ruleNodes as nodes};
 
 // The feature at the top of a branch; of a phrase, the number of features.
 pub fn top_in(t: &[u32], b: u32) -> usize

@@ -5,10 +5,10 @@ use mathlib.Core.List.{List, [], _∷_, List·Memᴰ·head, List·Memᴰ·tail, 
 use Prim.Native.Nat.{ℕ, _<_}
 use native.Mathlib.Omega.{arith}
 use borrow.Author.Tests.{lt-ltb, le-ltb, eq-eqb, ne-eqb}
-use Rattle.words.specs.Tab.{tab}
 use Rattle.words.proofs.Tab.{split, same, tab-occurs, occurs-tab}
-use Rattle.rule_operators.specs.Operators.{largerOf, mergedOf, forgottenOf}
 use Rattle.rule_operators.specs.Forgetting.{Occurs, Left, no-other, one-other, others-differ, largestOf}
+use Rattle.promises.specs.Tab.{tab}
+use Rattle.promises.specs.Operators.{greaterOf as largerOf, mergedOf, forgottenOf}
 
 -- ---- two numbers
 pub merged-left : (x y : ℕ) → x ≡ 0 → mergedOf x y ≡ y

@@ -10,10 +10,11 @@ use lib.Dec.{ltb, eqb}
 use lib.ListN.{getD, drop, List·getD-eq-default}
 use lib.Seq.{getD-drop, drop-cons, drop-length}
 use borrow.Author.Tests.{lt-ltb, le-ltb, eq-eqb, ne-eqb}
-use Rattle.words.specs.Tab.{tab}
-use Rattle.words.specs.Words.{pick}
 use Rattle.words.proofs.Tab.{split, length-tab, getD-tab}
-use Rattle.rule_operators.specs.Operators.{mergedOf, pairOf, caseOf, forgottenOf, opOf}
+use Rattle.rule_operators.specs.Operators.{opOf}
+use Rattle.promises.specs.Tab.{tab}
+use Rattle.promises.specs.Words.{pick}
+use Rattle.promises.specs.Operators.{mergedOf, pairOf, caseOf, forgottenOf}
 
 -- ---- which operator
 pub op-pair : (o n : ℕ) (f : ℕ → ℕ) → 2 ≤ n → o < 6 → opOf o (tab f n) ≡ pairOf o (f 0) (f 1)

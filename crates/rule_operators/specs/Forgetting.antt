@@ -1,8 +1,8 @@
--- FORGETTING IN THE CUSTOMER'S WORDS, of the numbers l over the values of the forgotten feature: now, and as document 01 had it. Assumes nothing.
+-- Contract between layers: FORGETTING IN THE CUSTOMER'S WORDS, of the numbers l over the values of the forgotten feature: now, and as it was first asked for. Assumes nothing.
 use mathlib.Core.Path.{_≡_}
 use mathlib.Core.List.{List, [], _∷_, List·Memᴰ}
 use Prim.Native.Nat.{ℕ}
-use Rattle.rule_operators.specs.Operators.{largerOf}
+use Rattle.promises.specs.Operators.{greaterOf as largerOf}
 
 -- the number x occurs
 abbrev pub Occurs : ℕ → List ℕ → Type 0
@@ -17,7 +17,7 @@ pub data Left (l : List ℕ) : ℕ → Type 0 where
   -- if two or more differ, 65,535
   others-differ : {x y : ℕ} → (x ≡ 0 → ⊥) → (y ≡ 0 → ⊥) → (x ≡ y → ⊥) → Occurs x l → Occurs y l → Left l 65535
 
--- as document 01 had it: the largest
+-- as it was first asked for: the largest
 unfoldable pub largestOf : List ℕ → ℕ
 largestOf [] = 0
 largestOf (x ∷ l) = largerOf x (largestOf l)

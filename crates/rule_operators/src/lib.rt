@@ -3,9 +3,10 @@ use words::wide;
 ghost use mathlib.Core.Path.{_≡_};
 ghost use Prim.Native.Nat.{_≤_};
 ghost use lib.ListN.{drop};
-ghost use Rattle.words.specs.Tab.{tab};
 ghost use Rattle.words.specs.Words.{listed};
-ghost use Rattle.rule_operators.specs.Operators.{smallerOf, largerOf, truthOf, pairOf, caseOf, mergedOf, forgottenOf, opOf};
+ghost use Rattle.rule_operators.specs.Operators.{opOf};
+ghost use Rattle.promises.specs.Tab.{tab};
+ghost use Rattle.promises.specs.Operators.{lesserOf as smallerOf, greaterOf as largerOf, truthOf, pairOf, caseOf, mergedOf, forgottenOf};
 
 // The smaller of two numbers.
 pub fn smaller(x: u32, y: u32) -> u32

@@ -9,12 +9,12 @@ use lib.Seq.{getD-set-same, getD-set-other}
 use Rattle.theory.specs.Build.{Ext}
 use Rattle.theory.specs.WellFormed.{Mean}
 use Rattle.theory.proofs.Values.{mean-more}
-use Rattle.words.specs.Words.{sizes}
 use Rattle.words.proofs.Tab.{same}
-use Rattle.rule_words.specs.Words.{decode, nodes}
 use Rattle.rule_nodes.specs.Nodes.{Holds}
-use Rattle.sheet_bytes.specs.Bytes.{count}
 use Rattle.rule_reader.specs.Reader.{given, Noted}
+use Rattle.promises.specs.Words.{sizes}
+use Rattle.promises.specs.RuleWords.{decode, ruleNodes as nodes}
+use Rattle.promises.specs.Sheet.{sheetCount as count}
 
 pub noted-none : (w s n : List ℕ) → count s ≤ 4096 → length n ≡ 4096 → ((i : ℕ) → i < 4096 → getD n i 0 ≡ 0) → Noted w s n
 noted-none w s n few l z = record { long = l; right = λ i h p. absurd (omega (arith, z i (omega arith))) }

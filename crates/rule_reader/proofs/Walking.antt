@@ -13,30 +13,30 @@ use Rattle.theory.specs.WellFormed.{Mean, Ok}
 use Rattle.theory.proofs.Growing.{make-grows}
 use Rattle.theory.proofs.Values.{next-here, value-ending, value-next, value-wait}
 use Rattle.theory.proofs.WellFormed.{under-weaken}
-use Rattle.words.specs.Words.{features, size, sizes, listed, Kept}
+use Rattle.words.specs.Words.{listed, Kept}
 use Rattle.words.proofs.Filling.{grown-ext}
 use Rattle.words.proofs.Words.{length-sizes, at-sizes, kept-features, kept-sizes}
-use Rattle.rule_words.specs.Words.{decode, nodes}
 use Rattle.rule_words.proofs.Reading.{decode-phrase}
 use Rattle.rule_nodes.specs.Nodes.{Holds, Result, Makes, Listed, Filling, built, Good}
 use Rattle.rule_nodes.specs.declared.Answer.{Answer}
 use Rattle.rule_nodes.specs.declared.Answer.the-variants.{Is, NoRoom}
 use Rattle.rule_nodes.proofs.Filling.{gives-eq, result-there, built-there, built-jump, fill-start, fill-more, fill-stop, stop-result, fill-listed, fill-make, result-mean, mean-result}
 use Rattle.rule_nodes.proofs.Reading.{lawful, good-small}
-use Rattle.sheet_bytes.specs.Bytes.{sizesOf, count, feature, width, branch, root, features as sheet-features}
 use Rattle.sheet_bytes.proofs.Places.{sizes-length, sizes-at}
-use Rattle.sheet_check.specs.Nodes.{Below}
-use Rattle.sheet_check.specs.Diagram.{branchOf, nodesOf, ruleOf, Ready}
-use Rattle.sheet_check.proofs.Diagrams.{nodes-length, nodes-at, feature-at, branches-at, branch-phrase, branch-node, below-ok}
+use Rattle.sheet_check.specs.Diagram.{Ready}
+use Rattle.sheet_check.proofs.Diagrams.{nodes-length, nodes-at, feature-at, branches-at, branch-node, below-ok}
 use Rattle.sheet_check.proofs.Walks.{branch-below}
 use Rattle.rule_reader.specs.Reader.{given, Noted, Asks, Takes}
 use Rattle.rule_reader.proofs.Noting.{noted-none, noted-grown, noted-put}
+use Rattle.promises.specs.Words.{features, size, sizes}
+use Rattle.promises.specs.RuleWords.{decode, ruleNodes as nodes}
+use Rattle.promises.specs.Sheet.{sheetSizes as sizesOf, sheetCount as count, sheetFeature as feature, sheetWidth as width, sheetBranch as branch, sheetRoot as root, sheetFeatures as sheet-features, SheetSits as Below, sheetNodes as nodesOf, sheetRule as ruleOf}
 
 -- what is built from feature 0 on is built from any feature up to which the sheet's branch tests nothing
-jump : (w s : List ℕ) (b k : ℕ) → Holds w → k ≤ features w → Ok (nodesOf s) k (branchOf b) → built w 0 (given s 0 b) ≡ built w k (given s k b)
+jump : (w s : List ℕ) (b k : ℕ) → Holds w → k ≤ features w → Ok (nodesOf s) k (decode b) → built w 0 (given s 0 b) ≡ built w k (given s k b)
 jump w s b k ok h o =
     built-jump w k (λ j. given s j b) ok h
-    (λ j l v y. value-wait (nodesOf s) j (branchOf b) v y (under-weaken (nodesOf s) (length (nodesOf s)) (length (nodesOf s)) k (suc j) (branchOf b .to) (le-refl _) (omega arith) o))
+    (λ j l v y. value-wait (nodesOf s) j (decode b) v y (under-weaken (nodesOf s) (length (nodesOf s)) (length (nodesOf s)) k (suc j) (decode b .to) (le-refl _) (omega arith) o))
 
 module _ (w s ps n : List ℕ) (b : ℕ) (q : Asks w s ps n b) where
   -- ---- a phrase is the same in the table
@@ -46,7 +46,7 @@ module _ (w s ps n : List ℕ) (b : ℕ) (q : Asks w s ps n b) where
       let r : Result w w 0 (given s 0 b) (Is b) =
       result-there w 0 b (given s 0 b) (q .holds)
       (built-there w 0 b (given s 0 b) (q .holds) g
-      (λ y. rw (decode-phrase b h, branch-phrase b h) (value-ending (nodes w) 0 (says b) y ∙ sym (value-ending (nodesOf s) 0 (says b) y)))) in
+      (λ y. rw (decode-phrase b h) (value-ending (nodes w) 0 (says b) y ∙ sym (value-ending (nodesOf s) 0 (says b) y)))) in
       record { result = subst (λ (x : ℕ). Result w w 0 (given s 0 b) (Is x)) (sym e) r; noted = q .noted }
 
   -- ---- a node
@@ -82,13 +82,13 @@ module _ (w s ps n : List ℕ) (b : ℕ) (q : Asks w s ps n b) where
           sym (at-sizes w k hk) ∙ ap (λ (S : List ℕ). getD S k 0) (q .same) ∙ ap (λ (j : ℕ). getD (sizesOf s) j 0) ek
           ∙ sizes-at (q .ready .laid .head) (feature s i) (q .ready .laid .lie .known i inside)
 
-      is : branchOf b ≡ node i
+      is : decode b ≡ node i
       is = branch-node b h ∙ ap node (sym ei)
 
       own : at (nodesOf s) i .feature ≡ k
       own = feature-at s i inside ∙ sym ek
 
-      ok-here : Ok (nodesOf s) k (branchOf b)
+      ok-here : Ok (nodesOf s) k (decode b)
       ok-here = let o : Ok (nodesOf s) k (node i) = (omega (arith, inside, nodes-length s), omega (arith, own)) in rw is o
 
       pub loop-start : (l : List ℕ) → length l ≡ 12 → ((u : ℕ) → u < 12 → listed l u ≡ 0) → Filling w w k g 0 l
@@ -124,16 +124,16 @@ module _ (w s ps n : List ℕ) (b : ℕ) (q : Asks w s ps n b) where
           pub branch-falls : c < b
           branch-falls = omega (arith, lower .1)
 
-          ok-branch : Ok (nodesOf s) (k + 1) (branchOf c)
+          ok-branch : Ok (nodesOf s) (k + 1) (decode c)
           ok-branch = rw (ec, ek) (below-ok s i (feature s i + 1) (branch s i v) (omega (arith, inside)) (q .ready .good .ordered .nodes .each i inside .lower .lower v hv))
 
           -- branch v of what the node means is what c means
           same-part : (y : List ℕ) → held v g y ≡ given s (k + 1) c y
           same-part y =
-              let e : next (nodesOf s) k (branchOf b) v ≡ branchOf c =
+              let e : next (nodesOf s) k (decode b) v ≡ decode c =
               ap (λ (x : Branch). next (nodesOf s) k x v) is ∙ next-here (nodesOf s) k i v tt own ∙ ap (λ (x : Node). getD (x .branches) v blank) (nodes-at s i inside)
-              ∙ branches-at s i v hv ∙ ap branchOf (sym ec) in
-              value-next (nodesOf s) k (branchOf b) v y ∙ rw (e, add-one) refl
+              ∙ branches-at s i v hv ∙ ap decode (sym ec) in
+              value-next (nodesOf s) k (decode b) v y ∙ rw (e, add-one) refl
 
           module _ (t′ n″ : List ℕ) (a : Answer) (y : Takes t t′ s n″ c a) where
             part : Result t t′ (k + 1) (given s (k + 1) c) a

@@ -1,4 +1,4 @@
--- A sheet's nodes taken into a rule table: what the walk asks, notes and gives. Assumes nothing.
+-- Contract between layers: a sheet's nodes taken into a rule table: what the walk asks, notes and gives. Assumes nothing.
 use mathlib.Core.Path.{_≡_}
 use mathlib.Core.List.{List}
 use Prim.Native.Nat.{ℕ, _+_, _-_, _<_}
@@ -6,17 +6,16 @@ use lib.ListN.{length, getD}
 use Rattle.theory.specs.Diagrams.{value}
 use Rattle.theory.specs.Rules.{Rule}
 use Rattle.theory.specs.WellFormed.{Mean}
-use Rattle.words.specs.Words.{sizes}
-use Rattle.rule_words.specs.Words.{decode, nodes}
 use Rattle.rule_nodes.specs.Nodes.{Holds, Result}
 use Rattle.rule_nodes.specs.declared.Answer.{Answer}
-use Rattle.sheet_bytes.specs.Bytes.{sizesOf, count}
-use Rattle.sheet_check.specs.Nodes.{Below}
-use Rattle.sheet_check.specs.Diagram.{branchOf, nodesOf, Ready}
+use Rattle.sheet_check.specs.Diagram.{Ready}
+use Rattle.promises.specs.Words.{sizes}
+use Rattle.promises.specs.RuleWords.{decode, ruleNodes as nodes}
+use Rattle.promises.specs.Sheet.{sheetSizes as sizesOf, sheetCount as count, SheetSits as Below, sheetNodes as nodesOf}
 
 -- what the sheet's branch word b means from feature k on
 abbrev pub given : List ℕ → ℕ → ℕ → Rule
-given s k b = λ y. value (nodesOf s) k (branchOf b) y
+given s k b = λ y. value (nodesOf s) k (decode b) y
 
 -- each note is 0, or 1 + the table's branch that means what the sheet's node means
 pub record Noted (w s n : List ℕ) : Type 0 where

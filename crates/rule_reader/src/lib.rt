@@ -7,11 +7,11 @@ use sheet_bytes::root_of;
 use sheet_bytes::width_at;
 use words::narrow;
 ghost use mathlib.Core.Path.{_≡_};
-ghost use Rattle.words.specs.Words.{sizes};
 ghost use Rattle.rule_nodes.specs.Nodes.{Holds, Result};
-ghost use Rattle.sheet_bytes.specs.Bytes.{sizesOf};
-ghost use Rattle.sheet_check.specs.Diagram.{Ready, ruleOf};
+ghost use Rattle.sheet_check.specs.Diagram.{Ready};
 ghost use Rattle.rule_reader.specs.Reader.{Asks, Takes};
+ghost use Rattle.promises.specs.Words.{sizes};
+ghost use Rattle.promises.specs.Sheet.{sheetSizes as sizesOf, sheetRule as ruleOf};
 
 // The table's branch for the sheet's branch word b. Each node of the sheet is walked once, and its branch noted.
 fn take_branch(

@@ -10,10 +10,9 @@ use Rattle.theory.specs.Build.{Ext}
 use Rattle.theory.specs.WellFormed.{Mean, Ok}
 use Rattle.theory.proofs.Growing.{ext-le}
 use Rattle.theory.proofs.Values.{mean-more, value-ext}
-use Rattle.words.specs.Words.{head, capacity, count, sizes, bound, Kept, Zeros}
+use Rattle.words.specs.Words.{Kept}
 use Rattle.words.proofs.Tab.{split, same}
 use Rattle.words.proofs.Words.{kept-sizes}
-use Rattle.rule_words.specs.Words.{decode, nodes}
 use Rattle.rule_words.proofs.Reading.{decode-index, length-nodes}
 use Rattle.rule_nodes.specs.Nodes.{Holds}
 use Rattle.notes.specs.Plain.{Roomy, plain}
@@ -21,6 +20,8 @@ use Rattle.notes.proofs.Plain.{plain-set, set-capacity, plain-of}
 use Rattle.notes.proofs.Alike.{plain-like, like-head, plain-kept}
 use Rattle.rule_restrict.specs.Notes.{note, noteAt, Only}
 use Rattle.rule_restrict.specs.Restrict.{restr, Noted}
+use Rattle.promises.specs.Words.{head, capacity, count, sizes, bound, Zeros}
+use Rattle.promises.specs.RuleWords.{decode, ruleNodes as nodes}
 
 -- ---- which far words are not 0
 -- none, once every note is taken away

@@ -13,8 +13,6 @@ use Rattle.theory.specs.Operations.{restricted}
 use Rattle.theory.specs.WellFormed.{Ok}
 use Rattle.theory.proofs.Values.{next-ok, value-next, value-wait, value-ext, next-ext}
 use Rattle.theory.proofs.WellFormed.{under-weaken}
-use Rattle.words.specs.Words.{features, sizes}
-use Rattle.rule_words.specs.Words.{decode, nodes}
 use Rattle.rule_nodes.specs.Nodes.{Holds, Result, built, Good, Place, top}
 use Rattle.rule_nodes.specs.declared.Answer.{Answer}
 use Rattle.rule_nodes.specs.declared.Answer.the-variants.{Is}
@@ -22,6 +20,8 @@ use Rattle.rule_nodes.proofs.Filling.{gives-eq, result-there, built-skip, built
 use Rattle.rule_nodes.proofs.Reading.{good-small}
 use Rattle.rule_nodes.proofs.Stepping.{top-good, good-next}
 use Rattle.rule_restrict.specs.Restrict.{restr}
+use Rattle.promises.specs.Words.{features, sizes}
+use Rattle.promises.specs.RuleWords.{decode, ruleNodes as nodes}
 
 -- from feature 0 on: the rule that the branch means, with feature f held at x
 pub restr-whole : (w : List ℕ) (b f x : ℕ) → restr w 0 b f x ≡ restricted f x (meaning (nodes w) (decode b))

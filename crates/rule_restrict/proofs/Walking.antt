@@ -11,10 +11,9 @@ use Rattle.theory.specs.Rules.{Rule}
 use Rattle.theory.specs.WellFormed.{Mean}
 use Rattle.theory.proofs.Growing.{ext-le, make-grows}
 use Rattle.theory.proofs.Values.{value-ext}
-use Rattle.words.specs.Words.{capacity, features, size, sizes, count, listed, Kept}
+use Rattle.words.specs.Words.{listed, Kept}
 use Rattle.words.proofs.Filling.{grown-ext}
 use Rattle.words.proofs.Words.{kept-features, kept-capacity, kept-size, kept-sizes}
-use Rattle.rule_words.specs.Words.{decode, nodes}
 use Rattle.rule_words.proofs.Reading.{length-nodes}
 use Rattle.rule_nodes.specs.Nodes.{Holds, Result, Makes, Listed, Place, Filling, top}
 use Rattle.rule_nodes.specs.declared.Answer.{Answer}
@@ -30,6 +29,8 @@ use Rattle.rule_restrict.specs.Restrict.{restr, Holding, Noted, Walks, W
 use Rattle.rule_notes.proofs.Reading.{like-holds, like-nodes, like-top, like-place, like-listed, plain-makes}
 use Rattle.rule_restrict.proofs.Noting.{put-plain, noted-none, noted-put, noted-grown}
 use Rattle.rule_restrict.proofs.Restricting.{place-at, restr-here, restr-held, restr-from, restr-next}
+use Rattle.promises.specs.Words.{capacity, features, size, sizes, count}
+use Rattle.promises.specs.RuleWords.{decode, ruleNodes as nodes}
 
 -- the header without notes is the header
 plain-features : (w : List ℕ) → features (plain w) ≡ features w

@@ -1,9 +1,9 @@
--- What a walk remembers of each node, in the far records. Assumes nothing.
+-- Contract between layers: what a walk remembers of each node, in the far records. Assumes nothing.
 use mathlib.Core.Path.{_≡_}
 use mathlib.Core.List.{List}
 use Prim.Native.Nat.{ℕ, _+_, _*_, _≤_, _<_}
 use lib.ListN.{getD}
-use Rattle.words.specs.Words.{capacity, bound}
+use Rattle.promises.specs.Words.{capacity, bound}
 
 -- the note of node i, the first word of far record i: 0, or 1 + a branch word
 abbrev pub noteAt : List ℕ → ℕ → ℕ

@@ -1,16 +1,16 @@
--- Restrict: a feature held at a value; what the walk asks, remembers and gives. Assumes nothing.
+-- Contract between layers: restrict: a feature held at a value; what the walk asks, remembers and gives. Assumes nothing.
 use mathlib.Core.List.{List}
 use Prim.Native.Nat.{ℕ, _+_, _*_, _-_, _≤_, _<_}
 use lib.ListN.{length, set}
 use Rattle.theory.specs.Diagrams.{value}
 use Rattle.theory.specs.Rules.{Rule}
 use Rattle.theory.specs.WellFormed.{Mean}
-use Rattle.words.specs.Words.{capacity, features, size, sizes, count, bound, Zeros}
-use Rattle.rule_words.specs.Words.{decode, nodes}
 use Rattle.rule_nodes.specs.Nodes.{Holds, Good, Place, Result}
 use Rattle.rule_nodes.specs.declared.Answer.{Answer}
 use Rattle.notes.specs.Plain.{Roomy, plain}
 use Rattle.rule_restrict.specs.Notes.{note, Only}
+use Rattle.promises.specs.Words.{capacity, features, size, sizes, count, bound, Zeros}
+use Rattle.promises.specs.RuleWords.{decode, ruleNodes as nodes}
 
 -- what the branch b means from feature k on, with feature f held at x
 abbrev pub restr : List ℕ → ℕ → ℕ → ℕ → ℕ → Rule

@@ -8,11 +8,11 @@ use words::wide;
 ghost use mathlib.Core.Path.{_≡_};
 ghost use Prim.Native.Nat.{_≤_, _<_};
 ghost use lib.ListN.{set};
-ghost use Rattle.words.specs.Words.{capacity, count};
 ghost use Rattle.rule_nodes.specs.Nodes.{Result};
 ghost use Rattle.notes.specs.Plain.{Roomy, plain};
 ghost use Rattle.rule_restrict.specs.Notes.{note, noteAt, Only};
 ghost use Rattle.rule_restrict.specs.Restrict.{Holding, restr, Walks, Walked};
+ghost use Rattle.promises.specs.Words.{capacity, count};
 
 // The note of node i.
 fn note_of(t: &[u32], i: usize) -> u32

@@ -1,4 +1,3 @@
 pub mod Lists
 pub mod Sheeted
-pub mod Answering
 pub mod Theorems

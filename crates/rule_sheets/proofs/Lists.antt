@@ -5,10 +5,10 @@ use Prim.Native.Nat.{ℕ, _<_}
 use native.Mathlib.Omega.{arith}
 use lib.ListN.{length, getD}
 use lib.Seq.{ext-getD}
-use Rattle.words.specs.Words as W
+use Rattle.promises.specs.Words as W
 use Rattle.words.proofs.Words.{length-sizes, at-sizes}
-use Rattle.sheet_bytes.specs.Bytes.{features, size, sizesOf, Head}
 use Rattle.sheet_bytes.proofs.Places.{sizes-length, sizes-at}
+use Rattle.promises.specs.Sheet.{sheetFeatures as features, sheetSize as size, sheetSizes as sizesOf, Begins as Head}
 
 module _ {s : List ℕ} (w : List ℕ) (h : Head s) where
   -- one list has one number of features

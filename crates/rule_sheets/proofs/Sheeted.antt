@@ -1,22 +1,32 @@
--- Each place of a sound table has a sheet. Assumes nothing.
+-- Each place of a sound table has a sheet, and write lays it into the output or finds no space. Assumes nothing.
 use mathlib.Core.Path.{_≡_, refl, sym, ap, subst}
+use mathlib.Core.Logic.{⊎-elim}
 use mathlib.Core.List.{List, [], _∷_, _++_}
-use Prim.Native.Nat.{ℕ, zero, suc, _+_, _≤_, _<_}
+use Prim.Native.Nat.{ℕ, zero, suc, _≤_, _<_}
 use native.Mathlib.Omega.{arith}
-use lib.ListN.{length, getD}
+use lib.ListN.{length, getD, drop}
 use Rattle.theory.specs.Functions.{zero-fun}
 use Rattle.theory.specs.Rests.{OfSome, IsRest, Rest}
 use Rattle.theory.specs.Rules.{rules, Rule}
 use Rattle.theory.specs.Tally.{tally}
 use Rattle.theory.proofs.Counting.{counts-le, tally-counts}
-use Rattle.words.specs.Words.{sizes}
-use Rattle.rule_words.specs.Words.{ruleOf, rulesOf}
+use Rattle.words.proofs.Tab.{split}
 use Rattle.rule_words.proofs.Bounding.{rule-small}
-use Rattle.rule_sound.specs.Sound.{Sound}
+use Rattle.rule_words.proofs.Reading.{at-rules}
+use Rattle.promises.specs.Words.{sizes}
+use Rattle.promises.specs.RuleWords.{ruleOf, rulesOf}
+use Rattle.promises.specs.RuleSound.{RuleSound}
+use Rattle.promises.specs.State.{on}
+use Rattle.promises.specs.Table.{stateOf}
+use Rattle.promises.specs.RuleDeeds.{ruled}
+use Rattle.promises.specs.SheetDeeds.{SheetFor}
 use Rattle.rules.proofs.Sounding.{sound-list}
 use Rattle.rules.proofs.Theorems.{copy-fits}
-use Rattle.sheet_bytes.specs.Sheet.{IsSheet}
-use Rattle.rule_sheets.specs.Writing.{sheetAt}
+use Rattle.sheet_bytes.specs.Sheet.{sheetOf, IsSheet}
+use Rattle.sheet_check.proofs.Reading.{sheet-good}
+use Rattle.sheets.proofs.Edge.{sheet-for, room-for}
+use Rattle.rule_writer.specs.Laid.{Laid}
+use Rattle.rule_writer.proofs.Parts.{zero-tells}
 
 -- the last of a list
 getD-last : (gs : List Rule) (g : Rule) → getD (gs ++ (g ∷ [])) (length gs) zero-fun ≡ g
@@ -38,12 +48,45 @@ tally-last S gs g = counts-le S (g ∷ []) (gs ++ (g ∷ [])) _ _ more (tally-co
         go zero h r = record { place = length gs; there = omega (arith, length-last gs g); is-rest = subst (λ (f : Rule). IsRest S f x) (sym (getD-last gs g)) r }
         go (suc i) h r = absurd (omega arith)
 
-pub place-sheet : {w : List ℕ} {p : ℕ} → Sound w → p < 32 → IsSheet (sizes w) (ruleOf w p) (sheetAt w p)
-place-sheet {w} {p} s h = record {
-  writable = record {
-    list = sound-list s;
-    numbers = λ t v. rule-small w p t;
-    rests = omega (arith, tally-last (sizes w) (rulesOf w) (ruleOf w p), copy-fits p h s, s .header .most);
-  };
-  bytes = refl;
-}
+-- the sheet of the rule of place p
+abbrev pub sheetAt : List ℕ → ℕ → List ℕ
+sheetAt w p = sheetOf (sizes w) (ruleOf w p)
+
+module _ {w : List ℕ} {p : ℕ} (s : RuleSound w) (h : p < 32) where
+  pub place-sheet : IsSheet (sizes w) (ruleOf w p) (sheetAt w p)
+  place-sheet = record {
+    writable = record {
+      list = sound-list s;
+      numbers = λ t v. rule-small w p t;
+      rests = omega (arith, tally-last (sizes w) (rulesOf w) (ruleOf w p), copy-fits p h s, s .header .most);
+    };
+    bytes = refl;
+  }
+
+  -- and so at the edge
+  edge-sheet : IsSheet (sizes w) (on (stateOf ruled w) p) (sheetAt w p)
+  edge-sheet = subst (λ (g : Rule). IsSheet (sizes w) g (sheetAt w p)) (sym (at-rules w p h)) place-sheet
+
+  pub place-for : {n : ℕ} → length (sheetAt w p) ≤ n → SheetFor (sizes w) (on (stateOf ruled w) p) n (sheetAt w p)
+  place-for l = sheet-for edge-sheet l
+
+  pub no-place-for : {n : ℕ} → n < length (sheetAt w p) → ((x : List ℕ) × SheetFor (sizes w) (on (stateOf ruled w) p) n x) → ⊥
+  no-place-for l x = omega (arith, l, room-for .0 x .1, ap length (edge-sheet .bytes))
+
+  -- ---- what write laid into the output
+  module _ {out out′ : List ℕ} {n : ℕ} (l : Laid (sheetAt w p) out out′ n) where
+    some-bytes : 1 ≤ length (sheetAt w p)
+    some-bytes = omega (arith, sheet-good place-sheet .ordered .lie .ends)
+
+    -- nothing: it is too short
+    short : n < 1 → length out < length (sheetAt w p)
+    short z = zero-tells some-bytes l (omega arith)
+
+    pub laid-none : n < 1 → (((x : List ℕ) × SheetFor (sizes w) (on (stateOf ruled w) p) (length out) x) → ⊥) × (out′ ≡ out)
+    laid-none z = (no-place-for (short z), l .short (short z) .1)
+
+    -- or the sheet
+    pub laid-sheet : 1 ≤ n → (x : List ℕ) × SheetFor (sizes w) (on (stateOf ruled w) p) (length out) x × (n ≡ length x) × (out′ ≡ x ++ drop (length x) out)
+    laid-sheet z =
+        let f : length (sheetAt w p) ≤ length out = ⊎-elim (λ a. absurd (omega (arith, z, l .short a .0))) (λ a. a) (split (length out) (length (sheetAt w p))) in
+        (sheetAt w p, place-for f, l .fits f .0, l .fits f .1)

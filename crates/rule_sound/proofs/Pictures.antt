@@ -10,17 +10,18 @@ use Rattle.theory.specs.Build.{table}
 use Rattle.theory.specs.Walk.{Tidy}
 use Rattle.theory.specs.Rules.{rules, Rule}
 use Rattle.theory.proofs.Bounded.{Results, empty-bounded, rules-bounded}
-use Rattle.words.specs.Words.{word, capacity, size, sizes, feature, body, Zeros}
-use Rattle.rule_words.specs.Words.{decode, encode, nodes, root, roots, rulesOf}
+use Rattle.rule_words.specs.Words.{encode}
 use Rattle.rule_words.specs.Picture.{drawing, Pictures, Proper, IsTable}
 use Rattle.rule_words.proofs.Reading.{encode-decode, faithful, length-roots, at-roots, length-rules, at-rules}
 use Rattle.rule_words.proofs.Bounding.{decode-encode, rules-small}
 use Rattle.rule_words.proofs.Showing.{body-shows}
 use Rattle.checks.proofs.Pictures as C
 use Rattle.checks.proofs.Pictures.{Reading, Read, Tested}
-use Rattle.rule_sound.specs.Sound.{Sound}
 use Rattle.rule_sound.specs.Walk.{going, Ordered}
 use Rattle.rule_sound.proofs.Sitting.{goes, node-fits}
+use Rattle.promises.specs.Words.{word, capacity, size, sizes, feature, body, Zeros}
+use Rattle.promises.specs.RuleWords.{decode, ruleNodes as nodes, ruleRoot as root, ruleRoots as roots, rulesOf}
+use Rattle.promises.specs.RuleSound.{RuleSound as Sound}
 
 abbrev pub reading : Reading rules
 reading = record { going = going; drawing = drawing; rootAt = λ w p. decode (root w p); roots = roots }

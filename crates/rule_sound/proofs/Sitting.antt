@@ -5,14 +5,15 @@ use Prim.Native.Nat.{ℕ, _+_, _-_, _*_, _≤_, _<_}
 use native.Mathlib.Nat.{le-refl}
 use native.Mathlib.Omega.{arith}
 use Rattle.theory.specs.WellFormed.{Ok, WF}
-use Rattle.words.specs.Words.{word, size, count, sizes, feature, body}
-use Rattle.rule_words.specs.Words.{decode, nodes}
 use Rattle.rule_words.proofs.Reading.{decode-phrase, decode-index, decode-inj, faithful}
 use Rattle.checks.specs.Walk.{Goes}
 use Rattle.checks.proofs.Sitting as C
 use Rattle.checks.proofs.Sitting.{NodeFits, nodes-wf}
-use Rattle.rule_sound.specs.Sound.{Sits, NodeOk}
+use Rattle.rule_sound.specs.Sound.{Sits}
 use Rattle.rule_sound.specs.Walk.{going, Ordered}
+use Rattle.promises.specs.Words.{word, size, count, sizes, feature, body}
+use Rattle.promises.specs.RuleWords.{decode, ruleNodes as nodes}
+use Rattle.promises.specs.RuleSound.{RuleNodeOk as NodeOk}
 
 pub goes : Goes going
 goes =

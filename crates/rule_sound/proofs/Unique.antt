@@ -5,13 +5,14 @@ use Prim.Native.Nat.{ℕ, _≤_, _<_}
 use lib.ListN.{length, getD}
 use Rattle.theory.specs.Functions.{Agree, zero-fun}
 use Rattle.theory.specs.Rules.{Rule}
-use Rattle.words.specs.Words.{kind, capacity, sizes, bound}
+use Rattle.words.specs.Words.{kind}
 use Rattle.words.proofs.Picture as P
 use Rattle.words.proofs.Picture.{shows-ext}
-use Rattle.rule_words.specs.Words.{rulesOf}
 use Rattle.rule_words.specs.Picture.{Pictures}
-use Rattle.rule_sound.specs.Sound.{Sound}
 use Rattle.rule_sound.proofs.Pictures.{sound-pictures, sound-proper, picture-sound, picture-rules}
+use Rattle.promises.specs.Words.{capacity, sizes, bound}
+use Rattle.promises.specs.RuleWords.{rulesOf}
+use Rattle.promises.specs.RuleSound.{RuleSound as Sound}
 
 -- THEOREM: the kind word is 1, that of a sound cost table 2
 pub sound-kind : {w : List ℕ} → Sound w → kind w ≡ 1

@@ -4,14 +4,15 @@ use mathlib.Core.List.{List}
 use Prim.Native.Nat.{ℕ, _+_, _<_}
 use native.Mathlib.Omega.{arith}
 use Rattle.theory.specs.Walk.{scan}
-use Rattle.words.specs.Tab.{tab}
-use Rattle.words.specs.Words.{size, count, sizes, feature, body}
-use Rattle.rule_words.specs.Words.{decode, nodes, root, roots}
 use Rattle.checks.specs.Walk.{Says}
 use Rattle.checks.proofs.Walking as C
-use Rattle.rule_sound.specs.Sound.{Sits, Rooted}
+use Rattle.rule_sound.specs.Sound.{Sits}
 use Rattle.rule_sound.specs.Walk.{Ordered, Visits}
 use Rattle.rule_sound.proofs.Sitting.{sits-more, sits-ok}
+use Rattle.promises.specs.Tab.{tab}
+use Rattle.promises.specs.Words.{size, count, sizes, feature, body}
+use Rattle.promises.specs.RuleWords.{decode, ruleNodes as nodes, ruleRoot as root, ruleRoots as roots}
+use Rattle.promises.specs.RuleSound.{RuleRooted as Rooted}
 
 pub sits-branch : {w : List ℕ} {b : ℕ} → Ordered w → (i v : ℕ) → i < count w → v < size w (feature w i) → b ≡ body w i v → (Sits w (count w) 0 b) × (b < 65536 + i)
 sits-branch {w} {b} o i v h hv e =

@@ -1,12 +1,12 @@
--- What the walk of the soundness test of a rule table answers: how many nodes are done, or that one was not met in its turn. Assumes nothing.
+-- Contract between layers: what the walk of the soundness test of a rule table answers: how many nodes are done, or that one was not met in its turn. Assumes nothing.
 use mathlib.Core.List.{List}
 use Prim.Native.Nat.{ℕ}
 use Rattle.theory.specs.Rules.{rules}
-use Rattle.rule_words.specs.Words.{decode, code}
-use Rattle.checks.specs.Header.{Header}
-use Rattle.checks.specs.Chained.{Chained}
+use Rattle.rule_words.specs.Words.{code}
 use Rattle.checks.specs.Walk as W
-use Rattle.rule_sound.specs.Sound.{Nodes}
+use Rattle.promises.specs.RuleWords.{decode}
+use Rattle.promises.specs.Sound.{Header, Chained}
+use Rattle.promises.specs.RuleSound.{RuleNodesOk as Nodes}
 
 -- a body word for each branch; from 65,536 on it says a node
 abbrev pub going : W.Going rules

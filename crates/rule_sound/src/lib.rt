@@ -3,11 +3,8 @@ ghost use mathlib.Core.Path.{_≡_};
 ghost use mathlib.Core.Option.{some};
 ghost use Prim.Native.Nat.{_≤_, _<_};
 ghost use Rattle.theory.specs.Walk.{scan, scans};
-ghost use Rattle.words.specs.Words.{features, count, sizes, feature};
-ghost use Rattle.rule_words.specs.Words.{nodes, roots};
 ghost use Rattle.settings.specs.Tells.{Tells};
-ghost use Rattle.checks.specs.Header.{Header};
-ghost use Rattle.rule_sound.specs.Sound.{Sits, Lower, Alike, NodeOk, Nodes, Rooted, Sound};
+ghost use Rattle.rule_sound.specs.Sound.{Sits};
 ghost use Rattle.rule_sound.specs.Walk.{Ordered, Visits, VisitsAll};
 use checks::chains_ok;
 use checks::header_ok;
@@ -17,6 +14,10 @@ use rule_words::root_word;
 use words::head_word;
 use words::record_word;
 use words::wide;
+ghost use Rattle.promises.specs.Words.{features, count, sizes, feature};
+ghost use Rattle.promises.specs.RuleWords.{ruleNodes as nodes, ruleRoots as roots};
+ghost use Rattle.promises.specs.Sound.{Header};
+ghost use Rattle.promises.specs.RuleSound.{RuleLower as Lower, RuleAlike as Alike, RuleNodeOk as NodeOk, RuleNodesOk as Nodes, RuleRooted as Rooted, RuleSound as Sound};
 
 // Whether each branch of node i is a phrase or an earlier node of a higher feature.
 fn lower(t: &[u32], i: usize) -> bool

@@ -10,11 +10,12 @@ use Rattle.theory.specs.Diagrams.{Target, at, blank, empty}
 use Rattle.theory.specs.Functions.{zero-fun}
 use Rattle.theory.specs.Rules.{rules, Branch, Node, Rule}
 use Rattle.theory.proofs.Bounded.{Bounded, Bounds, value-bounded}
-use Rattle.words.specs.Words.{count, size, feature, body}
 use Rattle.words.proofs.Coding.{branch-past}
 use Rattle.words.proofs.Tab.{split, getD-tab}
-use Rattle.rule_words.specs.Words.{decode, encode, encodeTo, nodes, root, ruleOf, rulesOf}
+use Rattle.rule_words.specs.Words.{encode, encodeTo}
 use Rattle.rule_words.proofs.Reading.{decode-phrase, decode-node, decode-index, length-nodes, at-nodes, at-rules}
+use Rattle.promises.specs.Words.{count, size, feature, body}
+use Rattle.promises.specs.RuleWords.{decode, ruleNodes as nodes, ruleRoot as root, ruleOf, rulesOf}
 
 pub decode-bounded : (x : ℕ) → Bounded 65536 (decode x .to)
 decode-bounded x = ⊎-elim (λ h. rw (decode-phrase x h) h) (λ h. rw (decode-node x h) tt) (split x 65536)

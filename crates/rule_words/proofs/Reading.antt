@@ -10,11 +10,12 @@ use Rattle.theory.specs.Diagrams.{at, blank}
 use Rattle.theory.specs.Functions.{zero-fun}
 use Rattle.theory.specs.WellFormed.{Under}
 use Rattle.theory.specs.Rules.{Branch, Node, phrase, node}
-use Rattle.words.specs.Words.{count, size, feature, body}
 use Rattle.words.specs.Coding.{Faithful}
 use Rattle.words.proofs.Coding as C
 use Rattle.words.proofs.Tab.{split, tab-ext, length-tab, getD-tab}
-use Rattle.rule_words.specs.Words.{decode, encode, branches, code, nodeAt, nodes, root, roots, ruleOf, rulesOf}
+use Rattle.rule_words.specs.Words.{encode, branches, code, nodeAt}
+use Rattle.promises.specs.Words.{count, size, feature, body}
+use Rattle.promises.specs.RuleWords.{decode, ruleNodes as nodes, ruleRoot as root, ruleRoots as roots, ruleOf, rulesOf}
 
 pub decode-phrase : (x : ℕ) → x < 65536 → decode x ≡ phrase x
 unfolding decode

@@ -5,13 +5,14 @@ use mathlib.Core.List.{List}
 use Prim.Native.Nat.{ℕ, _≤_, _<_}
 use Rattle.theory.specs.Diagrams.{at}
 use Rattle.theory.specs.Rules.{Node}
-use Rattle.words.specs.Words.{count, size, feature, body, hashAt}
 use Rattle.words.proofs.Tab.{split}
 use Rattle.words.proofs.Coding.{past-at}
 use Rattle.words.proofs.Picture.{hash-shown}
-use Rattle.rule_words.specs.Words.{encode, code, nodes}
+use Rattle.rule_words.specs.Words.{encode, code}
 use Rattle.rule_words.specs.Picture.{bodyOf, drawing, nodeHash}
 use Rattle.rule_words.proofs.Reading.{encode-decode, at-nodes, branch-at}
+use Rattle.promises.specs.Words.{count, size, feature, body, hashAt}
+use Rattle.promises.specs.RuleWords.{ruleNodes as nodes}
 
 module _ (w : List ℕ) (padded : (i v : ℕ) → i < count w → size w (feature w i) ≤ v → v < 12 → body w i v ≡ 0) where
   pub body-shows : (i v : ℕ) → i < count w → v < 12 → body w i v ≡ bodyOf (at (nodes w) i) v

@@ -1,11 +1,12 @@
--- The picture of 32 rules: a rule table at rest. Assumes nothing.
+-- Contract between layers: the picture of 32 rules: a rule table at rest. Assumes nothing.
 use mathlib.Core.List.{List}
 use Prim.Native.Nat.{ℕ, _<_}
 use lib.ListN.{getD}
 use Rattle.theory.specs.Diagrams.{blank}
 use Rattle.theory.specs.Rules.{rules, Branch, Node, Rule}
 use Rattle.words.specs.Picture as P
-use Rattle.rule_words.specs.Words.{encode, rulesOf}
+use Rattle.rule_words.specs.Words.{encode}
+use Rattle.promises.specs.RuleWords.{rulesOf}
 
 -- body word v of a node: its branch words, 0 past its size
 abbrev pub bodyOf : Node → ℕ → ℕ

@@ -1,20 +1,14 @@
--- What the words of a rule table say: its nodes, its roots, its rules. Assumes nothing.
+-- Contract between layers: what the words of a rule table say: its nodes, its roots, its rules. Assumes nothing.
 use mathlib.Core.Path.{_≡_}
 use mathlib.Core.List.{List}
-use Prim.Native.Nat.{ℕ, _+_, _-_, _≤_, _<_}
-use lib.Dec.{ltb}
+use Prim.Native.Nat.{ℕ, _+_, _≤_, _<_}
 use Rattle.theory.specs.Diagrams as D
-use Rattle.theory.specs.Diagrams.{meaning}
-use Rattle.theory.specs.Rules.{rules, Branch, Node, Rule, phrase, node}
-use Rattle.words.specs.Tab.{tab}
-use Rattle.words.specs.Words.{head, pick}
+use Rattle.theory.specs.Rules.{rules, Branch, Node, node}
 use Rattle.words.specs.Coding as C
 use Rattle.rule_words.specs.declared.Branch.{Branch as CodeBranch}
 use Rattle.rule_words.specs.declared.Branch.the-variants.{Phrase, Node as NodeIs}
-
--- the branch that a word says: a phrase number, or 65,536 + a node's index
-unfoldable pub decode : ℕ → Branch
-decode x = pick (ltb x 65536) (phrase x) (node (x - 65536))
+use Rattle.promises.specs.RuleWords.{decode}
+use Rattle.promises.specs.Tab.{tab}
 
 -- the word that says a branch
 abbrev pub encodeTo : D.Target rules → ℕ
@@ -35,23 +29,6 @@ code = record { arm = λ f v. decode (f v); Padded = λ m f. (v : ℕ) → m ≤
 -- node i, and all nodes
 abbrev pub nodeAt : List ℕ → ℕ → Node
 nodeAt w i = C.nodeAt code w i
-
-abbrev pub nodes : List ℕ → List Node
-nodes w = C.nodes code w
-
--- the root word of place p
-abbrev pub root : List ℕ → ℕ → ℕ
-root w p = head w (32 + p)
-
-unfoldable pub roots : List ℕ → List Branch
-roots w = tab (λ p. decode (root w p)) 32
-
--- the rules of the 32 places
-abbrev pub ruleOf : List ℕ → ℕ → Rule
-ruleOf w p = meaning (nodes w) (decode (root w p))
-
-unfoldable pub rulesOf : List ℕ → List Rule
-rulesOf w = tab (ruleOf w) 32
 
 -- the word of the code's branch
 abbrev pub wordOf : CodeBranch → ℕ

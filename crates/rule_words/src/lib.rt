@@ -3,7 +3,8 @@ use words::head_word;
 ghost use mathlib.Core.Path.{_≡_};
 ghost use Prim.Native.Nat.{_+_, _≤_, _<_};
 ghost use lib.ListN.{length};
-ghost use Rattle.rule_words.specs.Words.{root, wordOf};
+ghost use Rattle.rule_words.specs.Words.{wordOf};
+ghost use Rattle.promises.specs.RuleWords.{ruleRoot as root};
 
 // A branch: a phrase number or a node.
 pub enum Branch {

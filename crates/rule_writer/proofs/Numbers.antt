@@ -15,17 +15,19 @@ use Rattle.theory.specs.Rules.{Branch, Node}
 use Rattle.theory.specs.Settings.{Pos}
 use Rattle.theory.specs.WellFormed.{WF}
 use Rattle.theory.proofs.Copying.{copies-leaf, copies-twin, copies-new, lists-none, lists-more, half-none, half-new, marked-le, marked-lt, marked-more, marked-none}
-use Rattle.words.specs.Tab.{tab}
-use Rattle.words.specs.Words.{size, count, sizes, feature, body}
 use Rattle.words.proofs.Tab.{split, tab-none, tab-snoc, tab-ext, length-tab}
 use Rattle.words.proofs.Words.{pos-sizes}
-use Rattle.rule_words.specs.Words.{decode, branches, nodes, root, ruleOf}
+use Rattle.rule_words.specs.Words.{branches}
 use Rattle.rule_words.proofs.Reading.{decode-phrase, decode-index, length-nodes, at-nodes, branch-at}
-use Rattle.rule_sound.specs.Sound.{Sits, Sound}
+use Rattle.rule_sound.specs.Sound.{Sits}
 use Rattle.rule_sound.proofs.Pictures.{ordered}
 use Rattle.rule_sound.proofs.Sitting.{ordered-wf, sits-ok}
 use Rattle.rule_sound.proofs.Walking.{sits-branch}
 use Rattle.rule_writer.specs.Numbering.{mark, member, renumbered, Has, nodeIn, numbered, Noted, Numbers, Numbering}
+use Rattle.promises.specs.Tab.{tab}
+use Rattle.promises.specs.Words.{size, count, sizes, feature, body}
+use Rattle.promises.specs.RuleWords.{decode, ruleNodes as nodes, ruleRoot as root, ruleOf}
+use Rattle.promises.specs.RuleSound.{RuleSound as Sound}
 
 -- ---- words renumbered
 pub renumbered-phrase : (n : List ℕ) (b : ℕ) → b < 65536 → renumbered n b ≡ b

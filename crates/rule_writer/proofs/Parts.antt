@@ -8,15 +8,16 @@ use lib.ListN.{length, drop, length-append}
 use lib.Seq.{sets-eq}
 use Rattle.theory.specs.Rules.{Branch, Built, Node, Rule}
 use Rattle.theory.specs.Build.{build}
-use Rattle.words.specs.Words.{features, size, sizes, feature, body}
 use Rattle.words.proofs.Tab.{split, tab-none, length-tab}
 use Rattle.words.proofs.Words.{length-sizes}
-use Rattle.rule_words.specs.Words.{decode, branches}
+use Rattle.rule_words.specs.Words.{branches}
 use Rattle.sheet_bytes.specs.Sections.{two, section, branchesBytes, nodeBytes, nodesBytes, sheetBytes}
 use Rattle.sheet_bytes.specs.Sheet.{branchBytes, sheetOf}
 use Rattle.rule_writer.specs.Laid.{Laid, Puts}
 use Rattle.rule_writer.specs.Numbering.{member, renumbered, nodeIn, numbered}
 use Rattle.rule_writer.proofs.Putting.{puts-same, branches-snoc, length-branches, nodes-snoc, length-node}
+use Rattle.promises.specs.Words.{features, size, sizes, feature, body}
+use Rattle.promises.specs.RuleWords.{decode}
 
 -- ---- the first v branches of a node
 unfoldable pub begun : List ℕ → List ℕ → ℕ → ℕ → List ℕ

@@ -8,14 +8,14 @@ use native.Mathlib.Omega.{arith}
 use lib.ListN.{length, set, length-append}
 use lib.Seq.{sets, length-sets}
 use Rattle.theory.specs.Rules.{Branch, Node}
-use Rattle.words.specs.Tab.{tab}
 use Rattle.words.proofs.Tab.{split, tab-snoc}
-use Rattle.rule_words.specs.Words.{decode}
 use Rattle.rule_words.proofs.Reading.{decode-phrase, decode-node}
 use Rattle.sheet_bytes.specs.Sections.{two, branchesBytes, nodeBytes, nodesBytes}
 use Rattle.sheet_bytes.specs.Sheet.{targetBytes, branchBytes}
 use Rattle.sheet_bytes.proofs.Places.{three}
 use Rattle.rule_writer.specs.Laid.{Puts}
+use Rattle.promises.specs.Tab.{tab}
+use Rattle.promises.specs.RuleWords.{decode}
 
 -- ---- one after the other
 sets-append : (a b l : List ℕ) (p : ℕ) → sets (sets l p a) (p + length a) b ≡ sets l p (a ++ b)

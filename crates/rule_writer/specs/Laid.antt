@@ -1,4 +1,4 @@
--- Bytes written over an output: at a place, and from its front on where they fit. Assumes nothing.
+-- Contract between layers: bytes written over an output: at a place, and from its front on where they fit. Assumes nothing.
 use mathlib.Core.Path.{_≡_}
 use mathlib.Core.List.{List, _++_}
 use Prim.Native.Nat.{ℕ, _+_, _≤_, _<_}

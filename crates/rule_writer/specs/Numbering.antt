@@ -1,4 +1,4 @@
--- The nodes that a branch reaches, numbered as its sheet has them. The numbers stand in an array of notes. Assumes nothing.
+-- Contract between layers: the nodes that a branch reaches, numbered as its sheet has them. The numbers stand in an array of notes. Assumes nothing.
 use mathlib.Core.Path.{_≡_}
 use mathlib.Core.List.{List}
 use Prim.Native.Nat.{ℕ, _+_, _-_, _≤_, _<_}
@@ -6,9 +6,10 @@ use lib.Dec.{ltb}
 use lib.ListN.{length, getD}
 use Rattle.theory.specs.Copying.{Copies, Half, Lists, marked}
 use Rattle.theory.specs.Rules.{Node}
-use Rattle.words.specs.Tab.{tab}
-use Rattle.words.specs.Words.{size, count, sizes, feature, body, pick}
-use Rattle.rule_words.specs.Words.{decode, branches, nodes}
+use Rattle.rule_words.specs.Words.{branches}
+use Rattle.promises.specs.Tab.{tab}
+use Rattle.promises.specs.Words.{size, count, sizes, feature, body, pick}
+use Rattle.promises.specs.RuleWords.{decode, ruleNodes as nodes}
 
 -- 1 + the number of node i in the sheet, 0 while it has none
 abbrev pub mark : List ℕ → ℕ → ℕ

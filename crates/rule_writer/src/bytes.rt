@@ -3,10 +3,10 @@ ghost use mathlib.Core.Path.{_≡_};
 ghost use mathlib.Core.List.{[], _∷_};
 ghost use Prim.Native.Nat.{_+_, _≤_, _<_};
 ghost use lib.ListN.{length};
-ghost use Rattle.rule_words.specs.Words.{decode};
 ghost use Rattle.sheet_bytes.specs.Sections.{two};
 ghost use Rattle.sheet_bytes.specs.Sheet.{branchBytes};
 ghost use Rattle.rule_writer.specs.Laid.{Puts};
+ghost use Rattle.promises.specs.RuleWords.{decode};
 
 // A small number as a byte.
 fn byte(x: u32) -> u8

@@ -9,11 +9,11 @@ use crate::writing::put_front;
 use crate::writing::sheet_length;
 use rule_words::root_word;
 ghost use Prim.Native.Nat.{_<_};
-ghost use Rattle.words.specs.Words.{sizes};
-ghost use Rattle.rule_words.specs.Words.{ruleOf};
-ghost use Rattle.rule_sound.specs.Sound.{Sound};
 ghost use Rattle.sheet_bytes.specs.Sheet.{sheetOf};
 ghost use Rattle.rule_writer.specs.Laid.{Laid};
+ghost use Rattle.promises.specs.Words.{sizes};
+ghost use Rattle.promises.specs.RuleWords.{ruleOf};
+ghost use Rattle.promises.specs.RuleSound.{RuleSound as Sound};
 
 // Writes the sheet of the place's rule and answers its length; where the output is shorter, writes nothing and answers 0.
 pub fn put_sheet(t: &[u32], place: usize, out: &mut [u8]) -> usize

@@ -7,9 +7,10 @@ use words::wide;
 ghost use mathlib.Core.Path.{_≡_};
 ghost use Prim.Native.Nat.{_≤_, _<_};
 ghost use lib.ListN.{length};
-ghost use Rattle.words.specs.Words.{size, count, feature};
-ghost use Rattle.rule_sound.specs.Sound.{Sits, Sound};
+ghost use Rattle.rule_sound.specs.Sound.{Sits};
 ghost use Rattle.rule_writer.specs.Numbering.{member, renumbered, Noted, Numbers};
+ghost use Rattle.promises.specs.Words.{size, count, feature};
+ghost use Rattle.promises.specs.RuleSound.{RuleSound as Sound};
 
 // How many branches node i has.
 pub fn width(t: &[u32], i: usize) -> usize

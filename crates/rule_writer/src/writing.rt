@@ -13,13 +13,14 @@ ghost use mathlib.Core.Path.{_≡_};
 ghost use mathlib.Core.List.{[], _∷_, _++_};
 ghost use Prim.Native.Nat.{_+_, _*_, _≤_, _<_};
 ghost use lib.ListN.{length};
-ghost use Rattle.words.specs.Words.{features, count, sizes};
-ghost use Rattle.rule_words.specs.Words.{decode};
-ghost use Rattle.rule_sound.specs.Sound.{Sits, Sound};
+ghost use Rattle.rule_sound.specs.Sound.{Sits};
 ghost use Rattle.sheet_bytes.specs.Sections.{section, branchesBytes, nodeBytes, nodesBytes};
 ghost use Rattle.sheet_bytes.specs.Sheet.{branchBytes};
 ghost use Rattle.rule_writer.specs.Laid.{Puts};
 ghost use Rattle.rule_writer.specs.Numbering.{renumbered, nodeIn, numbered, Noted};
+ghost use Rattle.promises.specs.Words.{features, count, sizes};
+ghost use Rattle.promises.specs.RuleWords.{decode};
+ghost use Rattle.promises.specs.RuleSound.{RuleSound as Sound};
 
 // How many bytes the sheet has whose c nodes have numbers.
 pub fn sheet_length(t: &[u32], notes: &[u32; 8192], c: usize) -> usize

@@ -3,3 +3,4 @@ pub mod Answering
 pub mod Opened
 pub mod Looking
 pub mod Theorems
+pub mod Edge

@@ -8,11 +8,12 @@ use lib.ListN.{length, getD}
 use Rattle.theory.specs.Diagrams.{blank}
 use Rattle.settings.specs.declared.refusals.Outcome.the-variants.{Taken}
 use Rattle.words.proofs.Tab.{split, getD-tab}
-use Rattle.calls.specs.Opening.{Openable, Named}
+use Rattle.calls.specs.Opening.{Named}
 use Rattle.calls.proofs.Opened as C
 use Rattle.rule_words.specs.Words.{encode}
 use Rattle.rule_words.specs.Picture.{drawing}
 use Rattle.rules.specs.Opening.{Opens}
+use Rattle.promises.specs.TableDeeds.{Openable}
 
 module _ {S : List ℕ} {cap : ℕ} {w w′ : List ℕ} (o : Openable S cap (length w)) (n : Named 1 0 S cap w w′) where
   root : (p : ℕ) → p < 32 → getD w′ (32 + p) 0 ≡ 0

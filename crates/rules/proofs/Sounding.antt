@@ -7,13 +7,13 @@ use lib.ListN.{length}
 use Rattle.theory.specs.Settings.{FeatureList, Pos}
 use Rattle.theory.specs.WellFormed.{Ok, WF}
 use Rattle.theory.specs.Tally.{tally}
-use Rattle.words.specs.Words.{count, sizes}
 use Rattle.checks.proofs.Pictures.{tested-wf, tested-root, tested-list}
 use Rattle.calls.proofs.Sounding.{tested-pos, tested-untidy, tested-tally}
-use Rattle.rule_words.specs.Words.{decode, nodes, root, rulesOf}
-use Rattle.rule_sound.specs.Sound.{Sound}
 use Rattle.rule_sound.proofs.Pictures.{read, sound-tested}
 use Rattle.rule_collect.specs.Tidy.{Untidy}
+use Rattle.promises.specs.Words.{count, sizes}
+use Rattle.promises.specs.RuleWords.{decode, ruleNodes as nodes, ruleRoot as root, rulesOf}
+use Rattle.promises.specs.RuleSound.{RuleSound as Sound}
 
 module _ {w : List ℕ} (s : Sound w) where
   pub sound-long : 8192 ≤ length w

@@ -11,15 +11,15 @@ use Rattle.theory.specs.WellFormed.{Mean}
 use Rattle.theory.specs.Rules.{Rule, Branch, Node, says}
 use Rattle.theory.proofs.Canonical.{canonical}
 use Rattle.theory.proofs.Tables.{room}
-use Rattle.words.specs.Words.{capacity, count, sizes}
 pub use Rattle.calls.proofs.Theorems.{ended}
 use Rattle.calls.proofs.Theorems as C
-use Rattle.rule_words.specs.Words.{decode, nodes, root, ruleOf, rulesOf}
 use Rattle.rule_words.specs.Picture.{Becomes}
 use Rattle.rule_words.proofs.Reading.{length-nodes}
-use Rattle.rule_sound.specs.Sound.{Sound}
 use Rattle.rule_sound.proofs.Pictures.{read, sound-table, picture-sound, picture-rules}
 use Rattle.rules.proofs.Sounding.{sound-pos, sound-wf, sound-root}
+use Rattle.promises.specs.Words.{capacity, count, sizes}
+use Rattle.promises.specs.RuleWords.{decode, ruleNodes as nodes, ruleRoot as root, ruleOf, rulesOf}
+use Rattle.promises.specs.RuleSound.{RuleSound as Sound}
 
 -- ---- SOUND: a table that a call wrote
 pub becomes-sound : {p : ℕ} {g : Rule} {w w′ : List ℕ} → Becomes p g w w′ → Sound w′

@@ -1,4 +1,4 @@
--- The promise of opening. Assumes nothing.
+-- Contract between layers: the promise of opening. Assumes nothing.
 use mathlib.Core.List.{List}
 use Prim.Native.Nat.{ℕ}
 use Rattle.theory.specs.Rules.{Rule}

@@ -1,14 +1,16 @@
-// The rule table: opening, constant, copy, look up, same, tally.
-mod opening; // opening.rt: a fresh table
-mod reading; // reading.rt: look up, same, tally
-mod writing; // writing.rt: constant, copy
+// The rule table: opening, constant, copy, look up, same, tally; and the door of every call on a rule table.
+mod at_the_door; // at_the_door.rt: the table and the places tested
+mod call_constant; // call_constant.rt: a constant into a place
+mod call_copy; // call_copy.rt: one place's rule into another
+mod call_look_up; // call_look_up.rt: the number at a setting
+mod call_open; // call_open.rt: a fresh table
+mod call_same; // call_same.rt: whether two places agree
+mod call_tally; // call_tally.rt: how many distinct rests there are
 
-pub use opening::open;
-pub use reading::Compared;
-pub use reading::Looked;
-pub use reading::Tallied;
-pub use reading::look_up;
-pub use reading::same;
-pub use reading::tally;
-pub use writing::constant;
-pub use writing::copy;
+pub use at_the_door::door;
+pub use call_constant::constant;
+pub use call_copy::copy;
+pub use call_look_up::look_up;
+pub use call_open::open;
+pub use call_same::same;
+pub use call_tally::tally;

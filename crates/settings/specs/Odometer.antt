@@ -1,4 +1,4 @@
--- What the stepper's inner loop leaves in its 16 places. Assumes nothing.
+-- Contract between layers: what the stepper's inner loop leaves in its 16 places. Assumes nothing.
 use mathlib.Core.Path.{_≡_}
 use mathlib.Core.Bool.{Bool, true, false}
 use mathlib.Core.Option.{Option, some, none}

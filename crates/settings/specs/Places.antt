@@ -1,4 +1,4 @@
--- The 16 places that hold a setting. Assumes nothing.
+-- Contract between layers: the 16 places that hold a setting. Assumes nothing.
 use mathlib.Core.Path.{_≡_}
 use mathlib.Core.List.{List}
 use Prim.Native.Nat.{ℕ, _<_}

@@ -1,4 +1,4 @@
--- Document 01's refusal numbers, and the shape of every call's table of refusals. Assumes nothing.
+-- The scope's refusal numbers, and the shape of every call's table of refusals. Assumes nothing.
 use mathlib.Core.Path.{_≡_}
 use mathlib.Core.Logic.{_⊎_}
 use Prim.Native.Nat.{ℕ, _<_}

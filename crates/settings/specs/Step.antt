@@ -26,7 +26,7 @@ settingOf l = record { count = length l; values = take 16 l ++ replicate (16 - l
 abbrev pub zeroSetting : ℕ → Setting
 zeroSetting n = record { count = n; values = replicate 16 0 }
 
--- inside document 01's numbers: a feature list, and a setting of it
+-- inside the scope's numbers: a feature list, and a setting of it
 pub record Inside (S : List ℕ) (s : Setting) : Type 0 where
   pub features : FeatureList S
   pub counted : s .count ≡ length S

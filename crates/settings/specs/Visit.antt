@@ -1,4 +1,4 @@
--- The settings that the stepper meets, one after the other, from all zeros. Assumes nothing.
+-- Contract between layers: the settings that the stepper meets, one after the other, from all zeros. Assumes nothing.
 use mathlib.Core.Option.{Option, some, none}
 use mathlib.Core.List.{List}
 use Prim.Native.Nat.{ℕ, zero, suc}

@@ -1,8 +1,8 @@
-// Document 01's refusals, and how a call ends.
+// The scope's refusals, and how a call ends.
 ghost use mathlib.Core.Path.{_≡_};
 ghost use Rattle.settings.specs.Refusals.{numberOf, outcomeNumber};
 
-// The refusals, in the order of document 01's table.
+// The refusals, in the order of the scope's table.
 pub enum Refusal {
     Damaged,
     BadPlace,

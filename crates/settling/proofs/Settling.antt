@@ -9,21 +9,21 @@ use Rattle.settings.specs.declared.refusals.Refusal.the-variants.{NoRoom}
 use Rattle.settings.specs.declared.refusals.Outcome.{Outcome}
 use Rattle.settings.specs.declared.refusals.Outcome.the-variants.{Taken, Refused}
 use Rattle.words.specs.Holding as H
-use Rattle.words.specs.Words.{count, sizes}
 use Rattle.records.specs.Changes.{Rolled}
 use Rattle.calls.proofs.Settling as C
 use Rattle.calls.proofs.Sounding.{tested-holds}
 pub use Rattle.calls.proofs.Theorems.{puts-agree, write-pass}
-use Rattle.rule_words.specs.Words.{decode, nodes}
 use Rattle.rule_words.specs.Picture.{Becomes}
 use Rattle.rule_nodes.specs.Nodes.{layout, Holds, Gives, Result, told}
 use Rattle.rule_nodes.specs.declared.Answer.{Answer}
 use Rattle.rule_nodes.specs.declared.Answer.the-variants.{Is, NoRoom as Full}
 use Rattle.rule_nodes.proofs.Filling.{result-mean}
-use Rattle.rule_sound.specs.Sound.{Sound}
 use Rattle.rule_sound.proofs.Pictures.{read, sound-tested}
 use Rattle.rule_collect.proofs.Forming.{regular}
 use Rattle.settling.specs.Settling.{Exceeds, Puts, Asks, Settled}
+use Rattle.promises.specs.Words.{count, sizes}
+use Rattle.promises.specs.RuleWords.{decode, ruleNodes as nodes}
+use Rattle.promises.specs.RuleSound.{RuleSound as Sound}
 
 -- a sound table can be built onto
 pub sound-holds : {w : List ℕ} → Sound w → Holds w

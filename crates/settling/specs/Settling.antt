@@ -1,18 +1,19 @@
--- NO ROOM, and the end of every call that builds. Assumes nothing.
+-- Contract between layers: NO ROOM, and the end of every call that builds. Assumes nothing.
 use mathlib.Core.List.{List}
 use Prim.Native.Nat.{ℕ, _≤_, _<_}
 use Rattle.theory.specs.Rules.{Rule}
 use Rattle.theory.specs.WellFormed.{Ok}
 use Rattle.settings.specs.declared.refusals.Outcome.{Outcome}
-use Rattle.words.specs.Words.{count}
 use Rattle.records.specs.Laid.{Laid}
 use Rattle.calls.specs.Writing as C
-use Rattle.rule_words.specs.Words.{decode, code, nodes}
+use Rattle.rule_words.specs.Words.{code}
 use Rattle.rule_words.specs.Picture.{drawing}
 use Rattle.rule_nodes.specs.Nodes.{told}
 use Rattle.rule_nodes.specs.declared.Answer.{Answer}
 use Rattle.rule_nodes.specs.declared.Answer.the-variants.{Is, NoRoom as Full}
 use Rattle.rule_collect.specs.Tidy.{Untidy}
+use Rattle.promises.specs.Words.{count}
+use Rattle.promises.specs.RuleWords.{decode, ruleNodes as nodes}
 
 -- NO ROOM: the distinct rests of all places of the table before the call with those of the result exceed its capacity
 abbrev pub Exceeds : List ℕ → Rule → Type 0

@@ -9,7 +9,7 @@ use lib.Arith.{digits-div, digits-mod}
 use lib.ListN.{length, getD, drop, List·getD-append}
 use lib.Seq.{drop-cons, drop-drop, getD-drop, drop-append-seam}
 use Rattle.sheet_bytes.specs.Sections.{two, section}
-use Rattle.sheet_bytes.specs.Bytes.{byte, pair}
+use Rattle.promises.specs.Sheet.{byte, pair}
 
 -- ---- bytes from a place on
 pub rest-head : (s : List ℕ) (p x : ℕ) (r : List ℕ) → drop p s ≡ x ∷ r → byte s p ≡ x

@@ -1,4 +1,4 @@
--- The sections of a sheet of any kind: a two-byte count, then the items; and the nodes in the order of their list. Assumes nothing.
+-- Contract between layers: the sections of a sheet of any kind: a two-byte count, then the items; and the nodes in the order of their list. Assumes nothing.
 use mathlib.Core.List.{List, [], _∷_, _++_}
 use Prim.Native.Nat.{ℕ, _/_, _%_}
 use lib.ListN.{length}

@@ -1,9 +1,9 @@
--- Document 01, "The rule sheet, edition 1": the bytes of a rule's sheet, and which bytes are a sheet. Assumes nothing.
+-- Contract between layers: docs/SCOPE.md, Sheets: the bytes of a rule's sheet, and which bytes are a sheet. Assumes nothing.
 use mathlib.Core.Path.{_≡_, refl}
 use mathlib.Core.List.{List, [], _∷_}
 use Prim.Native.Nat.{ℕ, zero, suc, _≤_, _<_}
 use native.Mathlib.Decide.{ℕ-discrete}
-use lib.ListN.{length, getD}
+use lib.ListN.{length}
 use Rattle.theory.specs.Settings.{FeatureList, Valid}
 use Rattle.theory.specs.Diagrams as D
 use Rattle.theory.specs.Deciding.{alike?, are?, find, list-discrete}
@@ -27,7 +27,7 @@ unfoldable pub sheetOf : List ℕ → Rule → List ℕ
 unfolding sheetBytes targetBytes
 sheetOf S g = sheetBytes branchBytes (1 ∷ []) S (build 0 S g [] .1) (build 0 S g [] .0 ∷ [])
 
--- a feature list and a rule that have a sheet: document 01's numbers, and at most 4,096 rests
+-- a feature list and a rule that have a sheet: the scope's numbers, and at most 4,096 rests
 pub record Writable (S : List ℕ) (g : Rule) : Type 0 where
   pub list : FeatureList S
   pub numbers : (t : List ℕ) → Valid S t → g t .end < 65536
@@ -44,14 +44,7 @@ pub record Written (s : List ℕ) : Type 0 where
   pub rule : Rule
   pub is : IsSheet list rule s
 
--- NEWER: the first three bytes are 0, 1 and a number of 2 or more
-pub record NewerSheet (s : List ℕ) : Type 0 where
-  pub three : 3 ≤ length s
-  pub zero : getD s 0 0 ≡ 0
-  pub one : getD s 1 0 ≡ 1
-  pub more : 2 ≤ getD s 2 0
-
--- document 01's example: one feature of size 2, phrases 7 and 9
+-- the scope's example: one feature of size 2, phrases 7 and 9
 seven-nine : Rule
 seven-nine [] = says 0
 seven-nine (zero ∷ t) = says 7

@@ -2,7 +2,7 @@
 ghost use mathlib.Core.Path.{_≡_};
 ghost use Prim.Native.Nat.{_+_, _<_};
 ghost use lib.ListN.{length};
-ghost use Rattle.sheet_bytes.specs.Bytes.{pair, word};
+ghost use Rattle.promises.specs.Sheet.{pair, triple as word};
 
 // A byte as an index.
 pub fn wide(x: u8) -> usize

@@ -1,35 +1,34 @@
--- The promise of the check is met at each return; what its answers say to every reader. Assumes nothing.
-use mathlib.Core.Path.{refl}
+-- The contract of the check is met at each return; what its answers say to every reader. Assumes nothing.
+use mathlib.Core.Path.{_≡_, refl, subst}
 use mathlib.Core.List.{List}
 use Prim.Native.Nat.{ℕ}
-use Rattle.settings.specs.Refusals.{Cases, Ends, taken}
+use Rattle.settings.specs.Refusals.{Ends, taken}
 use Rattle.settings.specs.declared.refusals.Refusal.{Refusal}
 use Rattle.settings.specs.declared.refusals.Refusal.the-variants.{Newer, BadSheet}
+use Rattle.settings.specs.declared.refusals.Outcome.{Outcome}
 use Rattle.settings.specs.declared.refusals.Outcome.the-variants.{Taken, Refused}
 use Rattle.settings.proofs.Endings.{stop, pass, not-taken, not-refused}
-use Rattle.sheet_bytes.specs.Sheet.{NewerSheet, Written}
-use Rattle.sheet_bytes.proofs.Sections.{Bytes}
-use Rattle.sheet_check.specs.Diagram.{Good, Ready}
-use Rattle.sheet_check.specs.Checked.{sheet-cases, Checks}
-use Rattle.sheet_check.proofs.Reading.{written-good}
-use Rattle.sheet_check.proofs.Writing.{good-sheet, good-written}
+use Rattle.promises.specs.Sheet.{NewerSheet, GoodSheet}
+use Rattle.promises.specs.SheetDeeds.{sheet-cases}
+use Rattle.sheet_check.specs.Diagram.{Ready}
+use Rattle.sheet_check.specs.Checked.{Checks}
 
 pub check-newer : {s at : List ℕ} → NewerSheet s → Checks s at (Refused Newer)
-check-newer n = record { ends = stop n; ready = not-taken; sheet = not-taken }
+check-newer n = record { ends = stop n; ready = not-taken }
 
-pub check-bad : {s at : List ℕ} → (NewerSheet s → ⊥) → (Good s → ⊥) → Checks s at (Refused BadSheet)
-check-bad n b = record { ends = pass n (stop (λ w. b (written-good w))); ready = not-taken; sheet = not-taken }
+pub check-bad : {s at : List ℕ} → (NewerSheet s → ⊥) → (GoodSheet s → ⊥) → Checks s at (Refused BadSheet)
+check-bad n b = record { ends = pass n (stop b); ready = not-taken }
 
-pub check-good : {s at : List ℕ} → (NewerSheet s → ⊥) → Bytes s → Ready s at → Checks s at Taken
-check-good n B r = record { ends = pass n (pass (λ w. w (good-written (r .good) B)) refl); ready = λ e. r; sheet = λ e. good-sheet (r .good) B }
+pub check-good : {s at : List ℕ} → (NewerSheet s → ⊥) → Ready s at → Checks s at Taken
+check-good n r = record { ends = pass n (pass (λ b. b (r .good)) refl); ready = λ e. r }
 
--- a refusal of the check is one of every reader, whatever else it refuses
-pub refused-sheet : (s : List ℕ) (rest : Cases) (x : Refusal) → Ends (sheet-cases s taken) (Refused x) → Ends (sheet-cases s rest) (Refused x)
-refused-sheet s rest x e = (e .0, λ n. (e .1 n .0, λ m. not-taken (e .1 n .1 m)))
+-- ---- THE CHECK, stated on what `Ends` computes to: R is what the refusals after the check compute to
+module _ {s at : List ℕ} {o : Outcome} (c : Checks s at o) where
+  -- what the check refuses is refused, whatever comes after it
+  pub unread : {x : Refusal} {R : Type 0} → o ≡ Refused x →
+      (NewerSheet s → Refused x ≡ Refused Newer) × ((NewerSheet s → ⊥) → ((GoodSheet s → ⊥) → Refused x ≡ Refused BadSheet) × (((GoodSheet s → ⊥) → ⊥) → R))
+  unread k = let f = subst (Ends (sheet-cases s taken)) k (c .ends) in (f .0, λ n. (f .1 n .0, λ m. not-taken (f .1 n .1 m)))
 
--- what is taken is a sheet, and not a newer one
-pub taken-old : (s : List ℕ) (rest : Cases) → Ends (sheet-cases s rest) Taken → NewerSheet s → ⊥
-taken-old s rest e n = not-refused (e .0 n)
-
-pub taken-sheet : (s : List ℕ) (rest : Cases) → Ends (sheet-cases s rest) Taken → (Written s → ⊥) → ⊥
-taken-sheet s rest e b = not-refused (e .1 (taken-old s rest e) .0 b)
+  -- past the check the rest decides
+  pub read-on : {q : Outcome} {R : Type 0} → o ≡ Taken → R → (NewerSheet s → q ≡ Refused Newer) × ((NewerSheet s → ⊥) → ((GoodSheet s → ⊥) → q ≡ Refused BadSheet) × (((GoodSheet s → ⊥) → ⊥) → R))
+  read-on k r = (λ n. not-refused (subst (Ends (sheet-cases s taken)) k (c .ends) .0 n), λ n. (λ b. absurd (b (c .ready k .good)), λ m. r))

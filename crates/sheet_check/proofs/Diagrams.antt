@@ -15,10 +15,9 @@ use Rattle.theory.specs.WellFormed.{Fits, Ok, Under, WF}
 use Rattle.theory.specs.Rules.{rules, Branch, Node, phrase, node}
 use Rattle.theory.proofs.Bounded.{Bounded, Bounds}
 use Rattle.theory.proofs.WellFormed.{under-weaken}
-use Rattle.sheet_bytes.specs.Bytes.{size, sizesOf, count, feature, width, branch}
 use Rattle.sheet_bytes.proofs.Places.{sizes-length, sizes-at, size-least}
-use Rattle.sheet_check.specs.Nodes.{Below, Same}
-use Rattle.sheet_check.specs.Diagram.{tab, branchOf, nodeOf, nodesOf, Ordered}
+use Rattle.promises.specs.Sheet.{sheetSize as size, sheetSizes as sizesOf, sheetCount as count, sheetFeature as feature, sheetWidth as width, sheetBranch as branch, SheetSits as Below, SheetSame as Same, row as tab, sheetNode as nodeOf, sheetNodes as nodesOf, SheetOrdered as Ordered}
+use Rattle.promises.specs.RuleWords.{decode as branchOf}
 
 -- ---- lists by index
 tab-length : {A : Type 0} (u n : ℕ) (f : ℕ → A) → length (tab u n f) ≡ n

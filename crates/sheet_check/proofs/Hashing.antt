@@ -7,9 +7,8 @@ use native.Mathlib.Decide.{decLt, ℕ-discrete}
 use native.Mathlib.Omega.{arith}
 use lib.ListN.{length, getD, set, replicate}
 use lib.Seq.{getD-set-same, getD-set-other}
-use Rattle.sheet_bytes.specs.Bytes.{size, feature, width, branch}
-use Rattle.sheet_check.specs.Nodes.{Same, New}
 use Rattle.sheet_check.specs.Chains.{hashTo, hash, Chain, Chained}
+use Rattle.promises.specs.Sheet.{sheetSize as size, sheetFeature as feature, sheetWidth as width, sheetBranch as branch, SheetSame as Same, SheetAlone as New}
 
 pub hash-zero : (s : List ℕ) (i : ℕ) → hashTo s i 0 ≡ feature s i
 unfolding hashTo

@@ -1,11 +1,12 @@
--- The bytes of a rule's sheet are good, and say that rule. Assumes nothing.
+-- The numbers of a rule's sheet are bytes and good, and say that rule. Assumes nothing.
 use mathlib.Core.Path.{_≡_, refl, sym, ap, subst, _∙_}
 use mathlib.Core.List.{List, [], _∷_}
 use mathlib.Core.Option.{Option, some}
 use Prim.Native.Nat.{ℕ, suc, _+_, _-_, _≤_, _<_}
 use native.Mathlib.Nat.{add-sub-cancel-left}
+use native.Mathlib.Decide.{decLt}
 use native.Mathlib.Omega.{arith}
-use lib.ListN.{length, getD, take, drop, length-take, length-drop}
+use lib.ListN.{length, getD, take, drop, length-take, length-drop, List·getD-eq-default}
 use lib.Seq.{ext-getD, getD-take, getD-drop}
 use Rattle.theory.specs.Settings.{FeatureList, Pos, Valid}
 use Rattle.theory.specs.Diagrams as D
@@ -22,13 +23,14 @@ use Rattle.theory.proofs.Ordering.{table-is-tidy}
 use Rattle.theory.proofs.Scanning.{scans-one}
 use Rattle.theory.proofs.Bounded.{Bounded, Bounds, Result, build-bounded, empty-bounded}
 use Rattle.sheet_bytes.specs.Sections.{sheetBytes}
-use Rattle.sheet_bytes.specs.Sheet.{branchBytes, sheetOf, IsSheet, Written}
-use Rattle.sheet_bytes.specs.Bytes.{features, sizesOf, count, feature, width, branch, root, Head, Lie}
+use Rattle.sheet_bytes.specs.Sheet.{branchBytes, sheetOf, IsSheet}
+use Rattle.sheet_bytes.proofs.Sections.{Bytes}
 use Rattle.sheet_bytes.proofs.Places.{place-zero, place-le}
-use Rattle.sheet_check.specs.Nodes.{Below, Lower, Alike, Nodes, Once}
-use Rattle.sheet_check.specs.Diagram.{branchOf, nodeOf, nodesOf, ruleOf, InOrder, Good}
 use Rattle.sheet_check.proofs.Diagrams.{nodes-length, nodes-at, node-feature, branches-length, branches-at, branch-phrase, branch-node, code, node-eq, same-node}
 use Rattle.sheet_check.proofs.Decoding.{Spells, NodeRead, begins, features-read, size-read, count-read, node-read, end-read, root-read}
+use Rattle.sheet_check.proofs.Small.{SmallTarget, SmallNode, bytes-sheet}
+use Rattle.promises.specs.Sheet.{sheetFeatures as features, sheetSizes as sizesOf, sheetCount as count, sheetFeature as feature, sheetWidth as width, sheetBranch as branch, sheetRoot as root, Begins as Head, Lies as Lie, SheetSits as Below, SheetLower as Lower, SheetAlike as Alike, SheetNodesOk as Nodes, Once, sheetNode as nodeOf, sheetNodes as nodesOf, sheetRule as ruleOf, InOrder, GoodSheet as Good}
+use Rattle.promises.specs.RuleWords.{decode as branchOf}
 
 -- ---- a branch as a word, and back
 code-back : (b : Branch) → Bounded 65536 (b .to) → branchOf (code (b .to)) ≡ b
@@ -160,8 +162,31 @@ module _ {S : List ℕ} {N : List Node} {b : Branch} {s : List ℕ} (d : Drawn S
       ∙ sym (scans-one (scan N 0 S) b 0) ∙ d .tidy .in-order
       ∙ ap (λ (n : ℕ). let o : Option ℕ = some n in o) (sym (count-read e))
 
+  -- a branch that may stand among at most 4,096 nodes
+  small : (m k : ℕ) (t : Target rules) → m ≤ 4096 → Bounded 65536 t → Under N m k t → SmallTarget t
+  small m k (D.leaf p) l h u = h
+  small m k (D.node j) l h u = omega (arith, u .0)
+
+  diagram-bytes : Bytes s
+  diagram-bytes =
+      subst Bytes (d .bytes)
+      (bytes-sheet S N b (omega (arith, d .list .few)) sizes (omega (arith, d .room)) node (small (length N) 0 (b .to) (d .room) (d .root-bounded) (d .tidy .roots-ok .0)))
+    where
+      sizes : Bytes S
+      sizes k = go (decLt k (length S))
+        where
+          go : Dec (k < length S) → getD S k 0 < 256
+          go (yes h) = omega (arith, d .list .most k h)
+          go (no h) = let e : getD S k 0 ≡ 0 = List·getD-eq-default S 0 (omega arith) in omega arith
+
+      node : (i : ℕ) → i < length N → SmallNode (at N i)
+      node i h = record {
+        feature = omega (arith, w .fits i h .known, d .list .few);
+        targets = λ v l. small i (suc (at N i .feature)) (getD (at N i .branches) v blank .to) (omega (arith, d .room)) (d .bounded .node i .branch v) (w .fits i h .lower v);
+      }
+
   pub diagram-good : Good s
-  diagram-good = record { ordered = record { head = head; lie = lie; nodes = nodes; once = once }; top = top; order = order }
+  diagram-good = record { bytes = diagram-bytes; ordered = record { head = head; lie = lie; nodes = nodes; once = once }; top = top; order = order }
 
 -- ---- of a rule
 module _ {S : List ℕ} {g : Rule} {s : List ℕ} (x : IsSheet S g s) where
@@ -202,6 +227,3 @@ module _ {S : List ℕ} {g : Rule} {s : List ℕ} (x : IsSheet S g s) where
       ap (λ (M : List Node). value M 0 (branchOf (root s)) t) sheet-nodes
       ∙ ap (λ (d : Branch). value (build 0 S g [] .1) 0 d t) sheet-root
       ∙ build-right S 0 S refl g [] (wf-empty S) .mean .says t v
-
-pub written-good : {s : List ℕ} → Written s → Good s
-written-good x = sheet-good (x .is)

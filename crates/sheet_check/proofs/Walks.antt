@@ -17,10 +17,10 @@ use Rattle.theory.proofs.Ordering.{close-same}
 use Rattle.theory.proofs.Scanning.{scan-leaf, scan-from, scan-done, scan-close, close-none, close-other, scans-end, scans-met, scans-none}
 use Rattle.settings.specs.Tells.{Tells}
 use Rattle.settings.proofs.Answers.{tells-eqb}
-use Rattle.sheet_bytes.specs.Bytes.{sizesOf, count, feature, width, branch, root, Lie}
-use Rattle.sheet_check.specs.Nodes.{Below}
-use Rattle.sheet_check.specs.Diagram.{branchOf, nodeOf, nodesOf, Ordered, InOrder, decoded, Visits, VisitsAll, further}
+use Rattle.sheet_check.specs.Diagram.{decoded, Visits, VisitsAll, further}
 use Rattle.sheet_check.proofs.Diagrams.{nodes-length, nodes-at, feature-at, branches-length, branches-at, branch-phrase, branch-node, below-ok, ordered-wf}
+use Rattle.promises.specs.Sheet.{sheetSizes as sizesOf, sheetCount as count, sheetFeature as feature, sheetWidth as width, sheetBranch as branch, sheetRoot as root, Lies as Lie, SheetSits as Below, sheetNode as nodeOf, sheetNodes as nodesOf, SheetOrdered as Ordered, InOrder}
+use Rattle.promises.specs.RuleWords.{decode as branchOf}
 
 -- ---- the walk's answer as a number
 decoded-some : (r : ℕ) → r < 65536 → decoded r ≡ some r

@@ -18,12 +18,12 @@ use Rattle.theory.proofs.Ordering.{tidy-is-table}
 use Rattle.theory.proofs.Scanning.{scans-one}
 use Rattle.theory.proofs.Bounded.{value-bounded}
 use Rattle.sheet_bytes.specs.Sections.{two, section, branchesBytes, nodeBytes, nodesBytes, sheetBytes}
-use Rattle.sheet_bytes.specs.Sheet.{targetBytes, branchBytes, sheetOf, IsSheet, Written}
-use Rattle.sheet_bytes.specs.Bytes.{byte, pair, word, features, sizesOf, count, place, feature, width, branch, end, root, Head}
+use Rattle.sheet_bytes.specs.Sheet.{targetBytes, branchBytes, sheetOf, Writable, IsSheet}
 use Rattle.sheet_bytes.proofs.Sections.{Bytes, slid, cut, pair-small, two-back, section-back}
 use Rattle.sheet_bytes.proofs.Places.{sizes-length, place-zero, place-suc, reach}
-use Rattle.sheet_check.specs.Diagram.{tab, branchOf, nodeOf, nodesOf, ruleOf, InOrder, Good}
 use Rattle.sheet_check.proofs.Diagrams.{nodes-length, branch-phrase, branch-node, word-bounded, nodes-bounded, below-ok, ordered-wf}
+use Rattle.promises.specs.Sheet.{byte, pair, triple as word, sheetFeatures as features, sheetSizes as sizesOf, sheetCount as count, nodePlace as place, sheetFeature as feature, sheetWidth as width, sheetBranch as branch, nodesEnd as end, sheetRoot as root, Begins as Head, row as tab, sheetNode as nodeOf, sheetNodes as nodesOf, sheetRule as ruleOf, InOrder, GoodSheet as Good}
+use Rattle.promises.specs.RuleWords.{decode as branchOf}
 
 -- the last section
 abbrev last : List ℕ → List ℕ
@@ -146,21 +146,23 @@ module _ {s : List ℕ} (g : Good s) where
   build-root : build 0 (sizesOf s) (ruleOf s) [] .0 ≡ branchOf (root s)
   build-root = head-eq-of-cons-eq (ap (λ (q : List Branch × List Node). q .0) builds)
 
-  build-nodes : build 0 (sizesOf s) (ruleOf s) [] .1 ≡ nodesOf s
+  pub build-nodes : build 0 (sizesOf s) (ruleOf s) [] .1 ≡ nodesOf s
   build-nodes = ap (λ (q : List Branch × List Node). q .1) builds
 
-  -- THEOREM: good bytes are the sheet of the rule that they say
-  pub good-sheet : Bytes s → IsSheet (sizesOf s) (ruleOf s) s
-  unfolding sheetOf
-  good-sheet B =
+  -- the rule that they say has a sheet
+  pub good-writable : Writable (sizesOf s) (ruleOf s)
+  good-writable =
       record {
-        writable = record {
-          list = g .ordered .head .list;
-          numbers = λ t v. value-bounded 65536 (omega arith) (nodesOf s) (nodes-bounded s) 0 (branchOf (root s)) t (word-bounded (root s));
-          rests = omega (arith, nodes-tally (sizesOf s) pos (ruleOf s ∷ []), ap length build-nodes, nodes-length s, g .ordered .lie .room);
-        };
-        bytes = (λ i. sheetBytes branchBytes (1 ∷ []) (sizesOf s) (build-nodes i) (build-root i ∷ [])) ∙ sheet-back s B g;
+        list = g .ordered .head .list;
+        numbers = λ t v. value-bounded 65536 (omega arith) (nodesOf s) (nodes-bounded s) 0 (branchOf (root s)) t (word-bounded (root s));
+        rests = omega (arith, nodes-tally (sizesOf s) pos (ruleOf s ∷ []), ap length build-nodes, nodes-length s, g .ordered .lie .room);
       }
 
-  pub good-written : Bytes s → Written s
-  good-written B = record { list = sizesOf s; rule = ruleOf s; is = good-sheet B }
+  -- THEOREM: good bytes are the sheet of the rule that they say
+  pub good-sheet : IsSheet (sizesOf s) (ruleOf s) s
+  unfolding sheetOf
+  good-sheet =
+      record {
+        writable = good-writable;
+        bytes = (λ i. sheetBytes branchBytes (1 ∷ []) (sizesOf s) (build-nodes i) (build-root i ∷ [])) ∙ sheet-back s (g .bytes) g;
+      }

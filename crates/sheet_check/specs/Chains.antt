@@ -1,9 +1,9 @@
--- A hash of a node of a sheet's bytes, and chains of the nodes of one hash: a chain's word c is 0, or one more than a node's index. Assumes nothing.
+-- Contract between layers: a hash of a node of a sheet's bytes, and chains of the nodes of one hash: a chain's word c is 0, or one more than a node's index. Assumes nothing.
 use mathlib.Core.Path.{_≡_}
 use mathlib.Core.List.{List}
 use Prim.Native.Nat.{ℕ, zero, suc, _+_, _*_, _-_, _/_, _%_, _≤_, _<_}
 use lib.ListN.{getD}
-use Rattle.sheet_bytes.specs.Bytes.{feature, width, branch}
+use Rattle.promises.specs.Sheet.{sheetFeature as feature, sheetWidth as width, sheetBranch as branch}
 
 unfoldable pub hashTo : List ℕ → ℕ → ℕ → ℕ
 hashTo s i zero = feature s i

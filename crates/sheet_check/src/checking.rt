@@ -14,8 +14,8 @@ ghost use mathlib.Core.Path.{_≡_};
 ghost use lib.ListN.{length};
 ghost use Rattle.settings.specs.Tells.{Tells};
 ghost use Rattle.sheet_bytes.specs.Bytes.{Laid};
-ghost use Rattle.sheet_check.specs.Diagram.{Good};
 ghost use Rattle.sheet_check.specs.Checked.{Checks};
+ghost use Rattle.promises.specs.Sheet.{GoodSheet as Good};
 
 // Whether the nodes and the root of well-laid bytes are a diagram, in order.
 fn good(s: &[u8], at: &[u32; 4096]) -> bool

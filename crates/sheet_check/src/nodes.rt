@@ -5,8 +5,8 @@ use sheet_bytes::feature_at;
 use sheet_bytes::width_at;
 ghost use Prim.Native.Nat.{_≤_, _<_};
 ghost use Rattle.settings.specs.Tells.{Tells};
-ghost use Rattle.sheet_bytes.specs.Bytes.{count, Laid};
-ghost use Rattle.sheet_check.specs.Nodes.{Below, Lower, Alike, Nodes};
+ghost use Rattle.sheet_bytes.specs.Bytes.{Laid};
+ghost use Rattle.promises.specs.Sheet.{sheetCount as count, SheetSits as Below, SheetLower as Lower, SheetAlike as Alike, SheetNodesOk as Nodes};
 
 // Whether w is a phrase, or a node before i of feature k or higher.
 pub fn below(s: &[u8], at: &[u32; 4096], i: usize, k: usize, w: usize) -> bool

@@ -5,9 +5,9 @@ use sheet_bytes::root_of;
 use sheet_bytes::width_at;
 ghost use Prim.Native.Nat.{_<_};
 ghost use Rattle.settings.specs.Tells.{Tells};
-ghost use Rattle.sheet_bytes.specs.Bytes.{count, root, Laid};
-ghost use Rattle.sheet_check.specs.Nodes.{Below};
-ghost use Rattle.sheet_check.specs.Diagram.{Ordered, InOrder, Visits, VisitsAll};
+ghost use Rattle.sheet_bytes.specs.Bytes.{Laid};
+ghost use Rattle.sheet_check.specs.Diagram.{Visits, VisitsAll};
+ghost use Rattle.promises.specs.Sheet.{sheetCount as count, sheetRoot as root, SheetSits as Below, SheetOrdered as Ordered, InOrder};
 
 // The walk from the branch word w, the nodes below c done: how many are done after it, or 65,536 where one is not met in its turn.
 fn visit(s: &[u8], at: &[u32; 4096], w: usize, c: usize) -> usize

@@ -8,9 +8,9 @@ use sheet_bytes::width_at;
 ghost use mathlib.Core.Path.{_≡_};
 ghost use Prim.Native.Nat.{_<_};
 ghost use Rattle.settings.specs.Tells.{Tells};
-ghost use Rattle.sheet_bytes.specs.Bytes.{count, Laid};
-ghost use Rattle.sheet_check.specs.Nodes.{Same, New, Once};
+ghost use Rattle.sheet_bytes.specs.Bytes.{Laid};
 ghost use Rattle.sheet_check.specs.Chains.{hash, Chained};
+ghost use Rattle.promises.specs.Sheet.{sheetCount as count, SheetSame as Same, SheetAlone as New, Once};
 
 // Whether nodes i and j are equal.
 fn same(s: &[u8], at: &[u32; 4096], i: usize, j: usize) -> bool

@@ -9,11 +9,11 @@ use Rattle.theory.specs.Settings.{Valid}
 use Rattle.theory.specs.Diagrams.{at, blank}
 use Rattle.theory.specs.Rules.{Node, Phrase, node, phrase, says}
 use Rattle.theory.specs.WellFormed.{WF}
-use Rattle.theory.specs.Asked.{asked}
+use Rattle.theory.specs.Questions.{asked}
 use Rattle.theory.proofs.Ways.{OnWay, way-start, way-end, way-asked, way-node, way-feature, way-value, way-room, way-on}
-use Rattle.sheet_bytes.specs.Bytes.{byte, sizesOf, count, feature, width, branch, root}
-use Rattle.sheet_check.specs.Diagram.{branchOf, nodesOf, ruleOf, Good}
 use Rattle.sheet_check.proofs.Diagrams.{nodes-length, nodes-at, feature-at, branches-length, branches-at, branch-phrase, branch-node, below-ok, ordered-wf}
+use Rattle.promises.specs.Sheet.{byte, sheetSizes as sizesOf, sheetCount as count, sheetFeature as feature, sheetWidth as width, sheetBranch as branch, sheetRoot as root, sheetNodes as nodesOf, sheetRule as ruleOf, GoodSheet as Good}
+use Rattle.promises.specs.RuleWords.{decode as branchOf}
 
 -- the branch word b stands on the way of the setting t, where n features were asked
 abbrev pub Way : List ℕ → List ℕ → ℕ → ℕ → Type 0

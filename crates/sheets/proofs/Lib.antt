@@ -1,3 +1,5 @@
 pub mod Finding
 pub mod Answering
 pub mod Theorems
+pub mod Edge
+pub mod Stable

@@ -1,5 +1,5 @@
 -- What the definitions add up to: bytes and rules decide each other, NEWER whatever follows, the longest sheet, what C gets. Assumes nothing.
-use mathlib.Core.Path.{_≡_, refl, sym, ap, subst, _∙_}
+use mathlib.Core.Path.{_≡_, refl, sym, ap, _∙_}
 use mathlib.Core.Logic.{_↔_}
 use mathlib.Core.List.{List, [], _∷_}
 use Prim.Native.Nat.{ℕ, _+_, _≤_}
@@ -7,16 +7,19 @@ use native.Mathlib.Omega.{arith}
 use lib.ListN.{length}
 use Rattle.theory.specs.Settings.{Valid}
 use Rattle.theory.specs.Functions.{Agree}
-use Rattle.theory.specs.Rules.{Built, Rule}
+use Rattle.theory.specs.Rules.{Built, Phrase, Rule}
 use Rattle.theory.proofs.Canonical.{build-agree}
-use Rattle.settings.specs.Refusals.{Ends}
+use Rattle.settings.specs.Refusals.{Ends, _when_else_, taken}
+use Rattle.settings.specs.declared.refusals.Refusal.the-variants.{BadArgument}
 use Rattle.settings.specs.declared.refusals.Outcome.{Outcome}
+use Rattle.promises.specs.Sheet.{NewerSheet, sheetSizes, sheetCount, sheetRule, GoodSheet}
+use Rattle.promises.specs.Deed.{Meets}
+use Rattle.promises.specs.SheetDeeds.{sheet-cases, look-up-in}
 use Rattle.sheet_bytes.specs.Sections.{sheetBytes}
-use Rattle.sheet_bytes.specs.Sheet.{branchBytes, sheetOf, Writable, IsSheet, Written, NewerSheet}
-use Rattle.sheet_bytes.specs.Bytes.{count}
+use Rattle.sheet_bytes.specs.Sheet.{branchBytes, sheetOf, Writable, IsSheet}
 use Rattle.sheet_bytes.proofs.Places.{place-most}
-use Rattle.sheet_check.proofs.Reading.{sheet-good, sheet-sizes, sheet-says, written-good}
-use Rattle.sheets.specs.Lookup.{setting-cases, returned, Returns}
+use Rattle.sheet_check.proofs.Reading.{sheet-sizes, sheet-says}
+use Rattle.promises.specs.ForC.{heard, Hears, returned, tell-returned}
 
 written : (S : List ℕ) (g : Rule) (s : List ℕ) → Writable S g → sheetOf S g ≡ s → IsSheet S g s
 written S g s w e = record { writable = w; bytes = e }
@@ -41,37 +44,37 @@ same-sheet S g h x y = (
 pub newer-whatever : (n : ℕ) (rest : List ℕ) → 2 ≤ n → NewerSheet (0 ∷ 1 ∷ n ∷ rest)
 newer-whatever n rest h = record { three = omega arith; zero = refl; one = refl; more = h }
 
-pub newer-not : (s : List ℕ) → NewerSheet s → Written s → ⊥
-newer-not s n x = let e = written-good x .ordered .head .edition in omega (arith, n .more)
+pub newer-not : {s : List ℕ} → NewerSheet s → GoodSheet s → ⊥
+newer-not n g = let e = g .ordered .head .edition in omega (arith, n .more)
 
 -- the longest sheet has 102,428 bytes
-pub longest : {S : List ℕ} {g : Rule} {s : List ℕ} → IsSheet S g s → length s ≤ 102428
-longest {s = s} x =
-    let o = sheet-good x .ordered in
-    omega (arith, o .lie .ends, o .lie .room, place-most (o .head) (count s) (o .lie .known))
+pub longest : {s : List ℕ} → GoodSheet s → length s ≤ 102428
+longest {s} g =
+    let o = g .ordered in
+    omega (arith, o .lie .ends, o .lie .room, place-most (o .head) (sheetCount s) (o .lie .known))
 
 -- ---- what C gets, case by case
-module _ {s t : List ℕ} {r : ℕ} (a : Returns s t r) where
-  got : {o : Outcome} → a .looked .outcome ≡ o → r ≡ returned o (a .looked .number)
-  got e = a .is ∙ ap (λ (o : Outcome). returned o (a .looked .number)) e
+module _ {s t : List ℕ} {r : ℕ} (a : Hears (Meets (look-up-in s t) tt tt) (tell-returned []) (heard r [] [])) where
+  got : {o : Outcome} → a .answer .outcome ≡ o → r ≡ returned o (a .answer .number)
+  got e = a .number ∙ ap (λ (o : Outcome). returned o (a .answer .number)) e
+
+  abbrev bytes : Ends (sheet-cases s (BadArgument when (Valid (sheetSizes s) t → ⊥) else taken)) (a .answer .outcome)
+  bytes = a .keeps .ends .1 (λ n. n tt)
 
   pub returns-newer : NewerSheet s → r ≡ 65536 + 3
-  returns-newer n = got (a .looks .ends .0 n)
+  returns-newer n = got (bytes .0 n)
 
-  pub returns-bad : (NewerSheet s → ⊥) → (Written s → ⊥) → r ≡ 65536 + 4
-  returns-bad n b = got (a .looks .ends .1 n .0 b)
+  pub returns-bad : (NewerSheet s → ⊥) → (GoodSheet s → ⊥) → r ≡ 65536 + 4
+  returns-bad n b = got (bytes .1 n .0 b)
 
-  module _ {S : List ℕ} {g : Rule} (x : IsSheet S g s) where
-    is-written : Written s
-    is-written = record { list = S; rule = g; is = x }
+  module _ (g : GoodSheet s) where
+    abbrev later : Ends (BadArgument when (Valid (sheetSizes s) t → ⊥) else taken) (a .answer .outcome)
+    later = bytes .1 (λ n. newer-not n g) .1 (λ b. b g)
 
-    abbrev later : Ends (setting-cases s t) (a .looked .outcome)
-    later = a .looks .ends .1 (λ n. newer-not s n is-written) .1 (λ b. b is-written)
+    pub returns-argument : (Valid (sheetSizes s) t → ⊥) → r ≡ 65536 + 6
+    returns-argument n = got (later .0 n)
 
-    pub returns-argument : (Valid S t → ⊥) → r ≡ 65536 + 6
-    returns-argument n = got (later .0 (λ y. n (subst (λ (T : List ℕ). Valid T t) (sym (sheet-sizes (y .is)) ∙ sheet-sizes x) (y .valid))))
-
-    pub returns-number : Valid S t → r ≡ g t .end
+    pub returns-number : Valid (sheetSizes s) t → r ≡ sheetRule s t .end
     returns-number v =
-        let e = later .1 (λ n. n (record { list = S; rule = g; is = x; valid = v })) in
-        got e ∙ a .looks .gives e S g x
+        let e = later .1 (λ n. n v) in
+        got e ∙ ap (λ (x : Phrase). x .end) (a .keeps .gives e .0)

@@ -6,10 +6,10 @@ use Prim.Native.Nat.{ℕ, _+_, _-_, _*_, _≤_, _<_}
 use native.Mathlib.Omega.{arith}
 use lib.ListN.{length, getD, set, length-set}
 use lib.Seq.{getD-set-same, getD-set-other}
-use Rattle.words.specs.Words.{word, head, capacity, count, Zeros}
 use Rattle.words.proofs.Tab.{same, split}
 use Rattle.sweep.specs.Marks.{done}
 use Rattle.sweep.specs.Sweeping.{Cleared, Full, Brought}
+use Rattle.promises.specs.Words.{word, head, capacity, count, Zeros}
 
 -- the first j words are back
 pub record Half-back (w t : List ℕ) (far j : ℕ) : Type 0 where

@@ -6,9 +6,9 @@ use Prim.Native.Nat.{ℕ, _+_, _≤_, _<_}
 use native.Mathlib.Omega.{arith}
 use lib.ListN.{length, getD, set, length-set}
 use lib.Seq.{getD-set-same, getD-set-other}
-use Rattle.words.specs.Words.{head}
 use Rattle.words.proofs.Tab.{same}
 use Rattle.sweep.specs.Sweeping.{Cleared}
+use Rattle.promises.specs.Words.{head}
 
 -- the chain heads below h are 0
 pub record Clearing (w t : List ℕ) (h : ℕ) : Type 0 where

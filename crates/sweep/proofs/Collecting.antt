@@ -9,8 +9,6 @@ use Rattle.theory.specs.Diagrams.{Branch, Node, meaning}
 use Rattle.theory.specs.Functions.{Fun}
 use Rattle.theory.specs.Kind.{Kind}
 use Rattle.words.specs.Coding.{Code, nodeAt, nodes}
-use Rattle.words.specs.Tab.{tab}
-use Rattle.words.specs.Words.{head, word, capacity, size, count, feature, Zeros}
 use Rattle.words.proofs.Tab.{split, same, tab-ext}
 use Rattle.sweep.specs.Marks.{done}
 use Rattle.sweep.specs.Sweeping.{Cleared, Full, Brought}
@@ -20,6 +18,8 @@ use Rattle.sweep.specs.Tidy.{Untidy}
 use Rattle.sweep.proofs.Bringing.{brought-record, brought-clean}
 use Rattle.sweep.proofs.Copying.{done-small}
 use Rattle.sweep.proofs.Framing.{few, size-most, known-copy, steady-trans, same-capacity, same-count, node-same, padded-same, same-sizes, same-nodes, steady-framed, near-flat}
+use Rattle.promises.specs.Tab.{tab}
+use Rattle.promises.specs.Words.{nodesBy, head, word, capacity, size, count, feature, Zeros}
 
 pub untidy-framed : {K : Kind} {F : Form K} {w : List ℕ} → Untidy F w → Framed (F .code) w
 untidy-framed u = record { room = u .room; most = u .most; within = u .within; list = u .list; wf = u .wf; spared = u .spared }
@@ -99,7 +99,7 @@ module _ {K : Kind} {F : Form K} (R : Regular F) where
         tab-ext (F .rootAt t) (F .rootAt w′) (F .drawing .places) (λ p h. sym (R .places t w′ (λ q g. b .middle (32 + q) (omega arith) (omega arith)) p h))
 
     nodes-back : nodes (F .code) w′ ≡ copies (F .code) t
-    unfolding nodes copies
+    unfolding nodesBy copies
     nodes-back =
         ap (tab (nodeAt (F .code) w′)) (b .fewer)
         ∙ tab-ext (nodeAt (F .code) w′) (λ i. nodeAt (F .code) t (capacity t + i)) (done t)

@@ -11,8 +11,7 @@ use Rattle.theory.specs.Kind.{Kind}
 use Rattle.theory.proofs.Growing.{ext-append}
 use Rattle.theory.proofs.Copying.{copies-leaf, copies-twin, copies-new, lists-none, lists-more, half-new, marked-le, marked-lt, marked-more}
 use Rattle.words.specs.Coding.{Code, Faithful, branches, nodeAt, nodes}
-use Rattle.words.specs.Tab.{tab}
-use Rattle.words.specs.Words.{word, capacity, size, count, sizes, feature, body, listed}
+use Rattle.words.specs.Words.{listed}
 use Rattle.words.proofs.Sparing.{spare-ext}
 use Rattle.words.proofs.Coding.{length-nodes, at-nodes, branch-at, node-is}
 use Rattle.words.proofs.Tab.{split, tab-snoc, tab-ext, length-tab}
@@ -21,6 +20,8 @@ use Rattle.sweep.specs.Sweeping.{Spare, Put}
 use Rattle.sweep.specs.Collecting.{copies, Ready, Steady, Still, Moved, Turning, Moving}
 use Rattle.sweep.proofs.Writing.{put-marks}
 use Rattle.sweep.proofs.Framing.{length-copies, known, known-copy, size-most, size-small, positive, steady-refl, steady-trans, same-count, node-same, padded-same, same-size, same-sizes, steady-framed, arm-kept, still-before, half-back, half-on, copies-back}
+use Rattle.promises.specs.Tab.{tab}
+use Rattle.promises.specs.Words.{word, capacity, size, count, sizes, feature, body}
 
 module _ {K : Kind} {C : Code K} where
   still-refl : {w : List ℕ} → Ready C w → Still C w w

@@ -13,7 +13,6 @@ use Rattle.theory.specs.Settings.{Valid}
 use Rattle.theory.specs.WellFormed.{Ok}
 use Rattle.words.specs.Coding.{nodes}
 use Rattle.words.specs.Picture.{Becomes}
-use Rattle.words.specs.Words.{head, capacity, features, count, sizes, Zeros}
 use Rattle.words.proofs.Tab.{same}
 use Rattle.sweep.specs.Form.{Form, Regular, funAt}
 use Rattle.sweep.specs.Collecting.{Framed, Steady}
@@ -22,6 +21,7 @@ use Rattle.sweep.proofs.Collecting.{untidy-framed}
 use Rattle.sweep.proofs.Framing.{same-sizes, same-nodes, steady-framed}
 use Rattle.sweep.proofs.Placing.{Placed, replaced-steady}
 use Rattle.sweep.proofs.Tidying.{length-said, at-said}
+use Rattle.promises.specs.Words.{head, capacity, features, count, sizes, Zeros}
 
 module _ {K : Kind} {F : Form K} (R : Regular F) {w w′ : List ℕ} {p : ℕ} {b : Branch K} (u : Untidy F w) (hp : p < F .drawing .places) (s : Placed F w w′ p b) where
   steady : Steady w w′

@@ -11,14 +11,14 @@ use Rattle.theory.specs.Settings.{FeatureList, Pos}
 use Rattle.theory.specs.WellFormed.{Under, WF}
 use Rattle.theory.proofs.Lists.{pos-of}
 use Rattle.words.specs.Coding.{Code, Faithful, nodeAt, nodes}
-use Rattle.words.specs.Tab.{tab}
-use Rattle.words.specs.Words.{word, capacity, features, size, count, sizes, feature, body}
 use Rattle.words.proofs.Coding.{length-nodes, at-nodes, branch-at, node-is}
 use Rattle.words.proofs.Sparing.{spared-same}
 use Rattle.words.proofs.Tab.{length-tab, getD-tab, tab-ext}
 use Rattle.words.proofs.Words.{length-sizes, at-sizes}
 use Rattle.sweep.specs.Marks.{done}
 use Rattle.sweep.specs.Collecting.{copies, Framed, Good, Ready, Steady}
+use Rattle.promises.specs.Tab.{tab}
+use Rattle.promises.specs.Words.{nodesBy, word, capacity, features, size, count, sizes, feature, body}
 
 -- a node's feature is one of the table's
 known-in : {K : Kind} (w : List ℕ) {N : List (Node K)} {x : Node K} → WF (sizes w) N → (i : ℕ) → i < length N → at N i ≡ x → x .feature < features w
@@ -124,7 +124,7 @@ module _ {K : Kind} {C : Code K} (F : Faithful C) {w w′ : List ℕ} (f : Frame
   same-sizes = ap (tab (size w′)) (same-features k) ∙ tab-ext (size w′) (size w) (features w) same-size
 
   pub same-nodes : nodes C w′ ≡ nodes C w
-  unfolding nodes
+  unfolding nodesBy
   same-nodes =
       ap (tab (nodeAt C w′)) (same-count k)
       ∙ tab-ext (nodeAt C w′) (nodeAt C w) (count w)

@@ -13,14 +13,14 @@ use Rattle.theory.specs.WellFormed.{Ok}
 use Rattle.theory.proofs.Copying.{half-none, marked-none}
 use Rattle.theory.proofs.Growing.{each-last}
 use Rattle.words.specs.Coding.{Code, Faithful, nodeAt, nodes}
-use Rattle.words.specs.Tab.{tab}
-use Rattle.words.specs.Words.{head, word, capacity, size, count, sizes, feature}
 use Rattle.words.proofs.Coding.{length-nodes}
 use Rattle.words.proofs.Tab.{tab-none, tab-snoc, tab-ext}
 use Rattle.sweep.specs.Marks.{done, mark}
 use Rattle.sweep.specs.Form.{Form, Regular, funAt}
 use Rattle.sweep.specs.Collecting.{copies, Loose, Ready, Steady, Moved, Rooted}
 use Rattle.sweep.proofs.Framing.{known-copy, size-most, steady-refl, steady-trans, node-same, padded-same, same-size, same-sizes, same-nodes, steady-framed, half-on, copies-back}
+use Rattle.promises.specs.Tab.{tab}
+use Rattle.promises.specs.Words.{head, word, capacity, size, count, sizes, feature}
 
 -- w′ is w but for the words of the places
 pub record Replaced (w w′ : List ℕ) : Type 0 where

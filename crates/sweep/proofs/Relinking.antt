@@ -7,11 +7,11 @@ use native.Mathlib.Omega.{arith}
 use native.Mathlib.Numerals.{add-one}
 use lib.ListN.{length, getD, set, length-set}
 use lib.Seq.{getD-set-same, getD-set-other}
-use Rattle.words.specs.Words.{word, head, count, bucket, link, hashAt, lastOf}
 use Rattle.words.proofs.Tab.{same}
 use Rattle.words.proofs.Words.{hashAt-ext}
 use Rattle.words.proofs.Chains.{last-here, last-not}
 use Rattle.sweep.specs.Sweeping.{Bare, Relinked}
+use Rattle.promises.specs.Words.{word, head, count, bucket, link, hashAt, lastOf}
 
 -- the first i nodes are chained
 pub record Relinking (w t : List ℕ) (i : ℕ) : Type 0 where

@@ -11,7 +11,6 @@ use Rattle.theory.specs.Kind.{Kind}
 use Rattle.theory.specs.Settings.{Valid}
 use Rattle.words.specs.Coding.{nodes}
 use Rattle.words.specs.Picture.{nodeHash, Shows, Proper}
-use Rattle.words.specs.Words.{head, capacity, count, sizes, hashAt, lastOf}
 use Rattle.words.proofs.Chains.{last-ext}
 use Rattle.words.proofs.Coding.{length-nodes, at-nodes}
 use Rattle.words.proofs.Picture.{hash-shown}
@@ -21,6 +20,7 @@ use Rattle.sweep.specs.Sweeping.{Bare, Relinked}
 use Rattle.sweep.specs.Form.{Form, Regular, rootsOf, funAt}
 use Rattle.sweep.specs.Collecting.{Collected}
 use Rattle.sweep.specs.Tidy.{Untidy, Tidied}
+use Rattle.promises.specs.Words.{head, capacity, count, sizes, hashAt, lastOf}
 
 module _ {K : Kind} {F : Form K} {w t : List ℕ} (u : Untidy F w) (c : Collected F w t) where
   pub bare-now : Bare t

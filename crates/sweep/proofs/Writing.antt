@@ -6,10 +6,10 @@ use Prim.Native.Nat.{ℕ, zero, suc, _+_, _-_, _*_, _≤_, _<_}
 use native.Mathlib.Omega.{arith}
 use lib.ListN.{length, getD, set, length-set}
 use lib.Seq.{getD-set-same, getD-set-other}
-use Rattle.words.specs.Words.{word, head, capacity}
 use Rattle.words.proofs.Tab.{same}
 use Rattle.sweep.specs.Marks.{done, mark}
 use Rattle.sweep.specs.Sweeping.{Spare, Put}
+use Rattle.promises.specs.Words.{word, head, capacity}
 
 -- one more of a run of stores
 pub run-more : (t l : List ℕ) (b v : ℕ) → b + v < length t

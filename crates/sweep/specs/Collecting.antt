@@ -1,4 +1,4 @@
--- What the collector's functions ask and leave while nodes are copied, for every kind. Assumes nothing.
+-- Contract between layers: what the collector's functions ask and leave while nodes are copied, for every kind. Assumes nothing.
 use mathlib.Core.Path.{_≡_}
 use mathlib.Core.List.{List}
 use Prim.Native.Nat.{ℕ, _+_, _*_, _≤_, _<_}
@@ -10,10 +10,11 @@ use Rattle.theory.specs.Kind.{Kind}
 use Rattle.theory.specs.Settings.{FeatureList}
 use Rattle.theory.specs.WellFormed.{Ok, Under, WF}
 use Rattle.words.specs.Coding.{Code, Spared, branches, nodeAt, nodes}
-use Rattle.words.specs.Tab.{tab}
-use Rattle.words.specs.Words.{head, word, capacity, size, count, sizes, bound, feature, body, listed, Zeros}
+use Rattle.words.specs.Words.{listed}
 use Rattle.sweep.specs.Marks.{done, mark}
 use Rattle.sweep.specs.Form.{Form, rootsOf, funsOf}
+use Rattle.promises.specs.Tab.{tab}
+use Rattle.promises.specs.Words.{head, word, capacity, size, count, sizes, bound, feature, body, Zeros}
 
 -- w′ is w but for the places, the marks, the far records and their count
 pub record Steady (w w′ : List ℕ) : Type 0 where

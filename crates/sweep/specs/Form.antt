@@ -1,4 +1,4 @@
--- The form of a kind's tables: how bodies and places are read, and the picture. Assumes nothing.
+-- Contract between layers: the form of a kind's tables: how bodies and places are read, and the picture. Assumes nothing.
 use mathlib.Core.Path.{_≡_}
 use mathlib.Core.List.{List}
 use Prim.Native.Nat.{ℕ, _+_, _<_}
@@ -7,8 +7,8 @@ use Rattle.theory.specs.Diagrams.{Branch, Node, at, meaning}
 use Rattle.theory.specs.Functions.{Fun}
 use Rattle.words.specs.Coding.{Code, Faithful, nodes}
 use Rattle.words.specs.Picture.{Drawing}
-use Rattle.words.specs.Tab.{tab}
-use Rattle.words.specs.Words.{head, count, size, feature, body}
+use Rattle.promises.specs.Tab.{tab}
+use Rattle.promises.specs.Words.{head, count, size, feature, body}
 
 pub record Form (K : Kind) : Type 1 where
   pub code : Code K

@@ -1,7 +1,7 @@
--- What the header holds while nodes are copied: how many are, and which copy is whose. Assumes nothing.
+-- Contract between layers: what the header holds while nodes are copied: how many are, and which copy is whose. Assumes nothing.
 use mathlib.Core.List.{List}
 use Prim.Native.Nat.{ℕ, _+_}
-use Rattle.words.specs.Words.{head}
+use Rattle.promises.specs.Words.{head}
 
 -- how many far records hold a copy
 abbrev pub done : List ℕ → ℕ

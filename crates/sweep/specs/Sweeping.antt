@@ -1,10 +1,11 @@
--- What the functions of the sweep ask and leave. Assumes nothing.
+-- Contract between layers: what the functions of the sweep ask and leave. Assumes nothing.
 use mathlib.Core.Path.{_≡_}
 use mathlib.Core.List.{List}
 use Prim.Native.Nat.{ℕ, suc, _+_, _*_, _≤_, _<_}
 use lib.ListN.{length, getD}
-use Rattle.words.specs.Words.{head, word, capacity, count, listed, body, link, bucket, hashAt, lastOf}
+use Rattle.words.specs.Words.{listed}
 use Rattle.sweep.specs.Marks.{done, mark}
+use Rattle.promises.specs.Words.{head, word, capacity, count, body, link, bucket, hashAt, lastOf}
 
 -- the chain heads are 0, and every other word is kept
 pub record Cleared (w w′ : List ℕ) : Type 0 where

@@ -1,4 +1,4 @@
--- What a table is after a place was changed, and what tidying makes of it, for every kind. Assumes nothing.
+-- Contract between layers: what a table is after a place was changed, and what tidying makes of it, for every kind. Assumes nothing.
 use mathlib.Core.Path.{_≡_}
 use mathlib.Core.List.{List}
 use Prim.Native.Nat.{ℕ, _+_, _*_, _≤_, _<_}
@@ -8,8 +8,9 @@ use Rattle.theory.specs.Settings.{FeatureList}
 use Rattle.theory.specs.WellFormed.{Ok, WF}
 use Rattle.words.specs.Coding.{Spared, nodes}
 use Rattle.words.specs.Picture.{Pictures, Proper}
-use Rattle.words.specs.Words.{kind, capacity, features, count, sizes, bound, Zeros}
+use Rattle.words.specs.Words.{kind}
 use Rattle.sweep.specs.Form.{Form}
+use Rattle.promises.specs.Words.{capacity, features, count, sizes, bound, Zeros}
 
 module _ {K : Kind} (F : Form K) where
   -- a table in whose places branches of its nodes stand; the nodes' order, which of them are reached, and the chains are free

@@ -1,6 +1,6 @@
--- The number of features asked: of functions that agree, and of document 01's rests; what a branch on the way asks. Assumes nothing.
-use mathlib.Core.Path.{_≡_, refl, sym, ap, _∙_}
-use mathlib.Core.Logic.{_↔_}
+-- The number of features asked: of functions that agree, and of the scope's rests; what a branch on the way asks. Assumes nothing.
+use mathlib.Core.Path.{_≡_, refl, sym, ap, subst, _∙_}
+use mathlib.Core.Logic.{_↔_, inl, inr}
 use mathlib.Core.List.{List, [], _∷_, _++_}
 use Prim.Native.Nat.{ℕ, zero, suc, _+_, _≤_, _<_}
 use native.Mathlib.Omega.{arith}
@@ -13,7 +13,8 @@ use Rattle.theory.specs.Diagrams.{Branch, Node, at, blank, less, node, u
 use Rattle.theory.specs.Rests.{Depends, Free, after, norm}
 use Rattle.theory.specs.WellFormed.{Mean, Ok, WF}
 use Rattle.theory.specs.Counted.{one-if}
-use Rattle.theory.specs.Asked.{Asks, asked, asks?, depends?, number-of}
+use Rattle.theory.specs.Asked.{NumberOf, Asks, Asked}
+use Rattle.theory.specs.Questions.{asked, asks?, depends?, number-of}
 use Rattle.theory.proofs.Lists.{drop-head}
 use Rattle.theory.proofs.Ranges.{valid-fixed}
 use Rattle.theory.proofs.Offsets.{less-up, lift-undo}
@@ -58,6 +59,22 @@ module _ {P : ℕ → Type 0} (d : (k : ℕ) → Dec (P k)) where
   number-most zero = omega arith
   number-most (suc n) = omega (arith, number-most n, one-most (d n))
 
+  -- that is the number of those that have the property
+  pub number-is : (n : ℕ) → NumberOf P n (number-of d n)
+  number-is zero = number-zero
+  number-is (suc n) = go (d n) (number-is n)
+    where
+      go : Dec (P n) → NumberOf P n (number-of d n) → NumberOf P (suc n) (number-of d (suc n))
+      go (yes p) r = inl (p, (number-of d n, omega (arith, number-one n p), r))
+      go (no p) r = inr (p, subst (NumberOf P n) (sym (number-none n p)) r)
+
+number-unique : (P : ℕ → Type 0) (n a b : ℕ) → NumberOf P n a → NumberOf P n b → a ≡ b
+number-unique P zero a b x y = x ∙ sym y
+number-unique P (suc n) a b (inl x) (inl y) = x .1 .1 ∙ ap suc (number-unique P n (x .1 .0) (y .1 .0) (x .1 .2) (y .1 .2)) ∙ sym (y .1 .1)
+number-unique P (suc n) a b (inr x) (inr y) = number-unique P n a b (x .1) (y .1)
+number-unique P (suc n) a b (inl x) (inr y) = absurd (y .0 (x .0))
+number-unique P (suc n) a b (inr x) (inl y) = absurd (x .0 (y .0))
+
 number-same : {P Q : ℕ → Type 0} (d : (k : ℕ) → Dec (P k)) (e : (k : ℕ) → Dec (Q k)) → ((k : ℕ) → P k ↔ Q k) → (n : ℕ) → number-of d n ≡ number-of e n
 unfolding number-of
 number-same d e f zero = refl
@@ -81,7 +98,19 @@ module _ {K : Kind} where
   asked-agree S g h a s valid =
       number-same (asks? S g s) (asks? S h s) (λ k. (asks-agree S g h a s valid k, asks-agree S h g (λ r x. sym (a r x)) s valid k)) (length S)
 
-  -- taking the amount off where all remaining features are 0, as document 01's rest does, changes no dependence
+  -- ASKED: the number that is computed, and no other
+  pub asked-counts : (S : List ℕ) (g : Fun K) (s : List ℕ) → Asked S g s (asked S g s)
+  unfolding asked
+  asked-counts S g s = record { number = number-is (asks? S g s) (length S) }
+
+  pub asked-one : (S : List ℕ) (g : Fun K) (s : List ℕ) (a b : ℕ) → Asked S g s a → Asked S g s b → a ≡ b
+  asked-one S g s a b x y = number-unique (Asks S g s) (length S) a b (x .number) (y .number)
+
+  pub asked-like : (S : List ℕ) (g h : Fun K) → Agree S g h → (s : List ℕ) → Valid S s → (a : ℕ) → Asked S g s a → Asked S h s a
+  asked-like S g h e s valid a x =
+      subst (Asked S h s) (sym (asked-one S g s a (asked S g s) x (asked-counts S g s) ∙ asked-agree S g h e s valid)) (asked-counts S h s)
+
+  -- taking the amount off where all remaining features are 0, as the scope's rest does, changes no dependence
   depends-norm : (ns : List ℕ) (g : Fun K) → Depends ns g ↔ Depends ns (norm ns g)
   unfolding Free
   depends-norm [] g = (λ d. d, λ d. d)
@@ -91,7 +120,7 @@ module _ {K : Kind} where
         λ d f. d (λ v l s x. ap (lift a) (f v l s x)),
       )
 
-  -- so the features asked are those on which document 01's rests along the setting depend
+  -- so the features asked are those on which the scope's rests along the setting depend
   pub asked-rests : (S : List ℕ) (g : Fun K) (s : List ℕ) → asked S g s ≡ number-of (λ k. depends? (drop k S) (norm (drop k S) (after (take k s) g))) (length S)
   unfolding asked
   asked-rests S g s =

@@ -1,4 +1,4 @@
--- Both kinds compute: document 01's a, b, c and P, Q, P + Q over sizes 2, 3, with their numbers of rests, a's count of 1s, and the features that they ask. Assumes nothing.
+-- Both kinds compute: the scope's a, b, c and P, Q, P + Q over sizes 2, 3, with their numbers of rests, a's count of 1s, and the features that they ask. Assumes nothing.
 use mathlib.Core.Path.{_≡_, refl}
 use mathlib.Core.List.{List, [], _∷_}
 use Prim.Native.Nat.{ℕ, _+_, _*_}
@@ -12,7 +12,7 @@ use Rattle.theory.specs.Build.{build, table}
 use Rattle.theory.specs.Tally.{tally}
 use Rattle.theory.specs.Rules.{unit-discrete, rules, Rule, says, phrase, node}
 use Rattle.theory.specs.Counted.{countOf}
-use Rattle.theory.specs.Asked.{asked}
+use Rattle.theory.specs.Questions.{asked}
 use Rattle.theory.specs.Costs.{int-discrete, Cost, amount, to-end, to-node}
 
 sizes : List ℕ

@@ -12,7 +12,8 @@ use Rattle.theory.specs.Functions.{Amount, Fun}
 use Rattle.theory.specs.Diagrams.{Branch, Node, at, blank, ending, node, up, value}
 use Rattle.theory.specs.Rests.{Depends, after}
 use Rattle.theory.specs.WellFormed.{Mean, Ok, WF}
-use Rattle.theory.specs.Asked.{Asks, asked, asks?, number-of}
+use Rattle.theory.specs.Asked.{Asks}
+use Rattle.theory.specs.Questions.{asked, asks?, number-of}
 use Rattle.theory.proofs.Lists.{pos-drop}
 use Rattle.theory.proofs.Ranges.{valid-at, valid-drop, valid-length, valid-pos}
 use Rattle.theory.proofs.WellFormed.{under-weaken}

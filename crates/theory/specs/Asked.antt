@@ -1,39 +1,27 @@
 -- How many features are asked at a setting, of a rule or a cost as a function. Assumes nothing.
-use mathlib.Core.List.{List, [], _∷_}
-use Prim.Native.Nat.{ℕ, zero, suc, _+_}
+use mathlib.Core.Path.{_≡_}
+use mathlib.Core.Logic.{_⊎_}
+use mathlib.Core.List.{List}
+use Prim.Native.Nat.{ℕ, zero, suc}
 use lib.ListN.{length, take, drop}
 use Rattle.theory.specs.Kind.{Kind}
 use Rattle.theory.specs.Functions.{Fun}
-use Rattle.theory.specs.Rests.{Depends, Free, after}
-use Rattle.theory.specs.Tally.{free?}
-use Rattle.theory.specs.Counted.{one-if}
+use Rattle.theory.specs.Rests.{Depends, after}
 
--- how many numbers below n have a property
-unfoldable pub number-of : {P : ℕ → Type 0} → ((k : ℕ) → Dec (P k)) → ℕ → ℕ
-unfolding one-if
-number-of d zero = 0
-number-of d (suc n) = number-of d n + one-if (d n)
+-- a of the numbers below n have the property P
+abbrev pub NumberOf : (ℕ → Type 0) → ℕ → ℕ → Type 0
+NumberOf P zero a = a ≡ 0
+NumberOf P (suc n) a = (P n × ((b : ℕ) × (a ≡ suc b) × NumberOf P n b)) ⊎ ((P n → ⊥) × NumberOf P n a)
 
 module _ {K : Kind} where
-  -- whether a function depends on its first feature
-  unfoldable pub depends? : (ns : List ℕ) (g : Fun K) → Dec (Depends ns g)
-  unfolding free?
-  depends? [] g = no (λ d. d)
-  depends? (n ∷ ns) g = go (free? n ns g)
-    where
-      go : Dec (Free n ns g) → Dec (¬ Free n ns g)
-      go (yes f) = no (λ d. d f)
-      go (no f) = yes f
+  -- what is left of g with the features below k fixed as in s
+  abbrev pub leftAt : Fun K → List ℕ → ℕ → Fun K
+  leftAt g s k = after (take k s) g
 
-  -- feature k is asked at the setting s: with the features below k fixed as in s, what is left depends on k
+  -- feature k is asked at the setting s: what is left depends on k
   abbrev pub Asks : List ℕ → Fun K → List ℕ → ℕ → Type 0
-  Asks S g s k = Depends (drop k S) (after (take k s) g)
+  Asks S g s k = Depends (drop k S) (leftAt g s k)
 
-  unfoldable pub asks? : (S : List ℕ) (g : Fun K) (s : List ℕ) (k : ℕ) → Dec (Asks S g s k)
-  unfolding depends?
-  asks? S g s k = depends? (drop k S) (after (take k s) g)
-
-  -- how many features are asked
-  unfoldable pub asked : List ℕ → Fun K → List ℕ → ℕ
-  unfolding number-of asks?
-  asked S g s = number-of (asks? S g s) (length S)
+  -- a features are asked
+  pub record Asked (S : List ℕ) (g : Fun K) (s : List ℕ) (a : ℕ) : Type 0 where
+    pub number : NumberOf (Asks S g s) (length S) a

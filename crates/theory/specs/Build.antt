@@ -1,4 +1,4 @@
--- The one definition of diagrams: `build` makes the reduced diagram of a function onto a node list, depth first, branch 0 first. Assumes nothing.
+-- Means of proof: the one definition of diagrams: `build` makes the reduced diagram of a function onto a node list, depth first, branch 0 first. Assumes nothing.
 use mathlib.Core.Path.{_≡_}
 use mathlib.Core.List.{List, [], _∷_, _++_}
 use Prim.Native.Nat.{ℕ, suc}

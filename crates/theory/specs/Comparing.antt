@@ -1,4 +1,4 @@
--- Whether two functions agree at every setting, and whether two branches or nodes are equal: decided. Assumes nothing.
+-- Means of proof: whether two functions agree at every setting, and whether two branches or nodes are equal: decided. Assumes nothing.
 use mathlib.Core.Path.{_≡_, ap}
 use mathlib.Core.List.{List, [], _∷_}
 use Prim.Native.Nat.{ℕ, _<_}

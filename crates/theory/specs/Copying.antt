@@ -1,4 +1,4 @@
--- Copying the branches of one node list after the nodes of another, depth first, each node once. Assumes nothing.
+-- Means of proof: copying the branches of one node list after the nodes of another, depth first, each node once. Assumes nothing.
 use mathlib.Core.Path.{_≡_}
 use mathlib.Core.List.{List}
 use Prim.Native.Nat.{ℕ, zero, suc, _+_, _<_}

@@ -1,4 +1,4 @@
--- Decisions on lists that `build` computes with: equal lists, all elements equal, the first place of an element, all numbers below a bound. Assumes nothing.
+-- Means of proof: decisions on lists that `build` computes with: equal lists, all elements equal, the first place of an element, all numbers below a bound. Assumes nothing.
 use mathlib.Core.Path.{_≡_, refl}
 use mathlib.Core.List.{List, [], _∷_, nil≢cons, cons≢nil, head-eq-of-cons-eq, tail-eq-of-cons-eq}
 use Prim.Native.Nat.{ℕ, zero, suc, _<_}

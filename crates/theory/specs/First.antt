@@ -1,4 +1,4 @@
--- Document 01's "the first setting at or after a given one with a given number", of a rule as a function. Assumes nothing.
+-- The scope's "the first setting at or after a given one with a given number", of a rule as a function. Assumes nothing.
 use mathlib.Core.Path.{_≡_}
 use mathlib.Core.Logic.{_⊎_}
 use mathlib.Core.List.{List}

@@ -14,5 +14,6 @@ pub mod Operations
 pub mod Rules
 pub mod Counted
 pub mod Asked
+pub mod Questions
 pub mod Costs
 pub mod First

@@ -1,4 +1,4 @@
--- Rests, dependence and the number of distinct rests, straight from document 01, from functions alone. Assumes nothing.
+-- Rests, dependence and the number of distinct rests, straight from docs/SCOPE.md, from functions alone. Assumes nothing.
 use mathlib.Core.Path.{_≡_}
 use mathlib.Core.List.{List, [], _∷_, _++_}
 use Prim.Native.Nat.{ℕ, _<_}

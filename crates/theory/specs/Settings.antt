@@ -1,4 +1,4 @@
--- Feature lists and settings, in document 01's words. A feature list is the list of its sizes; a setting is the list of its values. Assumes nothing.
+-- Feature lists and settings, in the scope's words. A feature list is the list of its sizes; a setting is the list of its values. Assumes nothing.
 use mathlib.Core.Path.{_≡_}
 use mathlib.Core.List.{List, [], _∷_}
 use Prim.Native.Nat.{ℕ, _*_, _≤_, _<_}

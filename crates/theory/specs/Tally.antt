@@ -1,4 +1,4 @@
--- The rests of a function listed, and the number of distinct rests of several: computed. `tally-counts` shows that it is the number of Rests. Assumes nothing.
+-- Means of proof: the rests of a function listed, and the number of distinct rests of several: computed. `tally-counts` shows that it is the number of Rests. Assumes nothing.
 use mathlib.Core.Path.{_≡_}
 use mathlib.Core.List.{List, [], _∷_, _++_}
 use Prim.Native.Nat.{ℕ, zero, suc}

@@ -1,4 +1,4 @@
--- Node lists that are diagrams: reduced, ordered by features, without twins; and a branch that means a function. Assumes nothing.
+-- Means of proof: node lists that are diagrams: reduced, ordered by features, without twins; and a branch that means a function. Assumes nothing.
 use mathlib.Core.Path.{_≡_}
 use mathlib.Core.List.{List, [], _∷_}
 use Prim.Native.Nat.{ℕ, suc, _≤_, _<_}

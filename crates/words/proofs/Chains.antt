@@ -4,8 +4,8 @@ use mathlib.Core.Logic.{⊎-elim}
 use Prim.Native.Nat.{ℕ, zero, suc, _-_, _≤_, _<_}
 use native.Mathlib.Omega.{arith}
 use borrow.Author.Tests.{eq-eqb, ne-eqb}
-use Rattle.words.specs.Words.{lastOf}
 use Rattle.words.proofs.Tab.{split, same}
+use Rattle.promises.specs.Words.{lastOf}
 
 pub last-ext : (f g : ℕ → ℕ) (h e : ℕ) → ((i : ℕ) → i < e → f i ≡ g i) → lastOf f h e ≡ lastOf g h e
 unfolding lastOf

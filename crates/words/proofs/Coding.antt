@@ -6,10 +6,10 @@ use native.Mathlib.Omega.{arith}
 use lib.ListN.{length, getD, List·getD-eq-default}
 use Rattle.theory.specs.Kind.{Kind}
 use Rattle.theory.specs.Diagrams.{Branch, Node, at, blank, empty}
-use Rattle.words.specs.Tab.{tab}
-use Rattle.words.specs.Words.{count, size, feature, body}
 use Rattle.words.specs.Coding.{Code, Faithful, branches, nodeAt, nodes}
 use Rattle.words.proofs.Tab.{tab-ext, length-tab, getD-tab}
+use Rattle.promises.specs.Tab.{tab}
+use Rattle.promises.specs.Words.{nodesBy, count, size, feature, body}
 
 module _ {K : Kind} where
   -- past its end a list of branches has nothing
@@ -18,11 +18,11 @@ module _ {K : Kind} where
 
 module _ {K : Kind} (C : Code K) where
   pub length-nodes : (w : List ℕ) → length (nodes C w) ≡ count w
-  unfolding nodes
+  unfolding nodesBy
   length-nodes w = length-tab (nodeAt C w) (count w)
 
   pub at-nodes : (w : List ℕ) (i : ℕ) → i < count w → at (nodes C w) i ≡ nodeAt C w i
-  unfolding nodes
+  unfolding nodesBy
   at-nodes w i h = getD-tab (nodeAt C w) (count w) i empty h
 
   -- branch v of node i

@@ -9,10 +9,10 @@ use Rattle.theory.specs.Kind.{Kind}
 use Rattle.theory.specs.Functions.{Agree, Fun, zero-fun}
 use Rattle.theory.specs.Diagrams.{Branch, Node, at}
 use Rattle.theory.proofs.Tables.{table-agree}
-use Rattle.words.specs.Words.{word, head, bound, feature, body, hashOf, hashAt, Zeros}
 use Rattle.words.specs.Picture.{Drawing, nodeHash, Shows, Pictures}
 use Rattle.words.proofs.Tab.{same, split}
 use Rattle.words.proofs.Words.{hash-ext}
+use Rattle.promises.specs.Words.{word, head, bound, feature, body, hashOf, hashAt, Zeros}
 
 -- a record that shows a node has its hash
 pub hash-shown : {K : Kind} (D : Drawing K) (N : List (Node K)) (w : List ℕ) (i : ℕ) → feature w i ≡ at N i .feature → ((v : ℕ) → v < 12 → body w i v ≡ D .bodyOf (at N i) v) → hashAt w i ≡ nodeHash D N i

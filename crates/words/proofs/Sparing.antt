@@ -13,7 +13,7 @@ use Rattle.theory.specs.WellFormed.{WF}
 use Rattle.theory.proofs.Values.{value-ext}
 use Rattle.theory.proofs.WellFormed.{at-ext, ok-ext}
 use Rattle.words.specs.Coding.{Code, Faithful, Spared, nodes}
-use Rattle.words.specs.Words.{count, sizes, word}
+use Rattle.promises.specs.Words.{count, sizes, word}
 
 -- a node means the same in a longer list
 pub twin-ext : {K : Kind} (S : List ℕ) (N M : List (Node K)) → WF S N → Ext N M → (i : ℕ) → i < length N → Twin S N M i i

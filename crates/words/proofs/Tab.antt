@@ -8,7 +8,7 @@ use native.Mathlib.Decide.{decLt, ℕ-discrete}
 use native.Mathlib.Omega.{arith}
 use lib.ListN.{length, getD, take, length-append, List·getD-append}
 use lib.Seq.{getD-append-seam, ext-getD, getD-take, length-take-le}
-use Rattle.words.specs.Tab.{tab}
+use Rattle.promises.specs.Tab.{tab}
 
 pub split : (a b : ℕ) → (a < b) ⊎ (b ≤ a)
 split a b = elim (decLt a b) [ yes h ↦ inl h | no h ↦ inr (omega arith) ]

@@ -8,9 +8,10 @@ use native.Mathlib.Omega.{arith}
 use lib.ListN.{length, getD, List·getD-eq-default}
 use Rattle.theory.specs.Settings.{Pos}
 use Rattle.theory.proofs.Lists.{pos-of}
-use Rattle.words.specs.Tab.{tab}
-use Rattle.words.specs.Words.{head, word, capacity, features, size, sizes, feature, body, hashTo, hashOf, hashAt, Kept, Zeros}
+use Rattle.words.specs.Words.{Kept}
 use Rattle.words.proofs.Tab.{split, length-tab, getD-tab, tab-ext}
+use Rattle.promises.specs.Tab.{tab}
+use Rattle.promises.specs.Words.{head, word, capacity, features, size, sizes, feature, body, hashTo, hashOf, hashAt, Zeros}
 
 pub length-sizes : (w : List ℕ) → length (sizes w) ≡ features w
 unfolding sizes

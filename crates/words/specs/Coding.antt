@@ -1,12 +1,13 @@
--- How the body words of a record say the branches of a node, and the nodes that the words of a table say so. Assumes nothing.
+-- Contract between layers: how the body words of a record say the branches of a node, and the nodes that the words of a table say so. Assumes nothing.
 use mathlib.Core.Path.{_≡_}
 use mathlib.Core.List.{List}
 use Prim.Native.Nat.{ℕ, _+_, _≤_, _<_}
 use Rattle.theory.specs.Copying.{Twin}
 use Rattle.theory.specs.Kind.{Kind}
 use Rattle.theory.specs.Diagrams.{Branch, Node}
-use Rattle.words.specs.Tab.{tab}
-use Rattle.words.specs.Words.{count, size, sizes, feature, body, word}
+use Rattle.promises.specs.Tab.{tab}
+use Rattle.promises.specs.Words.{count, sizes, word}
+use Rattle.promises.specs.Words as W
 
 pub record Code (K : Kind) : Type 1 where
   -- branch v that the body words f say
@@ -23,10 +24,10 @@ module _ {K : Kind} (C : Code K) where
 
   -- node i: its feature, and as many branches as that feature has values
   abbrev pub nodeAt : List ℕ → ℕ → Node K
-  nodeAt w i = record { feature = feature w i; branches = branches (size w (feature w i)) (body w i) }
+  nodeAt w i = W.nodeAt (C .arm) w i
 
-  unfoldable pub nodes : List ℕ → List (Node K)
-  nodes w = tab (nodeAt w) (count w)
+  abbrev pub nodes : List ℕ → List (Node K)
+  nodes w = W.nodesBy (C .arm) w
 
   -- the spare words of the records in use are those of their nodes
   abbrev pub Spared : List ℕ → Type 0

@@ -1,4 +1,4 @@
--- Words that hold a node list of any kind, and functions that add nodes to it: what a table is to them, and their one contract. Assumes nothing.
+-- Contract between layers: words that hold a node list of any kind, and functions that add nodes to it: what a table is to them, and their one contract. Assumes nothing.
 use mathlib.Core.Path.{_≡_}
 use mathlib.Core.Option.{Option, none, some}
 use mathlib.Core.List.{List}

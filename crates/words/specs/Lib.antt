@@ -1,4 +1,3 @@
-pub mod Tab
 pub mod Words
 pub mod Holding
 pub mod Coding

@@ -1,4 +1,4 @@
--- A table at rest is the picture of its rules or costs: which words it has, given capacity, feature list and these functions. Assumes nothing.
+-- Contract between layers: a table at rest is the picture of its rules or costs: which words it has, given capacity, feature list and these functions. Assumes nothing.
 use mathlib.Core.Path.{_≡_}
 use mathlib.Core.List.{List}
 use Prim.Native.Nat.{ℕ, _+_, _*_, _≤_, _<_}
@@ -8,7 +8,8 @@ use Rattle.theory.specs.Settings.{FeatureList, Valid}
 use Rattle.theory.specs.Functions.{Amount, Fun, zero-fun}
 use Rattle.theory.specs.Diagrams.{Branch, Node, at}
 use Rattle.theory.specs.Build.{table}
-use Rattle.words.specs.Words.{head, word, kind, capacity, features, size, count, sizes, bound, feature, body, link, bucket, hashOf, lastOf, Zeros}
+use Rattle.words.specs.Words.{kind}
+use Rattle.promises.specs.Words.{head, word, capacity, features, size, count, sizes, bound, feature, body, link, bucket, hashOf, lastOf, Zeros}
 
 -- what the pictures of the kinds differ in
 pub record Drawing (K : Kind) : Type 1 where

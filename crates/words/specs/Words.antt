@@ -1,82 +1,15 @@
--- The words of a table of any kind: header, records, chains. Assumes nothing.
-use mathlib.Core.Bool.{Bool, true, false}
+-- Contract between layers: the words of a table of any kind: header, records, chains. Assumes nothing.
 use mathlib.Core.Path.{_≡_}
 use mathlib.Core.List.{List}
-use Prim.Native.Nat.{ℕ, zero, suc, _+_, _*_, _/_, _%_, _≤_, _<_}
-use lib.Dec.{eqb}
+use Prim.Native.Nat.{ℕ, _+_, _*_, _≤_, _<_}
 use lib.ListN.{length, getD}
-use Rattle.words.specs.Tab.{tab}
-
--- word j of the header
-unfoldable pub head : List ℕ → ℕ → ℕ
-head w j = getD w j 0
-
--- word j of record i; far record i is record capacity + i
-unfoldable pub word : List ℕ → ℕ → ℕ → ℕ
-word w i j = getD w (8192 + 16 * i + j) 0
+use Rattle.promises.specs.Words.{head, capacity}
 
 abbrev pub kind : List ℕ → ℕ
 kind w = head w 0
 
-abbrev pub capacity : List ℕ → ℕ
-capacity w = head w 1
-
-abbrev pub features : List ℕ → ℕ
-features w = head w 2
-
-abbrev pub size : List ℕ → ℕ → ℕ
-size w k = head w (3 + k)
-
--- how many nodes are in use
-abbrev pub count : List ℕ → ℕ
-count w = head w 19
-
 abbrev pub listed : List ℕ → ℕ → ℕ
 listed l v = getD l v 0
-
--- the feature list
-unfoldable pub sizes : List ℕ → List ℕ
-sizes w = tab (size w) (features w)
-
--- how many words a table of this capacity needs
-abbrev pub bound : ℕ → ℕ
-bound cap = 8192 + 32 * cap
-
--- ---- a record: its feature, 12 body words, its chain link, 2 spare words (the kind says what they hold)
-abbrev pub feature : List ℕ → ℕ → ℕ
-feature w i = word w i 0
-
-abbrev pub body : List ℕ → ℕ → ℕ → ℕ
-body w i v = word w i (1 + v)
-
-abbrev pub link : List ℕ → ℕ → ℕ
-link w i = word w i 13
-
--- ---- chains
--- the chain head of hash h
-abbrev pub bucket : List ℕ → ℕ → ℕ
-bucket w h = head w (4096 + h)
-
--- the hash of a feature and the first n body words, and of all 12
-unfoldable pub hashTo : ℕ → (ℕ → ℕ) → ℕ → ℕ
-hashTo k f zero = k
-hashTo k f (suc n) = (hashTo k f n * 2654435761 + f n) % 4294967296
-
-unfoldable pub hashOf : ℕ → (ℕ → ℕ) → ℕ
-unfolding hashTo
-hashOf k f = hashTo k f 12 / 1048576
-
-abbrev pub hashAt : List ℕ → ℕ → ℕ
-hashAt w i = hashOf (feature w i) (body w i)
-
-abbrev pub pick : {A : Type 0} → Bool → A → A → A
-pick true a b = a
-pick false a b = b
-
--- 1 + the last index below e whose hash is h, or 0
-unfoldable pub lastOf : (ℕ → ℕ) → ℕ → ℕ → ℕ
-lastOf f h zero = 0
-lastOf f h (suc e) = pick (eqb (f e) h) (suc e) (lastOf f h e)
 
 -- ---- frames
 -- w′ is w but for its near records, their chains and their count
@@ -84,7 +17,3 @@ pub record Kept (w w′ : List ℕ) : Type 0 where
   pub long : length w′ ≡ length w
   pub header : (j : ℕ) → j < 4096 → (j ≡ 19 → ⊥) → head w′ j ≡ head w j
   pub past : (j : ℕ) → 8192 + 16 * capacity w ≤ j → getD w′ j 0 ≡ getD w j 0
-
--- the words from a to b are 0
-pub record Zeros (w : List ℕ) (a b : ℕ) : Type 0 where
-  pub zeros : (j : ℕ) → a ≤ j → j < b → getD w j 0 ≡ 0

@@ -2,7 +2,8 @@
 ghost use mathlib.Core.Path.{_≡_};
 ghost use Prim.Native.Nat.{ℕ, _+_, _*_, _≤_, _<_};
 ghost use lib.ListN.{length, getD};
-ghost use Rattle.words.specs.Words.{word, head, body, listed, hashOf, hashAt};
+ghost use Rattle.words.specs.Words.{listed};
+ghost use Rattle.promises.specs.Words.{word, head, body, hashOf, hashAt};
 
 // A word as an index.
 pub fn wide(x: u32) -> usize

@@ -69,7 +69,7 @@ mod tests {
         Costs::fresh(Shape::of(&[2, 3]).unwrap(), capacity)
     }
 
-    /// Document 01's P, Q and P + Q in places 0, 1 and 2.
+    /// The scope's P, Q and P + Q in places 0, 1 and 2.
     fn examples(capacity: usize) -> Costs {
         let mut t = fresh(capacity);
         assert_eq!(t.price(0, 0, &[10, 4]), Ok(()));

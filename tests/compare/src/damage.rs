@@ -92,7 +92,7 @@ fn fresh<N: Number>(capacity: usize) -> Table<N> {
     Table::fresh(Shape { sizes: vec![2, 3] }, capacity)
 }
 
-/// The small tables: document 01's a, b and c, and one node in use at capacity 1 and 2.
+/// The small tables: the scope's a, b and c, and one node in use at capacity 1 and 2.
 fn small_rules() -> [Rules; 3] {
     let (mut three, mut one, mut two) = (fresh(3), fresh(1), fresh(2));
     let made = one.literal(0, 1, 5).is_ok()

@@ -1,4 +1,4 @@
-//! Examples with answers worked out by hand: document 01's of rules, of costs, of both; forgetting; the laws of cost arithmetic.
+//! Examples with answers worked out by hand: the scope's of rules, of costs, of both; forgetting; the laws of cost arithmetic.
 
 use crate::desk::{Desk, Expected};
 use crate::scope::Scope;

@@ -147,7 +147,7 @@ impl Exchange {
     }
 }
 
-/// Every byte of document 01's two sheets changed to every other value.
+/// Every byte of the scope's two sheets changed to every other value.
 fn every_value() -> Vec<Vec<String>> {
     let shape = Shape { sizes: vec![2] };
     let mut parts = Parts::on(&Rules::fresh(shape.clone(), 1));

@@ -149,7 +149,7 @@ mod tests {
         sound::read::<i64>(&picture::lay_out::<i64>(shape, CAPACITY, diagram, pairs)).is_some()
     }
 
-    /// Document 01's P, Q and P + Q.
+    /// The scope's P, Q and P + Q.
     fn examples() -> (Shape, Diagram) {
         let mut t = Costs::fresh(Shape { sizes: vec![2, 3] }, 3);
         assert_eq!([t.price(0, 0, &[10, 4]), t.price(1, 1, &[0, 5, -3]), t.add(2, 0, 1)], [Ok(()); 3]);

@@ -1,4 +1,4 @@
-//! Distinct rests, straight from document 01: what a rule or a cost leaves once the features before k are fixed, kept
+//! Distinct rests, straight from docs/SCOPE.md: what a rule or a cost leaves once the features before k are fixed, kept
 //! where it depends on feature k. In a table of all settings in dictionary order each remainder is one run of entries.
 
 use crate::kind::Number;

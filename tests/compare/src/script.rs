@@ -229,7 +229,7 @@ mod tests {
     use crate::model::Cost;
     use std::collections::{HashMap, HashSet};
 
-    /// What commands on costs may be answered: taken, and every refusal that document 01 has for them.
+    /// What commands on costs may be answered: taken, and every refusal that docs/SCOPE.md has for them.
     const ENDINGS: [(&str, &[&str]); 17] = [
         ("copen", &["0", "12"]),
         ("cconstant", &["0", "1", "2", "6"]),

@@ -125,7 +125,7 @@ pub fn read(bytes: &[u8]) -> Told<(Shape, Rule)> {
 mod tests {
     use super::*;
 
-    /// Document 01's sheet: one feature of size 2, phrases 7 and 9.
+    /// The scope's sheet: one feature of size 2, phrases 7 and 9.
     const EXAMPLE: [u8; 20] = [0, 1, 1, 0, 1, 2, 0, 1, 0, 0, 0, 7, 0, 0, 9, 0, 1, 1, 0, 0];
 
     #[test]

@@ -1,11 +1,11 @@
 -- `c_results::put_flag` meets its contract: one word set is one result laid. Assumes nothing.
 use Rattle.c_results.proofs.Placing.{first-placed}
-use Rattle.c_results.specs.Results.{bit}
 use mathlib.Core.Path.{refl}
 use mathlib.Core.List.{[]}
 use borrow.Author.Needs.{needs}
 use Rattle.c_results.proofs.put_flag.Statement.{statement}
 use Rattle.c_results.proofs.put_flag.Tie as tie
+use Rattle.promises.specs.ForC.{bit}
 
 flag-requires : tie.Need-flag-requires
 flag-requires c κs = search needs

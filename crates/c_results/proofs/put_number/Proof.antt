@@ -2,10 +2,10 @@
 use Prim.Native.Nat.{ℕ, _%_}
 use mathlib.Core.Path.{ap, _∙_}
 use mathlib.Core.List.{[], _∷_}
-use Rattle.c_results.specs.Results.{placed}
 use borrow.Author.Needs.{needs}
 use Rattle.c_results.proofs.put_number.Statement.{statement}
 use Rattle.c_results.proofs.put_number.Tie as tie
+use Rattle.promises.specs.ForC.{placed}
 
 low-requires : tie.Need-low-requires
 low-requires c κs = search needs

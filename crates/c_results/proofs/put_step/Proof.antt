@@ -1,11 +1,11 @@
 -- `c_results::put_step` meets its contract: yes or no is the first word. Assumes nothing.
-use Rattle.c_results.specs.Results.{placed}
 use Prim.Native.Nat.{ℕ}
 use mathlib.Core.Path.{ap, _∙_}
 use mathlib.Core.List.{_∷_}
 use borrow.Author.Needs.{needs}
 use Rattle.c_results.proofs.put_step.Statement.{statement}
 use Rattle.c_results.proofs.put_step.Tie as tie
+use Rattle.promises.specs.ForC.{placed}
 
 flag-requires : tie.Need-flag-requires
 flag-requires c κs = search needs

@@ -1,7 +1,6 @@
 -- `checks::chains_ok` meets its contract: the nodes passed are chained and alone, and the list holds the ends of their chains. Assumes nothing.
 use Rattle.checks.proofs.Chaining.{Chaining, chaining-none, linked-more, link-is, chaining-more, chaining-all, chained-heads}
 use Rattle.settings.proofs.Answers.{granted, denied, retell}
-use Rattle.words.specs.Words.{count}
 use lib.ListN.{getD-replicate}
 use native.Mathlib.Omega.{arith}
 use Prim.Native.Nat.{ℕ, _-_, _≤_}
@@ -9,6 +8,7 @@ use mathlib.Core.Path.{_≡_, subst, _∙_}
 use borrow.Author.Needs.{needs}
 use Rattle.checks.proofs.chains_ok.Statement.{statement}
 use Rattle.checks.proofs.chains_ok.Tie as tie
+use Rattle.promises.specs.Words.{count}
 
 abbrev Inv-loop : tie.InvT-loop
 Inv-loop t n last₀ i₀ last i = (n ≡ count t) × (i ≤ n) × Chaining t i last

@@ -1,5 +1,4 @@
 -- `checks::heads_ok` meets its contract: the chain heads passed are the list's. Assumes nothing.
-use Rattle.words.specs.Words.{bucket}
 use borrow.Author.Count.{below-more}
 use lib.ListN.{getD}
 use native.Mathlib.Omega.{arith}
@@ -8,6 +7,7 @@ use mathlib.Core.Path.{_≡_, sym, _∙_}
 use borrow.Author.Needs.{needs}
 use Rattle.checks.proofs.heads_ok.Statement.{statement}
 use Rattle.checks.proofs.heads_ok.Tie as tie
+use Rattle.promises.specs.Words.{bucket}
 
 abbrev Inv-loop : tie.InvT-loop
 Inv-loop t last h₀ h = (h ≤ 4096) × ((x : ℕ) → x < h → bucket t x ≡ getD last x 0)

@@ -1,5 +1,4 @@
 -- `checks::same` meets its contract: the body words passed are equal. Assumes nothing.
-use Rattle.words.specs.Words.{body}
 use borrow.Author.Count.{below-more}
 use native.Mathlib.Omega.{arith}
 use Prim.Native.Nat.{ℕ, _-_, _≤_, _<_}
@@ -7,6 +6,7 @@ use mathlib.Core.Path.{_≡_, sym, _∙_}
 use borrow.Author.Needs.{needs}
 use Rattle.checks.proofs.same.Statement.{statement}
 use Rattle.checks.proofs.same.Tie as tie
+use Rattle.promises.specs.Words.{body}
 
 abbrev Inv-loop : tie.InvT-loop
 Inv-loop t i j v₀ v = (v ≤ 12) × ((x : ℕ) → x < v → body t i x ≡ body t j x)

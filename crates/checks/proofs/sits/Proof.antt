@@ -1,11 +1,11 @@
 -- `checks::sits` meets its contract: an end always sits; a node does if it is in range and its feature is high enough. Assumes nothing.
 use Rattle.checks.proofs.Sitting.{tells-sits}
-use Rattle.words.specs.Words.{feature}
 use native.Mathlib.Omega.{arith}
 use mathlib.Core.Path.{ap, _∙_}
 use borrow.Author.Needs.{needs}
 use Rattle.checks.proofs.sits.Statement.{statement}
 use Rattle.checks.proofs.sits.Tie as tie
+use Rattle.promises.specs.Words.{feature}
 
 returns : tie.Need-returns
 returns c = search needs

@@ -1,5 +1,4 @@
 -- `checks::sizes_ok` meets its contract: each size passed is from 2 to 8. Assumes nothing.
-use Rattle.words.specs.Words.{features, size}
 use borrow.Author.Count.{below-more}
 use native.Mathlib.Omega.{arith}
 use Prim.Native.Nat.{ℕ, _-_, _≤_, _<_}
@@ -7,6 +6,7 @@ use mathlib.Core.Path.{_≡_}
 use borrow.Author.Needs.{needs}
 use Rattle.checks.proofs.sizes_ok.Statement.{statement}
 use Rattle.checks.proofs.sizes_ok.Tie as tie
+use Rattle.promises.specs.Words.{features, size}
 
 abbrev Inv-loop : tie.InvT-loop
 Inv-loop t n k₀ k = (n ≡ features t) × (k ≤ n) × ((x : ℕ) → x < k → (2 ≤ size t x) × (size t x ≤ 8))

@@ -1,7 +1,6 @@
 -- `cost_amounts::cost_of` meets its contract: a word less the bias is its integer. Assumes nothing.
 use Rattle.cost_laws.proofs.Words.{fits-signed, signed-small, signed-word}
 use Rattle.cost_laws.proofs.Integers.{minus-rise, minus-fall}
-use Rattle.cost_laws.specs.Integers.{bias}
 use mir.Facts.{toZ-ofZ}
 use mir.Val.{SFits}
 use mir.Syntax.{w64}
@@ -14,6 +13,7 @@ use Rattle.cost_amounts.proofs.cost_of.Statement.{statement}
 use Rattle.cost_amounts.proofs.cost_of.Tie as tie
 use Rattle.cost_amounts.proofs.cost_of.Reads as reads
 use Rattle.cost_amounts.proofs.cost_of.Lts as lts
+use Rattle.promises.specs.Integers.{bias}
 
 fits : (c : lts.Start reads.Pre reads.Post) → SFits w64 (pos (c .args .w) -ℤ pos bias)
 fits c = fits-signed _ (omega (arith, minus-rise (pos (c .args .w)) (pos bias))) (omega (arith, minus-fall (pos (c .args .w)) (pos bias)))

@@ -12,13 +12,11 @@ use Rattle.cost_notes.proofs.Reading.{plain-head}
 use Rattle.notes.specs.Far.{memory}
 use Rattle.notes.specs.Plain.{plain}
 use Rattle.notes.proofs.Plain.{length-plain}
-use Rattle.cost_words.specs.Words.{target, nodes}
-use Rattle.rule_lending.proofs.Lending.{lent-small}
+use Rattle.rule_lending.proofs.Lending.{key-small}
 use Rattle.rule_lending.specs.Lending.{lent}
+use Rattle.settings.proofs.Answers.{sure, sure-not}
 use Rattle.words.proofs.Words.{kept-features, kept-size}
-use Rattle.words.specs.Words.{features, size}
 use Rattle.theory.specs.Costs.{Cost}
-use Rattle.cost_laws.specs.Integers.{int}
 use lib.ListN.{length, getD-replicate}
 use native.Mathlib.Omega.{arith}
 use Prim.Native.Nat.{ℕ, _+_, _-_, _*_, _≤_, _<_}
@@ -47,10 +45,15 @@ use Rattle.cost_notes.proofs.make_in.Reads as make-in-reads
 use Rattle.cost_words.proofs.difference_word.Reads as difference-word-reads
 use Rattle.cost_words.proofs.sum_word.Reads as sum-word-reads
 use Rattle.rule_lending.proofs.branch_at.Reads as branch-at-reads
+use Rattle.rule_lending.proofs.is_number.Reads as is-number-reads
+use Rattle.rule_lending.proofs.number_of.Reads as number-of-reads
 use Rattle.words.proofs.head_word.Reads as head-word-reads
 use Rattle.words.proofs.wide.Reads as wide-reads
 use Rattle.cost_choose.proofs.+branch_result+fill_branches+rest_result.{statement}
 use Rattle.cost_choose.proofs.+branch_result+fill_branches+rest_result.Tie.{close}
+use Rattle.promises.specs.CostWords.{target, costNodes as nodes}
+use Rattle.promises.specs.Words.{features, size}
+use Rattle.promises.specs.Integers.{int}
 
 abbrev μ-branch-result : Measures 3 branch-result-kinds.ps ℕ
 μ-branch-result κs a = 3 * (features (plain (a .1 .0 .now)) - a .1 .1 .1 .0) + 1
@@ -100,7 +103,7 @@ abbrev fill-branches-claims : ℕ → fill-branches-lts.Claims
 fill-branches-claims t = (head-word-reads.Asked, head-word-reads.Learnt, wide-reads.Asked, wide-reads.Learnt, branch-at-reads.Asked, branch-at-reads.Learnt, arm-in-reads.Asked, arm-in-reads.Learnt, branch-result-below t, branch-result.Post)
 
 abbrev rest-result-claims : ℕ → rest-result-lts.Claims
-rest-result-claims t = (ended-reads.Asked, ended-reads.Learnt, lowest-of-reads.Asked, lowest-of-reads.Learnt, rest-result-below t, rest-result.Post, tag-of-reads.Asked, tag-of-reads.Learnt, recall-in-reads.Asked, recall-in-reads.Learnt, fill-branches-below t, fill-branches.Post, make-in-reads.Asked, make-in-reads.Learnt, remember-in-reads.Asked, remember-in-reads.Learnt)
+rest-result-claims t = (is-number-reads.Asked, is-number-reads.Learnt, number-of-reads.Asked, number-of-reads.Learnt, ended-reads.Asked, ended-reads.Learnt, lowest-of-reads.Asked, lowest-of-reads.Learnt, rest-result-below t, rest-result.Post, tag-of-reads.Asked, tag-of-reads.Learnt, recall-in-reads.Asked, recall-in-reads.Learnt, fill-branches-below t, fill-branches.Post, make-in-reads.Asked, make-in-reads.Learnt, remember-in-reads.Asked, remember-in-reads.Learnt)
 
 branch-result-sum-word-requires : (t : ℕ) → branch-result-lts.Need-sum-word-requires (branch-result-claims t) (branch-result-at t) branch-result.Post
 branch-result-sum-word-requires t c κs = (c .before .before .before) .pre .1 .0 .ahead
@@ -188,7 +191,7 @@ fill-branches-arm-in-requires-2 t c κs = let a = (c .before .before .before .be
     )
 
 fill-branches-add-branch-result : (t : ℕ) → fill-branches-lts.Need-add-branch-result (fill-branches-claims t) (fill-branches-at t) fill-branches.Post fill-branches-Inv-loop fill-branches-μ-loop
-fill-branches-add-branch-result t c = search needs
+fill-branches-add-branch-result t c = let a = (c .before .before .before .before .before .before .before .before .before .before .before .before .before .before .before) in omega (arith, a .pre .1 .0 .holds .laid .laid .few, a .pre .1 .2)
 
 fill-branches-branch-result-requires : (t : ℕ) → fill-branches-lts.Need-branch-result-requires (fill-branches-claims t) (fill-branches-at t) fill-branches.Post fill-branches-Inv-loop fill-branches-μ-loop
 fill-branches-branch-result-requires t c κs = let a = (c .before .before .before .before .before .before .before .before .before .before .before .before .before .before .before) in
@@ -267,19 +270,25 @@ fill-branches-returns-2 t c = let a = (c .before .before .before .before .before
     let e : l .v ≡ size (plain (a .args .t .now)) (a .args .k) = omega (arith, l .inv .0, l .inv .1, (c .loop-test)) in
     (rw e at (l .inv .2), l .inv .3)
 
+rest-result-is-number-requires : (t : ℕ) → rest-result-lts.Need-is-number-requires (rest-result-claims t) (rest-result-at t) rest-result.Post
+rest-result-is-number-requires t c κs = search needs
+
+rest-result-number-of-requires : (t : ℕ) → rest-result-lts.Need-number-of-requires (rest-result-claims t) (rest-result-at t) rest-result.Post
+rest-result-number-of-requires t c κs = sure ((c .if1) .taken) ((c .before .is-number) .ensures)
+
 rest-result-ended-requires : (t : ℕ) → rest-result-lts.Need-ended-requires (rest-result-claims t) (rest-result-at t) rest-result.Post
 rest-result-ended-requires t c κs = search needs
 
 rest-result-returns : (t : ℕ) → rest-result-lts.Need-returns (rest-result-claims t) (rest-result-at t) rest-result.Post
-rest-result-returns t c = let a = (c .before .before .before .before .before) in
-    (choice-ends _ _ _ _ _ _ _ (a .pre .1 .0) (omega (arith, (c .before .if1))) (a .args .d) refl _ ((c .ended) .ensures), still-there _ _ _ ((c .ended) .result) (a .pre .1 .1))
+rest-result-returns t c = let a = (c .before .before .before .before .before .before .before) in
+    (choice-ends _ _ _ _ _ _ _ (a .pre .1 .0) _ (a .args .d) ((c .before .number-of) .ensures) refl _ ((c .ended) .ensures), still-there _ _ _ ((c .ended) .result) (a .pre .1 .1))
 
 rest-result-lowest-of-requires : (t : ℕ) → rest-result-lts.Need-lowest-of-requires (rest-result-claims t) (rest-result-at t) rest-result.Post
-rest-result-lowest-of-requires t c κs = let p = (c .before .before .before .before .before) .pre .1 .0 in
+rest-result-lowest-of-requires t c κs = let p = (c .before .before .before .before .before .before) .pre .1 .0 in
     (record { from = _; lends = p .rule }, p .holds .laid .laid, good-small _ _ _ (p .first), good-small _ _ _ (p .second))
 
 rest-result-rest-result-requires : (t : ℕ) → rest-result-lts.Need-rest-result-requires (rest-result-claims t) (rest-result-at t) rest-result.Post
-rest-result-rest-result-requires t c κs = let p = (c .before .before .before .before .before .before .before .before .before) .pre .1 in
+rest-result-rest-result-requires t c κs = let p = (c .before .before .before .before .before .before .before .before .before .before) .pre .1 in
     let m = skip-most _ _ _ _ _ _ _ ((c .before .before .before .lowest-of) .ensures) _ (p .0) (omega (arith, (c .before .before .if2))) in
     (omega arith, (choices-skip _ _ _ _ _ _ _ ((c .before .before .before .lowest-of) .ensures) _ (p .0) (omega (arith, (c .before .before .if2))), p .1))
 
@@ -290,16 +299,16 @@ rest-result-same-length-2 : (t : ℕ) → rest-result-lts.Need-same-length-2 (re
 rest-result-same-length-2 t c = search needs
 
 rest-result-returns-2 : (t : ℕ) → rest-result-lts.Need-returns-2 (rest-result-claims t) (rest-result-at t) rest-result.Post
-rest-result-returns-2 t c = let p = (c .before .before .before .before .before .before .before .before .before .before .before .before .before .before) .pre .1 in
+rest-result-returns-2 t c = let p = (c .before .before .before .before .before .before .before .before .before .before .before .before .before .before .before) .pre .1 in
     (choice-skip _ _ _ _ _ _ _ ((c .before .before .before .before .before .before .before .before .lowest-of) .ensures) _ (p .0) (omega (arith, (c .before .before .before .before .before .before .before .if2))) _ ((c .before .before .before .before .rest-result) .result) ((c .before .before .before .before .rest-result) .ensures .0), (c .before .before .before .before .rest-result) .ensures .1)
 
 rest-result-tag-of-requires : (t : ℕ) → rest-result-lts.Need-tag-of-requires (rest-result-claims t) (rest-result-at t) rest-result.Post
-rest-result-tag-of-requires t c κs = let p = (c .before .before .before .before .before .before .before) .pre .1 .0 in
-    let hk = still-left _ _ _ _ _ _ _ p (omega (arith, (c .before .before .before .if1))) in
-    (omega (arith, p .holds .laid .laid .few), lent-small (p .rule))
+rest-result-tag-of-requires t c κs = let p = (c .before .before .before .before .before .before .before .before) .pre .1 .0 in
+    let hk = still-left _ _ _ _ _ _ _ p (sure-not ((c .before .before .before .if1) .left) ((c .before .before .before .before .is-number) .ensures)) in
+    (omega (arith, p .holds .laid .laid .few), key-small (p .rule))
 
 rest-result-recall-in-requires : (t : ℕ) → rest-result-lts.Need-recall-in-requires (rest-result-claims t) (rest-result-at t) rest-result.Post
-rest-result-recall-in-requires t c κs = (c .before .before .before .before .before .before .before .before .before .before) .pre .1 .1 .room
+rest-result-recall-in-requires t c κs = (c .before .before .before .before .before .before .before .before .before .before .before) .pre .1 .1 .room
 
 rest-result-enum-known-memo : (t : ℕ) → rest-result-lts.Need-enum-known-memo (rest-result-claims t) (rest-result-at t) rest-result.Post
 rest-result-enum-known-memo t c = search needs
@@ -311,24 +320,24 @@ rest-result-same-length-4 : (t : ℕ) → rest-result-lts.Need-same-length-4 (re
 rest-result-same-length-4 t c = search needs
 
 rest-result-returns-3 : (t : ℕ) → rest-result-lts.Need-returns-3 (rest-result-claims t) (rest-result-at t) rest-result.Post
-rest-result-returns-3 t c = let a = (c .before .before .before .before .before .before .before .before .before .before .before .before .before .before) in
+rest-result-returns-3 t c = let a = (c .before .before .before .before .before .before .before .before .before .before .before .before .before .before .before) in
     let p = a .pre .1 in
-    let hk = still-left _ _ _ _ _ _ _ (p .0) (omega (arith, (c .before .before .before .before .before .before .before .before .before .before .if1))) in
+    let hk = still-left _ _ _ _ _ _ _ (p .0) (sure-not ((c .before .before .before .before .before .before .before .before .before .before .if1) .left) ((c .before .before .before .before .before .before .before .before .before .before .before .is-number) .ensures)) in
     (hit _ _ ((c .before .before .before .before .before .before .tag-of) .result) (a .args .k) (a .args .b) (a .args .x) (a .args .y) (a .args .d) (memory (a .args .t .now) (a .args .s .now)) _ _ _ (p .0) (omega (arith, p .0 .holds .laid .laid .few)) ((c .before .before .before .before .before .before .tag-of) .ensures) (p .1 .right) ((c .before .before .before .recall-in) .ensures) ((c .before .memo) .given .1), p .1)
 
 rest-result-enum-told : (t : ℕ) → rest-result-lts.Need-enum-told (rest-result-claims t) (rest-result-at t) rest-result.Post
 rest-result-enum-told t c = search needs
 
 rest-result-fill-branches-requires : (t : ℕ) → rest-result-lts.Need-fill-branches-requires (rest-result-claims t) (rest-result-at t) rest-result.Post
-rest-result-fill-branches-requires t c κs = let p = (c .before .before .before .before .before .before .before .before .before .before .before .before .before .before .before) .pre .1 in
-    let hk = still-left _ _ _ _ _ _ _ (p .0) (omega (arith, (c .before .before .before .before .before .before .before .before .before .before .before .if1))) in
+rest-result-fill-branches-requires t c κs = let p = (c .before .before .before .before .before .before .before .before .before .before .before .before .before .before .before .before) .pre .1 in
+    let hk = still-left _ _ _ _ _ _ _ (p .0) (sure-not ((c .before .before .before .before .before .before .before .before .before .before .before .if1) .left) ((c .before .before .before .before .before .before .before .before .before .before .before .before .is-number) .ensures)) in
     (omega arith, (p .0, p .1, hk))
 
 rest-result-make-in-requires : (t : ℕ) → rest-result-lts.Need-make-in-requires (rest-result-claims t) (rest-result-at t) rest-result.Post
-rest-result-make-in-requires t c κs = let a = (c .before .before .before .before .before .before .before .before .before .before .before .before .before .before .before .before .before .before .before .before .before .before .before .before) in
+rest-result-make-in-requires t c κs = let a = (c .before .before .before .before .before .before .before .before .before .before .before .before .before .before .before .before .before .before .before .before .before .before .before .before .before) in
     let p = a .pre .1 .0 in
     let g : Cost = choice (lent (a .args .r .now) (a .args .k) (a .args .b)) (nodes (plain (a .args .t .now))) (a .args .k) (target (a .args .x)) (target (a .args .y)) (int (a .args .d)) in
-    let hk = still-left _ _ _ _ _ _ _ p (omega (arith, (c .before .before .before .before .before .before .before .before .before .before .before .before .before .before .before .before .before .before .before .before .if1))) in
+    let hk = still-left _ _ _ _ _ _ _ p (sure-not ((c .before .before .before .before .before .before .before .before .before .before .before .before .before .before .before .before .before .before .before .before .if1) .left) ((c .before .before .before .before .before .before .before .before .before .before .before .before .before .before .before .before .before .before .before .before .before .is-number) .ensures)) in
     let fl = filled _ _ _ g _ _ _ ((c .before .before .before .if3) .taken) ((c .before .before .before .before .before .before .before .before .fill-branches) .ensures .0) in
     let nr = filling-narrow (plain (a .args .t .now)) (a .args .k) g (p .holds) hk _ _ _ _ fl (le-refl _) (choice-near _ _ _ _ _ _ _ p) (p .narrow) in
     let paired = holds-passed _ (fl .filled .grown .well) nr in (
@@ -352,15 +361,15 @@ rest-result-same-length-6 : (t : ℕ) → rest-result-lts.Need-same-length-6 (re
 rest-result-same-length-6 t c = search needs
 
 rest-result-returns-4 : (t : ℕ) → rest-result-lts.Need-returns-4 (rest-result-claims t) (rest-result-at t) rest-result.Post
-rest-result-returns-4 t c = let a = (c .before .before .before .before .before .before .before .before .before .before .before .before .before .before .before .before .before .before .before .before .before .before .before .before .before .before .before .before .before) in
+rest-result-returns-4 t c = let a = (c .before .before .before .before .before .before .before .before .before .before .before .before .before .before .before .before .before .before .before .before .before .before .before .before .before .before .before .before .before .before) in
     let p = a .pre .1 .0 in
     let g : Cost = choice (lent (a .args .r .now) (a .args .k) (a .args .b)) (nodes (plain (a .args .t .now))) (a .args .k) (target (a .args .x)) (target (a .args .y)) (int (a .args .d)) in
-    let hk = still-left _ _ _ _ _ _ _ p (omega (arith, (c .before .before .before .before .before .before .before .before .before .before .before .before .before .before .before .before .before .before .before .before .before .before .before .before .before .if1))) in
+    let hk = still-left _ _ _ _ _ _ _ p (sure-not ((c .before .before .before .before .before .before .before .before .before .before .before .before .before .before .before .before .before .before .before .before .before .before .before .before .before .if1) .left) ((c .before .before .before .before .before .before .before .before .before .before .before .before .before .before .before .before .before .before .before .before .before .before .before .before .before .before .is-number) .ensures)) in
     let fl = filled _ _ _ g _ _ _ ((c .before .before .before .before .before .before .before .before .if3) .taken) ((c .before .before .before .before .before .before .before .before .before .before .before .before .before .fill-branches) .ensures .0) in
     (gives-none ((c .enum-told2) .given .1) (fill-make (plain (a .args .t .now)) (a .args .k) g (p .holds) hk _ _ _ _ ((c .before .before .before .before .make-in) .result) fl ((c .before .before .before .before .make-in) .ensures .0)), tt)
 
 rest-result-remember-in-requires : (t : ℕ) → rest-result-lts.Need-remember-in-requires (rest-result-claims t) (rest-result-at t) rest-result.Post
-rest-result-remember-in-requires t c κs = let a = (c .before .before .before .before .before .before .before .before .before .before .before .before .before .before .before .before .before .before .before .before .before .before .before .before .before .before .before .before .before .before .before .before) in
+rest-result-remember-in-requires t c κs = let a = (c .before .before .before .before .before .before .before .before .before .before .before .before .before .before .before .before .before .before .before .before .before .before .before .before .before .before .before .before .before .before .before .before .before) in
     let g : Cost = choice (lent (a .args .r .now) (a .args .k) (a .args .b)) (nodes (plain (a .args .t .now))) (a .args .k) (target (a .args .x)) (target (a .args .y)) (int (a .args .d)) in
     let f = (c .before .before .before .before .before .before .before .before .before .before .before .before .before .before .before .before .fill-branches) in
     let fl = filled _ _ _ g _ _ _ ((c .before .before .before .before .before .before .before .before .before .before .before .if3) .taken) (f .ensures .0) in
@@ -373,10 +382,10 @@ rest-result-same-length-8 : (t : ℕ) → rest-result-lts.Need-same-length-8 (re
 rest-result-same-length-8 t c = search needs
 
 rest-result-returns-5 : (t : ℕ) → rest-result-lts.Need-returns-5 (rest-result-claims t) (rest-result-at t) rest-result.Post
-rest-result-returns-5 t c = let a = (c .before .before .before .before .before .before .before .before .before .before .before .before .before .before .before .before .before .before .before .before .before .before .before .before .before .before .before .before .before .before .before .before .before .before .before .before .before) in
+rest-result-returns-5 t c = let a = (c .before .before .before .before .before .before .before .before .before .before .before .before .before .before .before .before .before .before .before .before .before .before .before .before .before .before .before .before .before .before .before .before .before .before .before .before .before .before) in
     let p = a .pre .1 .0 in
     let g : Cost = choice (lent (a .args .r .now) (a .args .k) (a .args .b)) (nodes (plain (a .args .t .now))) (a .args .k) (target (a .args .x)) (target (a .args .y)) (int (a .args .d)) in
-    let hk = still-left _ _ _ _ _ _ _ p (omega (arith, (c .before .before .before .before .before .before .before .before .before .before .before .before .before .before .before .before .before .before .before .before .before .before .before .before .before .before .before .before .before .before .before .before .before .if1))) in
+    let hk = still-left _ _ _ _ _ _ _ p (sure-not ((c .before .before .before .before .before .before .before .before .before .before .before .before .before .before .before .before .before .before .before .before .before .before .before .before .before .before .before .before .before .before .before .before .before .if1) .left) ((c .before .before .before .before .before .before .before .before .before .before .before .before .before .before .before .before .before .before .before .before .before .before .before .before .before .before .before .before .before .before .before .before .before .before .is-number) .ensures)) in
     let fl = filled _ _ _ g _ _ _ ((c .before .before .before .before .before .before .before .before .before .before .before .before .before .before .before .before .if3) .taken) ((c .before .before .before .before .before .before .before .before .before .before .before .before .before .before .before .before .before .before .before .before .before .fill-branches) .ensures .0) in
     let q = (c .before .before .before .before .before .before .before .before .z) .given .1 in
     let f = (c .before .before .before .before .before .before .before .before .before .before .before .before .before .before .before .before .before .before .before .before .before .fill-branches) in
@@ -395,10 +404,10 @@ rest-result-same-length-10 : (t : ℕ) → rest-result-lts.Need-same-length-10 (
 rest-result-same-length-10 t c = search needs
 
 rest-result-returns-6 : (t : ℕ) → rest-result-lts.Need-returns-6 (rest-result-claims t) (rest-result-at t) rest-result.Post
-rest-result-returns-6 t c = let a = (c .before .before .before .before .before .before .before .before .before .before .before .before .before .before .before .before .before .before .before .before .before) in
+rest-result-returns-6 t c = let a = (c .before .before .before .before .before .before .before .before .before .before .before .before .before .before .before .before .before .before .before .before .before .before) in
     let p = a .pre .1 .0 in
     let g : Cost = choice (lent (a .args .r .now) (a .args .k) (a .args .b)) (nodes (plain (a .args .t .now))) (a .args .k) (target (a .args .x)) (target (a .args .y)) (int (a .args .d)) in
-    let hk = still-left _ _ _ _ _ _ _ p (omega (arith, (c .before .before .before .before .before .before .before .before .before .before .before .before .before .before .before .before .before .if1))) in
+    let hk = still-left _ _ _ _ _ _ _ p (sure-not ((c .before .before .before .before .before .before .before .before .before .before .before .before .before .before .before .before .before .if1) .left) ((c .before .before .before .before .before .before .before .before .before .before .before .before .before .before .before .before .before .before .is-number) .ensures)) in
     (stop-result (plain (a .args .t .now)) (a .args .k) g (p .holds) hk _ (not-filled _ _ _ g _ _ _ ((c .if3) .left) ((c .before .before .before .before .before .fill-branches) .ensures .0)), tt)
 
 pub +branch-result+fill-branches+rest-result-spec : {M : Type 1} → statement M
@@ -450,6 +459,8 @@ pub +branch-result+fill-branches+rest-result-spec : {M : Type 1} → statement M
     λ t. rest-result-lts.spec (rest-result-claims t)
     (rest-result-at t)
     rest-result.Post
+    (rest-result-is-number-requires t)
+    (rest-result-number-of-requires t)
     (rest-result-ended-requires t)
     (rest-result-returns t)
     (rest-result-lowest-of-requires t)

@@ -1,12 +1,12 @@
 -- `cost_choose::choose_in` meets its contract: at rest, with an emptied scratch, nothing is remembered, and with no difference the choice is that of the two costs. Assumes nothing.
 use Rattle.cost_choose.proofs.Walking.{start, choice-start, choosable-plain, choice-cleared}
 use Rattle.cost_notes.proofs.Remembering.{noted-none}
-use Rattle.cost_words.specs.Words.{branch}
 use Rattle.cost_words.proofs.Packing.{int-zero}
 use Rattle.notes.proofs.Alike.{grown-roomy}
 use borrow.Author.Needs.{needs}
 use Rattle.cost_choose.proofs.choose_in.Statement.{statement}
 use Rattle.cost_choose.proofs.choose_in.Tie as tie
+use Rattle.promises.specs.CostWords.{costBranch as branch}
 
 clear-requires : tie.Need-clear-requires
 clear-requires c κs = search needs

@@ -3,7 +3,6 @@ use Rattle.cost_collect.proofs.Copying.{Packing, good-small, moved-end,
 use Rattle.sweep.proofs.Framing.{few, known, size-small, value-small, still-good}
 use Rattle.sweep.proofs.Copying.{marked-small, done-small, moved-marked, spare-for, moved-new}
 use Rattle.cost_words.proofs.Packing.{faithful}
-use Rattle.words.specs.Words.{size, feature}
 use lib.ListN.{getD-replicate}
 use native.Mathlib.Numerals.{add-one}
 use native.Mathlib.Omega.{arith}
@@ -29,6 +28,7 @@ use Rattle.words.proofs.record_word.Reads as record-word-reads
 use Rattle.words.proofs.wide.Reads as wide-reads
 use Rattle.cost_collect.proofs.+copy_list+copy_target.{statement}
 use Rattle.cost_collect.proofs.+copy_list+copy_target.Tie.{close}
+use Rattle.promises.specs.Words.{size, feature}
 
 abbrev μ-copy-list : Measures 1 copy-list-kinds.ps ℕ
 μ-copy-list κs a = 2 * a .1 .0 + 1

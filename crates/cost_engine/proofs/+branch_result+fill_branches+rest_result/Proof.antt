@@ -7,12 +7,9 @@ use native.Mathlib.Omega.{arith}
 use lib.IntN.{ℤ}
 use lib.ListN.{length, getD-replicate}
 use Rattle.theory.specs.Costs.{Cost}
-use Rattle.cost_laws.specs.Integers.{int}
-use Rattle.words.specs.Words.{features, size}
 use Rattle.words.proofs.Words.{kept-features, kept-size}
 use Rattle.notes.specs.Plain.{plain}
 use Rattle.notes.proofs.Plain.{length-plain}
-use Rattle.cost_words.specs.Words.{target, nodes}
 use Rattle.cost_nodes.specs.Nodes.{Filling, Result}
 use Rattle.cost_nodes.specs.declared.Answer.the-variants.{Is}
 use Rattle.cost_nodes.proofs.Reading.{holds-passed}
@@ -53,6 +50,9 @@ use Rattle.words.proofs.narrow.Reads as narrow-reads
 use Rattle.words.proofs.wide.Reads as wide-reads
 use Rattle.cost_engine.proofs.+branch_result+fill_branches+rest_result.{statement}
 use Rattle.cost_engine.proofs.+branch_result+fill_branches+rest_result.Tie.{close}
+use Rattle.promises.specs.Integers.{int}
+use Rattle.promises.specs.Words.{features, size}
+use Rattle.promises.specs.CostWords.{target, costNodes as nodes}
 
 abbrev μ-branch-result : Measures 2 branch-result-kinds.ps ℕ
 μ-branch-result κs a = 3 * (features (plain (a .0 .now)) - a .1 .1 .1 .0) + 1

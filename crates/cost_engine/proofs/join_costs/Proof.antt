@@ -1,12 +1,12 @@
 -- `cost_engine::join_costs` meets its contract: at rest, with an emptied scratch, nothing is remembered, and with no difference the joint cost is that of the two. Assumes nothing.
 use Rattle.notes.proofs.Alike.{grown-roomy}
-use Rattle.cost_words.specs.Words.{branch}
 use Rattle.cost_words.proofs.Packing.{int-zero}
 use Rattle.cost_notes.proofs.Remembering.{noted-none}
 use Rattle.cost_engine.proofs.Walking.{start, joint-start, joinable-plain, joint-cleared}
 use borrow.Author.Needs.{needs}
 use Rattle.cost_engine.proofs.join_costs.Statement.{statement}
 use Rattle.cost_engine.proofs.join_costs.Tie as tie
+use Rattle.promises.specs.CostWords.{costBranch as branch}
 
 clear-requires : tie.Need-clear-requires
 clear-requires c κs = search needs

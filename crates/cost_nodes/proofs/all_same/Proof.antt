@@ -1,5 +1,4 @@
 -- `cost_nodes::all_same` meets its contract: in the loop the first v targets and added words of the body equal the first. Assumes nothing.
-use Rattle.cost_words.specs.Words.{goes as goesAt, added}
 use Rattle.words.specs.Words.{listed}
 use borrow.Author.Count.{below-more}
 use native.Mathlib.Omega.{arith}
@@ -8,6 +7,7 @@ use mathlib.Core.Path.{_≡_, sym, _∙_}
 use borrow.Author.Needs.{needs}
 use Rattle.cost_nodes.proofs.all_same.Statement.{statement}
 use Rattle.cost_nodes.proofs.all_same.Tie as tie
+use Rattle.promises.specs.CostWords.{goes as goesAt, added}
 
 abbrev Inv-loop : tie.InvT-loop
 Inv-loop m list goes adds v₀ v = (v ≤ m) × (goes ≡ goesAt (listed list) 0) × (adds ≡ listed list 4) × ((u : ℕ) → u < v → goesAt (listed list) u ≡ goesAt (listed list) 0) × ((u : ℕ) → u < v → added (listed list) u ≡ listed list 4)

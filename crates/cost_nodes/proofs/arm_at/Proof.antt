@@ -1,11 +1,11 @@
 -- `cost_nodes::arm_at` meets its contract: a node of feature k goes to its branch, any other target waits. Assumes nothing.
-use Rattle.cost_words.specs.Words.{branch}
 use mathlib.Core.Path.{sym, ap₂, _∙_}
 use native.Mathlib.Omega.{arith}
 use Rattle.cost_nodes.proofs.Stepping.{good-small, is-node, arm-here, arm-skip}
 use borrow.Author.Needs.{needs}
 use Rattle.cost_nodes.proofs.arm_at.Statement.{statement}
 use Rattle.cost_nodes.proofs.arm_at.Tie as tie
+use Rattle.promises.specs.CostWords.{costBranch as branch}
 
 top-of-requires : tie.Need-top-of-requires
 top-of-requires c κs = ((c .before) .pre .0 .holds .laid .laid, good-small _ _ _ ((c .before) .pre .0 .good))

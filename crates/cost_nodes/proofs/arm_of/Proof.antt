@@ -1,8 +1,8 @@
 -- `cost_nodes::arm_of` meets its contract: its words are those of the place. Assumes nothing.
-use Rattle.cost_words.specs.Words.{branch}
 use borrow.Author.Needs.{needs}
 use Rattle.cost_nodes.proofs.arm_of.Statement.{statement}
 use Rattle.cost_nodes.proofs.arm_of.Tie as tie
+use Rattle.promises.specs.CostWords.{costBranch as branch}
 
 root-word-requires : tie.Need-root-word-requires
 root-word-requires c κs = search needs

@@ -1,5 +1,4 @@
 -- `cost_nodes::lowered` meets its contract: in the loop the first v are lowered, and the others are 0. Assumes nothing.
-use Rattle.cost_laws.specs.Integers.{int}
 use Rattle.words.specs.Words.{listed}
 use Rattle.words.proofs.Tab.{same}
 use lib.IntN.{_-ℤ_}
@@ -12,6 +11,7 @@ use mathlib.Core.Path.{_≡_, refl, ap, _∙_}
 use borrow.Author.Needs.{needs}
 use Rattle.cost_nodes.proofs.lowered.Statement.{statement}
 use Rattle.cost_nodes.proofs.lowered.Tie as tie
+use Rattle.promises.specs.Integers.{int}
 
 abbrev Inv-loop : tie.InvT-loop
 Inv-loop m adds list₀ v₀ list v = (length list ≡ 8) × (v ≤ m) × ((u : ℕ) → u < v → int (listed list u) ≡ int (listed adds u) -ℤ int (listed adds 0)) × ((u : ℕ) → v ≤ u → u < 8 → listed list u ≡ 0)

@@ -4,10 +4,10 @@ use Prim.Native.Nat.{ℕ, _+_}
 use native.Mathlib.Omega.{arith}
 use Rattle.cost_nodes.proofs.Making.{found-at, found-missing, small-target, levelled, bodied, made-new, made-none, made-there}
 use Rattle.cost_nodes.specs.Nodes.{Lowered}
-use Rattle.words.specs.Words.{size, count}
 use borrow.Author.Needs.{needs}
 use Rattle.cost_nodes.proofs.make.Statement.{statement}
 use Rattle.cost_nodes.proofs.make.Tie as tie
+use Rattle.promises.specs.Words.{size, count}
 
 add-head-word : tie.Need-add-head-word
 add-head-word c = search needs

@@ -7,9 +7,9 @@ use mathlib.Core.Path.{_∙_, ap}
 use Rattle.theory.specs.Costs.{costs}
 use Rattle.theory.specs.Diagrams.{Node}
 use Rattle.cost_laws.specs.Relative.{branchAt}
-use Rattle.cost_words.specs.Words.{target}
 use Rattle.cost_notes.proofs.arm_in.Statement.{statement}
 use Rattle.cost_notes.proofs.arm_in.Tie as tie
+use Rattle.promises.specs.CostWords.{target}
 
 arm-at-requires : tie.Need-arm-at-requires
 arm-at-requires c κs = let a = (c .before) in

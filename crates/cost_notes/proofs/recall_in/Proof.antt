@@ -3,10 +3,10 @@ use Rattle.cost_notes.proofs.Remembering.{recalls-far, recalls-scratch}
 use native.Mathlib.Omega.{arith}
 use Prim.Native.Nat.{ℕ, _+_, _*_, _-_}
 use mathlib.Core.Path.{_≡_, refl, ap, _∙_}
-use Rattle.words.specs.Words.{capacity}
 use borrow.Author.Needs.{needs}
 use Rattle.cost_notes.proofs.recall_in.Statement.{statement}
 use Rattle.cost_notes.proofs.recall_in.Tie as tie
+use Rattle.promises.specs.Words.{capacity}
 
 head-word-requires : tie.Need-head-word-requires
 head-word-requires c κs = search needs

@@ -4,7 +4,6 @@ use mathlib.Core.Bool.{true, false}
 use Prim.Native.Nat.{ℕ, _+_, _-_, _*_, _≤_, _<_}
 use native.Mathlib.Omega.{arith}
 use lib.ListN.{length, drop}
-use Rattle.words.specs.Words.{features, size, sizes}
 use Rattle.notes.specs.Plain.{plain}
 use Rattle.cost_notes.proofs.Reading.{plain-head}
 use Rattle.cost_nodes.proofs.Stepping.{good-small}
@@ -43,6 +42,7 @@ use Rattle.words.proofs.narrow.Reads as narrow-reads
 use Rattle.words.proofs.wide.Reads as wide-reads
 use Rattle.cost_range.proofs.+branch_ends+fold_branches+rest_ends.{statement}
 use Rattle.cost_range.proofs.+branch_ends+fold_branches+rest_ends.Tie.{close}
+use Rattle.promises.specs.Words.{features, size, sizes}
 
 abbrev μ-branch-ends : Measures 2 branch-ends-kinds.ps ℕ
 μ-branch-ends κs a = 3 * (features (plain (a .0 .now)) - a .1 .1 .1 .0) + 1

@@ -1,13 +1,13 @@
 -- `cost_range::in_range` meets its contract: each operator in turn. Assumes nothing.
 use mathlib.Core.Path.{refl}
 use mathlib.Core.Bool.{true}
-use Rattle.cost_words.specs.Words.{branch, nodes}
 use Rattle.theory.specs.Diagrams.{meaning}
 use Rattle.cost_laws.proofs.Range.{smaller-within, larger-within}
 use Rattle.cost_range.proofs.Ranging.{factor-fits, told}
 use borrow.Author.Needs.{needs}
 use Rattle.cost_range.proofs.in_range.Statement.{statement}
 use Rattle.cost_range.proofs.in_range.Tie as tie
+use Rattle.promises.specs.CostWords.{costBranch as branch, costNodes as nodes}
 
 enum-told : tie.Need-enum-told
 enum-told c = search needs

@@ -1,10 +1,10 @@
 -- `cost_range::product_ok` meets its contract: the distances are multiplied. Assumes nothing.
-use Rattle.cost_laws.specs.Integers.{int}
 use Rattle.cost_range.proofs.Ranging.{far-small, product-tells}
 use native.Mathlib.Omega.{arith}
 use borrow.Author.Needs.{needs}
 use Rattle.cost_range.proofs.product_ok.Statement.{statement}
 use Rattle.cost_range.proofs.product_ok.Tie as tie
+use Rattle.promises.specs.Integers.{int}
 
 distance-requires : tie.Need-distance-requires
 distance-requires c κs = search needs

@@ -1,11 +1,11 @@
 -- `cost_range::scaled_ok` meets its contract: a scaled cost is in range exactly if its scaled ends are. Assumes nothing.
 use Rattle.settings.proofs.Answers.{denied, granted, retell}
-use Rattle.cost_laws.specs.Integers.{int}
 use Rattle.cost_nodes.proofs.Reading.{pos-from}
 use Rattle.cost_range.proofs.Ranging.{low-fits, high-fits, scaled-ends, scaled-low, scaled-high}
 use borrow.Author.Needs.{needs}
 use Rattle.cost_range.proofs.scaled_ok.Statement.{statement}
 use Rattle.cost_range.proofs.scaled_ok.Tie as tie
+use Rattle.promises.specs.Integers.{int}
 
 span-of-requires : tie.Need-span-of-requires
 span-of-requires c κs = search needs

@@ -1,12 +1,12 @@
 -- `cost_range::tied_word` meets its contract: the difference or the sum. Assumes nothing.
 use Rattle.cost_range.specs.Ends.{tieOf}
 use Rattle.cost_words.specs.Sums.{Stands}
-use Rattle.cost_laws.specs.Integers.{int}
 use mathlib.Core.Bool.{Bool}
 use mathlib.Core.Path.{sym, subst}
 use borrow.Author.Needs.{needs}
 use Rattle.cost_range.proofs.tied_word.Statement.{statement}
 use Rattle.cost_range.proofs.tied_word.Tie as tie
+use Rattle.promises.specs.Integers.{int}
 
 difference-or-lost-requires : tie.Need-difference-or-lost-requires
 difference-or-lost-requires c κs = search needs

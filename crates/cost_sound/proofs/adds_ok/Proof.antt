@@ -1,9 +1,5 @@
 -- `cost_sound::adds_ok` meets its contract: each added integer passed lies within bounds. Assumes nothing.
-use Rattle.cost_words.specs.Words.{added}
-use Rattle.words.specs.Words.{feature, size, body}
 use Rattle.cost_laws.proofs.Words.{fit-words, words-fit}
-use Rattle.cost_laws.specs.Range.{addMost}
-use Rattle.cost_laws.specs.Integers.{Fit, bias, int}
 use borrow.Author.Count.{below-more}
 use native.Mathlib.Omega.{arith}
 use Prim.Native.Nat.{ℕ, _-_, _≤_, _<_}
@@ -11,6 +7,10 @@ use mathlib.Core.Path.{_≡_, sym, ap, _∙_}
 use borrow.Author.Needs.{needs}
 use Rattle.cost_sound.proofs.adds_ok.Statement.{statement}
 use Rattle.cost_sound.proofs.adds_ok.Tie as tie
+use Rattle.promises.specs.CostWords.{added}
+use Rattle.promises.specs.Words.{feature, size, body}
+use Rattle.promises.specs.Range.{addMost}
+use Rattle.promises.specs.Integers.{Fit, bias, int}
 
 abbrev Inv-loop : tie.InvT-loop
 Inv-loop t i s v₀ v = (added (body t i) 0 ≡ bias) × (s ≡ size t (feature t i)) × (v ≤ s) × ((x : ℕ) → x < v → Fit addMost (int (added (body t i) x)))

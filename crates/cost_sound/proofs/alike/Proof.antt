@@ -1,7 +1,4 @@
 -- `cost_sound::alike` meets its contract: each branch passed goes where branch 0 goes and adds 0. Assumes nothing.
-use Rattle.cost_words.specs.Words.{goes, added}
-use Rattle.words.specs.Words.{feature, size, body}
-use Rattle.cost_laws.specs.Integers.{bias}
 use borrow.Author.Count.{below-more}
 use native.Mathlib.Omega.{arith}
 use Prim.Native.Nat.{ℕ, _-_, _≤_, _<_}
@@ -9,6 +6,9 @@ use mathlib.Core.Path.{_≡_, sym, ap, _∙_}
 use borrow.Author.Needs.{needs}
 use Rattle.cost_sound.proofs.alike.Statement.{statement}
 use Rattle.cost_sound.proofs.alike.Tie as tie
+use Rattle.promises.specs.CostWords.{goes, added}
+use Rattle.promises.specs.Words.{feature, size, body}
+use Rattle.promises.specs.Integers.{bias}
 
 abbrev Inv-loop : tie.InvT-loop
 Inv-loop t i s first v₀ v = (s ≡ size t (feature t i)) × (v ≤ s) × (first ≡ goes (body t i) 0) × ((x : ℕ) → x < v → goes (body t i) x ≡ goes (body t i) 0) × ((x : ℕ) → x < v → added (body t i) x ≡ bias)

@@ -1,6 +1,4 @@
 -- `cost_sound::node_ok` meets its contract: each test is one field of the record. Assumes nothing.
-use Rattle.cost_words.specs.Words.{Padded}
-use Rattle.words.specs.Words.{feature, size, body}
 use Rattle.settings.proofs.Answers.{sure, sure-not, granted, denied, retell}
 use native.Mathlib.Omega.{arith}
 use Prim.Native.Nat.{ℕ}
@@ -8,6 +6,8 @@ use mathlib.Core.Path.{_≡_, sym, ap, subst, _∙_}
 use borrow.Author.Needs.{needs}
 use Rattle.cost_sound.proofs.node_ok.Statement.{statement}
 use Rattle.cost_sound.proofs.node_ok.Tie as tie
+use Rattle.promises.specs.CostWords.{Padded}
+use Rattle.promises.specs.Words.{feature, size, body}
 
 record-word-requires : tie.Need-record-word-requires
 record-word-requires c κs = search needs

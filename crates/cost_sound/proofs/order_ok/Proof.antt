@@ -1,8 +1,6 @@
 -- `cost_sound::order_ok` meets its contract: the walk from the roots passed meets its nodes in turn. Assumes nothing.
 use Rattle.checks.proofs.Walking.{Walk, walk-none, walk-more, walk-lost, order-lost, order-tells}
 use Rattle.cost_sound.proofs.Walking.{says-root, roots-are}
-use Rattle.cost_words.specs.Words.{nodes, rootAt}
-use Rattle.words.specs.Words.{count, sizes}
 use Rattle.theory.specs.Walk.{scan}
 use native.Mathlib.Omega.{arith}
 use Prim.Native.Nat.{_-_, _≤_}
@@ -10,6 +8,8 @@ use mathlib.Core.Path.{_∙_}
 use borrow.Author.Needs.{needs}
 use Rattle.cost_sound.proofs.order_ok.Statement.{statement}
 use Rattle.cost_sound.proofs.order_ok.Tie as tie
+use Rattle.promises.specs.CostWords.{costNodes as nodes, rootAt}
+use Rattle.promises.specs.Words.{count, sizes}
 
 abbrev Inv-loop : tie.InvT-loop
 Inv-loop t d₀ p₀ d p = (p ≤ 16) × Walk (scan (nodes t) 0 (sizes t)) (rootAt t) (count t) 0 p d

@@ -1,7 +1,5 @@
 -- `cost_sound::padded_ok` meets its contract: the targets and added words passed are 0. Assumes nothing.
-use Rattle.cost_words.specs.Words.{goes, added}
 use Rattle.words.proofs.Tab.{same}
-use Rattle.words.specs.Words.{body}
 use native.Mathlib.Omega.{arith}
 use Prim.Native.Nat.{ℕ, _-_, _≤_, _<_}
 use mathlib.Core.Logic.{⊎-elim}
@@ -9,6 +7,8 @@ use mathlib.Core.Path.{_≡_, sym, _∙_}
 use borrow.Author.Needs.{needs}
 use Rattle.cost_sound.proofs.padded_ok.Statement.{statement}
 use Rattle.cost_sound.proofs.padded_ok.Tie as tie
+use Rattle.promises.specs.CostWords.{goes, added}
+use Rattle.promises.specs.Words.{body}
 
 abbrev Inv-loop : tie.InvT-loop
 Inv-loop t i s v₀ v = (s ≤ v) × (v ≤ 8) × ((x : ℕ) → s ≤ x → x < v → goes (body t i) x ≡ 0) × ((x : ℕ) → s ≤ x → x < v → added (body t i) x ≡ 0)

@@ -1,12 +1,12 @@
 -- `cost_sound::sound` meets its contract: each test is one field of the record, in its order. Assumes nothing.
 use Rattle.cost_sound.proofs.Ranging.{passes-no, passes-yes}
 use Rattle.cost_sound.specs.Paired.{Shaped}
-use Rattle.cost_words.specs.Kept.{Pairs}
 use Rattle.settings.proofs.Answers.{granted, denied, retell}
 use Rattle.checks.proofs.Framing.{framed}
 use borrow.Author.Needs.{needs}
 use Rattle.cost_sound.proofs.sound.Statement.{statement}
 use Rattle.cost_sound.proofs.sound.Tie as tie
+use Rattle.promises.specs.CostSound.{Pairs}
 
 header-ok-requires : tie.Need-header-ok-requires
 header-ok-requires c κs = search needs

@@ -1,11 +1,11 @@
 -- `cost_words::adds_at` meets its contract: the added words follow the four words of targets. Assumes nothing.
-use Rattle.words.specs.Words.{word}
 use native.Mathlib.Omega.{arith}
 use Prim.Native.Nat.{_+_}
 use mathlib.Core.Path.{_≡_, ap, _∙_}
 use borrow.Author.Needs.{needs}
 use Rattle.cost_words.proofs.adds_at.Statement.{statement}
 use Rattle.cost_words.proofs.adds_at.Tie as tie
+use Rattle.promises.specs.Words.{word}
 
 add-record-word : tie.Need-add-record-word
 add-record-word c = search needs

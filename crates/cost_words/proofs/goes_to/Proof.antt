@@ -1,10 +1,10 @@
 -- `cost_words::goes_to` meets its contract: a half of a body word. Assumes nothing.
-use Rattle.cost_words.specs.Words.{half}
 use Prim.Native.Nat.{ℕ}
 use mathlib.Core.Path.{ap, _∙_}
 use borrow.Author.Needs.{needs}
 use Rattle.cost_words.proofs.goes_to.Statement.{statement}
 use Rattle.cost_words.proofs.goes_to.Tie as tie
+use Rattle.promises.specs.CostWords.{half}
 
 add-record-word : tie.Need-add-record-word
 add-record-word c = search needs

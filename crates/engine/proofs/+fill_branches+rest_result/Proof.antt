@@ -13,7 +13,6 @@ use Rattle.rule_nodes.proofs.Reading.{good-small}
 use Rattle.rule_nodes.specs.Nodes.{Filling, Result}
 use Rattle.rule_nodes.specs.declared.Answer.the-variants.{Is}
 use Rattle.words.proofs.Words.{kept-features, kept-size}
-use Rattle.words.specs.Words.{features, size}
 use lib.ListN.{length, getD-replicate}
 use native.Mathlib.Omega.{arith}
 use Prim.Native.Nat.{ℕ, _+_, _-_, _*_, _≤_, _<_}
@@ -39,6 +38,7 @@ use Rattle.words.proofs.head_word.Reads as head-word-reads
 use Rattle.words.proofs.wide.Reads as wide-reads
 use Rattle.engine.proofs.+fill_branches+rest_result.{statement}
 use Rattle.engine.proofs.+fill_branches+rest_result.Tie.{close}
+use Rattle.promises.specs.Words.{features, size}
 
 abbrev μ-fill-branches : Measures 2 fill-branches-kinds.ps ℕ
 μ-fill-branches κs a = 2 * (features (plain (a .0 .now)) - a .1 .1 .1 .1 .1 .0) - 1

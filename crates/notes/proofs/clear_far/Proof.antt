@@ -1,12 +1,12 @@
 -- `notes::clear_far` meets its contract: the far records, lent as a part, are made 0. Assumes nothing.
 use Rattle.notes.proofs.Far.{cleared-far}
-use Rattle.words.specs.Words.{capacity}
 use native.Mathlib.Omega.{arith}
 use Prim.Native.Nat.{ℕ, _+_, _*_, _-_}
 use mathlib.Core.Path.{_≡_, refl, ap, _∙_}
 use borrow.Author.Needs.{needs}
 use Rattle.notes.proofs.clear_far.Statement.{statement}
 use Rattle.notes.proofs.clear_far.Tie as tie
+use Rattle.promises.specs.Words.{capacity}
 
 head-word-requires : tie.Need-head-word-requires
 head-word-requires c κs = search needs

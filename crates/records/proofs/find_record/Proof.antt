@@ -1,13 +1,14 @@
 -- `records::find_record` meets its contract: in the loop no record from c on is the one searched, and the chain goes on at c. Assumes nothing.
 use Rattle.records.proofs.Searching.{Searched, search-start, search-next, search-less, search-found, search-none}
 use Rattle.settings.proofs.Answers.{sure, sure-not}
-use Rattle.words.specs.Words.{listed, link, bucket, hashOf}
+use Rattle.words.specs.Words.{listed}
 use native.Mathlib.Omega.{arith}
 use Prim.Native.Nat.{_-_}
 use mathlib.Core.Path.{_≡_, ap, _∙_}
 use borrow.Author.Needs.{needs}
 use Rattle.records.proofs.find_record.Statement.{statement}
 use Rattle.records.proofs.find_record.Tie as tie
+use Rattle.promises.specs.Words.{link, bucket, hashOf}
 
 abbrev Inv-loop : tie.InvT-loop
 Inv-loop t k list h c₀ c = Searched t k list c

@@ -1,6 +1,5 @@
 -- `records::pop` meets its contract: in the loop the first v words of the record are 0, all other words are as after the chain head's store. Assumes nothing.
 use Rattle.records.proofs.Writing.{zero-more, popped}
-use Rattle.words.specs.Words.{count}
 use lib.Seq.{getD-set-other}
 use lib.ListN.{length, getD, length-set}
 use native.Mathlib.Omega.{arith}
@@ -9,6 +8,7 @@ use mathlib.Core.Path.{_≡_, ap, _∙_}
 use borrow.Author.Needs.{needs}
 use Rattle.records.proofs.pop.Statement.{statement}
 use Rattle.records.proofs.pop.Tie as tie
+use Rattle.promises.specs.Words.{count}
 
 abbrev Inv-loop : tie.InvT-loop
 Inv-loop t₀ i h next base v₀ t v =

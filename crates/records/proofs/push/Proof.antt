@@ -1,6 +1,5 @@
 -- `records::push` meets its contract: in the loop the first v words of the list stand in the body, all other words are as after the feature's store. Assumes nothing.
 use Rattle.records.proofs.Writing.{run-more, pushed}
-use Rattle.words.specs.Words.{count}
 use lib.Seq.{getD-set-other}
 use lib.ListN.{length, getD, length-set}
 use native.Mathlib.Omega.{arith}
@@ -9,6 +8,7 @@ use mathlib.Core.Path.{_≡_, _∙_}
 use borrow.Author.Needs.{needs}
 use Rattle.records.proofs.push.Statement.{statement}
 use Rattle.records.proofs.push.Tie as tie
+use Rattle.promises.specs.Words.{count}
 
 abbrev Inv-loop : tie.InvT-loop
 Inv-loop t₀ k x y list i h next more base v₀ t v =

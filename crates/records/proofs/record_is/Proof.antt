@@ -1,5 +1,4 @@
 -- `records::record_is` meets its contract: in the loop the first v words of the body are the list's. Assumes nothing.
-use Rattle.words.specs.Words.{body}
 use borrow.Author.Count.{below-more}
 use lib.ListN.{getD}
 use native.Mathlib.Omega.{arith}
@@ -8,6 +7,7 @@ use mathlib.Core.Path.{_≡_, sym, _∙_}
 use borrow.Author.Needs.{needs}
 use Rattle.records.proofs.record_is.Statement.{statement}
 use Rattle.records.proofs.record_is.Tie as tie
+use Rattle.promises.specs.Words.{body}
 
 abbrev Inv-loop : tie.InvT-loop
 Inv-loop t i k list v₀ v = (v ≤ 12) × ((u : ℕ) → u < v → body t i u ≡ getD list u 0)

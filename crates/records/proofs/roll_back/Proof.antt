@@ -1,13 +1,13 @@
 -- `records::roll_back` meets its contract: in the loop the records from m on are taken away. Assumes nothing.
 use Rattle.records.proofs.Undoing.{roll-none, roll-more}
 use Rattle.records.specs.Changes.{Rolled}
-use Rattle.words.specs.Words.{count}
 use native.Mathlib.Omega.{arith}
 use Prim.Native.Nat.{_≤_}
 use mathlib.Core.Path.{_≡_, _∙_}
 use borrow.Author.Needs.{needs}
 use Rattle.records.proofs.roll_back.Statement.{statement}
 use Rattle.records.proofs.roll_back.Tie as tie
+use Rattle.promises.specs.Words.{count}
 
 abbrev Inv-loop : tie.InvT-loop
 Inv-loop t₀ n m₀ t m = (n ≤ m) × (Rolled t₀ t m)

@@ -5,7 +5,6 @@ use Rattle.rule_words.proofs.Reading.{faithful}
 use Rattle.sweep.specs.Collecting.{Moving}
 use Rattle.sweep.proofs.Copying.{marked-small, done-small, moved-marked, spare-for, moved-new}
 use Rattle.sweep.proofs.Framing.{few, known, value-small, still-good}
-use Rattle.words.specs.Words.{size, feature}
 use lib.ListN.{length, length-set, getD-replicate}
 use native.Mathlib.Numerals.{add-one}
 use native.Mathlib.Omega.{arith}
@@ -27,6 +26,7 @@ use Rattle.words.proofs.record_word.Reads as record-word-reads
 use Rattle.words.proofs.wide.Reads as wide-reads
 use Rattle.rule_collect.proofs.+copy_branch+copy_list.{statement}
 use Rattle.rule_collect.proofs.+copy_branch+copy_list.Tie.{close}
+use Rattle.promises.specs.Words.{size, feature}
 
 abbrev μ-copy-branch : Measures 1 copy-branch-kinds.ps ℕ
 μ-copy-branch κs a = 2 * a .1 .0 + 1

@@ -1,5 +1,5 @@
 -- `rule_lending::root_of` meets its contract: the root word of a sound table is a branch word of it. Assumes nothing.
-use Rattle.rule_lending.proofs.Lending.{lent-roots}
+use Rattle.rule_lending.proofs.Inside.{lent-roots}
 use borrow.Author.Needs.{needs}
 use Rattle.rule_lending.proofs.root_of.Statement.{statement}
 use Rattle.rule_lending.proofs.root_of.Tie as tie

@@ -1,5 +1,5 @@
 -- `rule_lending::top_at` meets its contract: the features below the top of a branch are not tested. Assumes nothing.
-use Rattle.rule_lending.proofs.Lending.{lends-asks, lent-tops}
+use Rattle.rule_lending.proofs.Inside.{lends-asks, lent-tops}
 use Rattle.rule_lending.proofs.top_at.Statement.{statement}
 use Rattle.rule_lending.proofs.top_at.Tie as tie
 

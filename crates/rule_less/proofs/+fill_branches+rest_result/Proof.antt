@@ -2,18 +2,18 @@
 use mathlib.Core.Path.{_≡_, refl, _∙_}
 use Prim.Native.Nat.{ℕ, _-_, _*_, _≤_, _<_}
 use native.Mathlib.Omega.{arith}
+use lib.IntN.{pos}
 use lib.ListN.{length, getD-replicate}
-use Rattle.words.specs.Words.{features, size}
-use Rattle.words.proofs.Words.{kept-features}
+use lib.Signed.{ltZ}
 use Rattle.cost_memory.specs.Memory.{Remembers}
 use Rattle.cost_nodes.specs.Nodes.{top}
 use Rattle.cost_nodes.proofs.Stepping.{good-small}
-use Rattle.rule_nodes.specs.Nodes.{Filling}
-use Rattle.rule_nodes.proofs.Filling.{gives-is, gives-none, fill-start, fill-more, fill-stop, stop-result, fill-listed, fill-make, filled, not-filled}
+use Rattle.rule_lending.specs.Building.{Filling}
+use Rattle.rule_lending.proofs.Building.{result-is, result-none, filling-ready, filling-long, fill-start, fill-more, fill-stop, stop-result, fill-listed, fill-make, filled, not-filled}
 use Rattle.rule_less.specs.Less.{lessFrom}
 use Rattle.calls.proofs.Lists.{as-long, as-large}
 use Rattle.rule_less.specs.Memory.{Recalled}
-use Rattle.rule_less.proofs.Walking.{beside-grown, first-place, second-place, onward-word, still-left, less-equal, skip-left, operands-skip, less-skip, sum-fits, onward-fits, operands-step, less-held}
+use Rattle.rule_less.proofs.Walking.{beside-grown, first-place, second-place, bit-small, onward-word, still-left, less-equal, skip-left, operands-skip, less-skip, sum-fits, onward-fits, operands-step, less-held}
 use Rattle.rule_less.proofs.Recalling.{hit, remembers-made, remembers-result, still, still-if}
 use borrow.Author.Needs.{needs}
 use borrow.Fn.Kinds.{In}
@@ -31,12 +31,15 @@ use Rattle.cost_nodes.proofs.top_of.Reads as top-of-reads
 use Rattle.cost_words.proofs.difference_word.Reads as difference-word-reads
 use Rattle.cost_words.proofs.sum_word.Reads as sum-word-reads
 use Rattle.rule_less.proofs.above_zero.Reads as above-zero-reads
-use Rattle.rule_nodes.proofs.make.Reads as make-reads
+use Rattle.rule_lending.proofs.branch_of.Reads as branch-of-reads
+use Rattle.rule_lending.proofs.make.Reads as make-reads
 use Rattle.words.proofs.head_word.Reads as head-word-reads
 use Rattle.words.proofs.narrow.Reads as narrow-reads
 use Rattle.words.proofs.wide.Reads as wide-reads
 use Rattle.rule_less.proofs.+fill_branches+rest_result.{statement}
 use Rattle.rule_less.proofs.+fill_branches+rest_result.Tie.{close}
+use Rattle.promises.specs.Integers.{int}
+use Rattle.promises.specs.Words.{features, size}
 
 abbrev μ-fill-branches : Measures 3 fill-branches-kinds.ps ℕ
 μ-fill-branches κs a = 2 * (features (a .0 .now) - a .1 .1 .1 .0) - 1
@@ -65,7 +68,7 @@ rest-result-below t =
     and 3 rest-result-kinds.ps (falls 3 rest-result-kinds.ps _<_ μ-rest-result t) rest-result.Pre
 
 abbrev fill-branches-Inv-loop : fill-branches-lts.InvT-loop
-fill-branches-Inv-loop c t₀ s₀ k x y d m list₀ v₀ t s list v = (m ≡ size t₀ k) × (m ≡ size c k) × (v ≤ m) × Filling t₀ t k (lessFrom c k x y d) v list × Remembers (Recalled c t) s × (length s ≡ length s₀)
+fill-branches-Inv-loop c t₀ s₀ k x y d m list₀ v₀ t s list v = (m ≡ size t₀ k) × (m ≡ size c k) × (v ≤ m) × Filling t₀ t k (lessFrom c k x y d) v list × Remembers (Recalled c t) s × (length t ≡ length t₀) × (length s ≡ length s₀)
 
 abbrev fill-branches-μ-loop : fill-branches-lts.MeasureT-loop
 fill-branches-μ-loop c t₀ s₀ k x y d m list₀ v₀ t s list v = m - v
@@ -74,7 +77,7 @@ abbrev fill-branches-claims : ℕ → fill-branches-lts.Claims
 fill-branches-claims t = (head-word-reads.Asked, head-word-reads.Learnt, wide-reads.Asked, wide-reads.Learnt, arm-at-reads.Asked, arm-at-reads.Learnt, sum-word-reads.Asked, sum-word-reads.Learnt, difference-word-reads.Asked, difference-word-reads.Learnt, rest-result-below t, rest-result.Post)
 
 abbrev rest-result-claims : ℕ → rest-result-lts.Claims
-rest-result-claims t = (above-zero-reads.Asked, above-zero-reads.Learnt, top-of-reads.Asked, top-of-reads.Learnt, rest-result-below t, rest-result.Post, narrow-reads.Asked, narrow-reads.Learnt, recall-reads.Asked, recall-reads.Learnt, fill-branches-below t, fill-branches.Post, make-reads.Asked, make-reads.Learnt, remember-reads.Asked, remember-reads.Learnt)
+rest-result-claims t = (above-zero-reads.Asked, above-zero-reads.Learnt, branch-of-reads.Asked, branch-of-reads.Learnt, top-of-reads.Asked, top-of-reads.Learnt, rest-result-below t, rest-result.Post, narrow-reads.Asked, narrow-reads.Learnt, recall-reads.Asked, recall-reads.Learnt, fill-branches-below t, fill-branches.Post, make-reads.Asked, make-reads.Learnt, remember-reads.Asked, remember-reads.Learnt)
 
 fill-branches-add-head-word : (t : ℕ) → fill-branches-lts.Need-add-head-word (fill-branches-claims t) (fill-branches-at t) fill-branches.Post fill-branches-Inv-loop fill-branches-μ-loop
 fill-branches-add-head-word t c = search needs
@@ -89,7 +92,7 @@ fill-branches-loop-holds : (t : ℕ) → fill-branches-lts.Need-loop-holds (fill
 fill-branches-loop-holds t c = let a = (c .before .before .before .before .before) in
     let e : (c .wide) .result ≡ size (a .args .c .now) (a .args .k) = (c .wide) .ensures .0 ∙ (c .before .head-word) .ensures in
     let n = as-long _ _ (a .pre .1 .1 .same) in
-    (omega (arith, as-large _ _ (a .pre .1 .1 .same) (a .args .k) (omega (arith, n, a .pre .1 .3)) (a .pre .1 .3)), e, omega arith, fill-start _ (a .args .k) _ (a .pre .1 .1 .holds) (omega (arith, n, a .pre .1 .3)) _ refl (λ u h. getD-replicate 12 u 0 0 h), a .pre .1 .2, refl)
+    (omega (arith, as-large _ _ (a .pre .1 .1 .same) (a .args .k) (omega (arith, n, a .pre .1 .3)) (a .pre .1 .3)), e, omega arith, fill-start (a .pre .1 .1 .ready) (omega (arith, n, a .pre .1 .3)) _ refl (λ u h. getD-replicate 12 u 0 0 h), a .pre .1 .2, refl, refl)
 
 fill-branches-arm-at-requires : (t : ℕ) → fill-branches-lts.Need-arm-at-requires (fill-branches-claims t) (fill-branches-at t) fill-branches.Post fill-branches-Inv-loop fill-branches-μ-loop
 fill-branches-arm-at-requires t c κs = let a = (c .before .before .before .before .before .before .before) in
@@ -119,7 +122,7 @@ fill-branches-rest-result-requires t c κs = let a = (c .before .before .before 
     let hk = a .pre .1 .3 in
     let hv : l .v < size (a .args .c .now) (a .args .k) = omega (arith, l .inv .1, (c .before .before .before .before .before .before .loop-test)) in
     let g = onward-word _ _ _ _ _ ((c .before .before .before .sum-word) .ensures) ((c .before .before .difference-word) .ensures) in
-    (omega arith, (operands-step _ _ _ _ _ (a .pre .1 .0) hk (l .v) _ _ _ _ hv ((c .before .before .before .before .before .arm-at) .ensures) ((c .before .before .before .before .arm-at2) .ensures) _ g, beside-grown _ _ (a .pre .1 .1) _ (fl .filled .grown .well) (fl .filled .grown .kept), l .inv .4))
+    (omega arith, (operands-step _ _ _ _ _ (a .pre .1 .0) hk (l .v) _ _ _ _ hv ((c .before .before .before .before .before .arm-at) .ensures) ((c .before .before .before .before .arm-at2) .ensures) _ g, beside-grown (a .pre .1 .1) fl, l .inv .4))
 
 fill-branches-enum-known-z : (t : ℕ) → fill-branches-lts.Need-enum-known-z (fill-branches-claims t) (fill-branches-at t) fill-branches.Post fill-branches-Inv-loop fill-branches-μ-loop
 fill-branches-enum-known-z t c = search needs
@@ -139,7 +142,7 @@ fill-branches-returns t c = let a = (c .before .before .before .before .before .
     let hv : l .v < size (a .args .c .now) (a .args .k) = omega (arith, l .inv .1, (c .before .before .before .before .before .before .before .before .before .before .before .before .before .loop-test)) in
     let g = onward-word _ _ _ _ _ ((c .before .before .before .before .before .before .before .before .before .before .sum-word) .ensures) ((c .before .before .before .before .before .before .before .before .before .difference-word) .ensures) in
     let n = as-long _ _ (a .pre .1 .1 .same) in (
-      fill-stop (a .args .t .now) (a .args .k) _ (a .pre .1 .1 .holds) (omega (arith, n, a .pre .1 .3)) (l .t) _ (l .v) (l .list) _ _ (l .inv .3) (omega (arith, l .inv .0, (c .before .before .before .before .before .before .before .before .before .before .before .before .before .loop-test)))
+      fill-stop (a .pre .1 .1 .ready) (omega (arith, n, a .pre .1 .3)) ((c .before .before .before .before .before .before .rest-result) .result) (l .inv .3) (omega (arith, l .inv .0, (c .before .before .before .before .before .before .before .before .before .before .before .before .before .loop-test)))
           (less-held _ _ _ _ _ (a .pre .1 .0) (a .pre .1 .3) (l .v) _ _ _ _ hv ((c .before .before .before .before .before .before .before .before .before .before .before .before .arm-at) .ensures) ((c .before .before .before .before .before .before .before .before .before .before .before .arm-at2) .ensures) _ g)
           ((c .before .before .before .before .before .before .rest-result) .ensures .0) ((c .enum-told) .given .1),
       tt,
@@ -150,7 +153,7 @@ fill-branches-mul-list t c = search needs
 
 fill-branches-array-write-list : (t : ℕ) → fill-branches-lts.Need-array-write-list (fill-branches-claims t) (fill-branches-at t) fill-branches.Post fill-branches-Inv-loop fill-branches-μ-loop
 fill-branches-array-write-list t c = let a = (c .before .before .before .before .before .before .before .before .before .before .before .before .before .before .before .before .before .before .before .before .before) in
-    omega (arith, a .pre .1 .0 .holds .laid .laid .large (a .args .k) (a .pre .1 .3), (c .before .before .before .before .before .before .before .before .before .before .before .before .before .before .before .loop) .inv .1, (c .before .before .before .before .before .before .before .before .before .before .before .before .before .before .before .loop) .inv .3 .long, (c .before .before .before .before .before .before .before .before .before .before .before .before .before .before .loop-test))
+    omega (arith, a .pre .1 .0 .holds .laid .laid .large (a .args .k) (a .pre .1 .3), (c .before .before .before .before .before .before .before .before .before .before .before .before .before .before .before .loop) .inv .1, filling-long ((c .before .before .before .before .before .before .before .before .before .before .before .before .before .before .before .loop) .inv .3), (c .before .before .before .before .before .before .before .before .before .before .before .before .before .before .loop-test))
 
 fill-branches-add-v : (t : ℕ) → fill-branches-lts.Need-add-v (fill-branches-claims t) (fill-branches-at t) fill-branches.Post fill-branches-Inv-loop fill-branches-μ-loop
 fill-branches-add-v t c = search needs
@@ -167,10 +170,11 @@ fill-branches-loop-again t c = let a = (c .before .before .before .before .befor
       l .inv .0,
       l .inv .1,
       omega (arith, (c .before .before .before .before .before .before .before .before .before .before .before .before .before .before .loop-test)),
-      fill-more (a .args .t .now) (a .args .k) _ (a .pre .1 .1 .holds) (omega (arith, n, a .pre .1 .3)) (l .t) _ (l .v) _ (l .list) _ _ (l .inv .3) (omega (arith, l .inv .0, (c .before .before .before .before .before .before .before .before .before .before .before .before .before .before .loop-test)))
+      fill-more (a .pre .1 .1 .ready) (omega (arith, n, a .pre .1 .3)) ((c .before .before .before .before .before .before .before .rest-result) .result) (l .inv .3) (omega (arith, l .inv .0, (c .before .before .before .before .before .before .before .before .before .before .before .before .before .before .loop-test)))
           (less-held _ _ _ _ _ (a .pre .1 .0) (a .pre .1 .3) (l .v) _ _ _ _ hv ((c .before .before .before .before .before .before .before .before .before .before .before .before .before .arm-at) .ensures) ((c .before .before .before .before .before .before .before .before .before .before .before .before .arm-at2) .ensures) _ g)
           ((c .before .before .before .before .before .before .before .rest-result) .ensures .0) ((c .before .z) .given .1),
       still _ _ _ _ _ ((c .before .z) .given .1) ((c .before .before .before .before .before .before .before .rest-result) .ensures .1),
+      search needs,
       search needs,
     )
 
@@ -189,9 +193,12 @@ fill-branches-returns-2 t c = let a = (c .before .before .before .before .before
 rest-result-above-zero-requires : (t : ℕ) → rest-result-lts.Need-above-zero-requires (rest-result-claims t) (rest-result-at t) rest-result.Post
 rest-result-above-zero-requires t c κs = search needs
 
+rest-result-branch-of-requires : (t : ℕ) → rest-result-lts.Need-branch-of-requires (rest-result-claims t) (rest-result-at t) rest-result.Post
+rest-result-branch-of-requires t c κs = bit-small (ltZ (pos 0) (int (c .before .before .before .before .before .args .d))) (c .above-zero .ensures)
+
 rest-result-returns : (t : ℕ) → rest-result-lts.Need-returns (rest-result-claims t) (rest-result-at t) rest-result.Post
-rest-result-returns t c = let a = (c .before .before .before .before .before) in
-    (less-equal _ _ _ _ _ (a .pre .1 .0) _ _ (a .pre .1 .1) ((c .before .if1) .taken) ((c .above-zero) .ensures), a .pre .1 .2)
+rest-result-returns t c = let a = (c .before .before .before .before .before .before) in
+    (less-equal _ _ _ _ _ (a .pre .1 .0) (a .pre .1 .1) ((c .before .before .if1) .taken) ((c .before .above-zero) .ensures) ((c .branch-of) .ensures), a .pre .1 .2)
 
 rest-result-top-of-requires : (t : ℕ) → rest-result-lts.Need-top-of-requires (rest-result-claims t) (rest-result-at t) rest-result.Post
 rest-result-top-of-requires t c κs = let a = (c .before .before .before .before) in
@@ -256,8 +263,7 @@ rest-result-make-requires : (t : ℕ) → rest-result-lts.Need-make-requires (re
 rest-result-make-requires t c κs = let a = (c .before .before .before .before .before .before .before .before .before .before .before .before .before .before .before .before .before .before .before .before .before) in
     let hk = still-left _ _ _ _ _ (a .pre .1 .0) ((c .before .before .before .before .before .before .before .before .before .before .before .before .before .before .before .before .before .if1) .left) in
     let n = as-long _ _ (a .pre .1 .1 .same) in
-    let fl = filled _ _ _ _ _ _ ((c .before .before .if4) .taken) ((c .before .before .before .before .before .before .before .fill-branches) .ensures .0) in
-    (fl .filled .grown .well, omega (arith, kept-features _ _ (fl .filled .grown .kept)), fill-listed (a .args .t .now) (a .args .k) _ (a .pre .1 .1 .holds) (omega arith) _ _ fl)
+    fill-listed (a .pre .1 .1 .ready) (omega arith) (filled ((c .before .before .before .before .before .before .before .fill-branches) .result .list) ((c .before .before .if4) .taken) ((c .before .before .before .before .before .before .before .fill-branches) .ensures .0))
 
 rest-result-enum-known-z : (t : ℕ) → rest-result-lts.Need-enum-known-z (rest-result-claims t) (rest-result-at t) rest-result.Post
 rest-result-enum-known-z t c = search needs
@@ -275,8 +281,8 @@ rest-result-returns-4 : (t : ℕ) → rest-result-lts.Need-returns-4 (rest-resul
 rest-result-returns-4 t c = let a = (c .before .before .before .before .before .before .before .before .before .before .before .before .before .before .before .before .before .before .before .before .before .before .before .before .before .before) in
     let hk = still-left _ _ _ _ _ (a .pre .1 .0) ((c .before .before .before .before .before .before .before .before .before .before .before .before .before .before .before .before .before .before .before .before .before .before .if1) .left) in
     let n = as-long _ _ (a .pre .1 .1 .same) in
-    let fl = filled _ _ _ _ _ _ ((c .before .before .before .before .before .before .before .if4) .taken) ((c .before .before .before .before .before .before .before .before .before .before .before .before .fill-branches) .ensures .0) in
-    (gives-none ((c .enum-told2) .given .1) (fill-make (a .args .t .now) (a .args .k) _ (a .pre .1 .1 .holds) (omega arith) _ _ _ _ fl ((c .before .before .before .before .make) .ensures)), tt)
+    let fl = filled ((c .before .before .before .before .before .before .before .before .before .before .before .before .fill-branches) .result .list) ((c .before .before .before .before .before .before .before .if4) .taken) ((c .before .before .before .before .before .before .before .before .before .before .before .before .fill-branches) .ensures .0) in
+    (result-none ((c .enum-told2) .given .1) (fill-make (a .pre .1 .1 .ready) (omega arith) ((c .before .before .before .before .make) .result) fl ((c .before .before .before .before .make) .ensures)), tt)
 
 rest-result-remember-requires : (t : ℕ) → rest-result-lts.Need-remember-requires (rest-result-claims t) (rest-result-at t) rest-result.Post
 rest-result-remember-requires t c κs = omega (arith, (c .before .before .before .before .before .before .before .before .before .before .before .before .before .before .before .before .before .before .before .before .before .narrow) .ensures)
@@ -291,13 +297,13 @@ rest-result-returns-5 : (t : ℕ) → rest-result-lts.Need-returns-5 (rest-resul
 rest-result-returns-5 t c = let a = (c .before .before .before .before .before .before .before .before .before .before .before .before .before .before .before .before .before .before .before .before .before .before .before .before .before .before .before .before .before .before .before) in
     let hk = still-left _ _ _ _ _ (a .pre .1 .0) ((c .before .before .before .before .before .before .before .before .before .before .before .before .before .before .before .before .before .before .before .before .before .before .before .before .before .before .before .if1) .left) in
     let n = as-long _ _ (a .pre .1 .1 .same) in
-    let fl = filled _ _ _ _ _ _ ((c .before .before .before .before .before .before .before .before .before .before .before .before .if4) .taken) ((c .before .before .before .before .before .before .before .before .before .before .before .before .before .before .before .before .before .fill-branches) .ensures .0) in
+    let fl = filled ((c .before .before .before .before .before .before .before .before .before .before .before .before .before .before .before .before .before .fill-branches) .result .list) ((c .before .before .before .before .before .before .before .before .before .before .before .before .if4) .taken) ((c .before .before .before .before .before .before .before .before .before .before .before .before .before .before .before .before .before .fill-branches) .ensures .0) in
     let q = (c .before .before .before .before .before .z) .given .1 in
-    let re = gives-is q (fill-make (a .args .t .now) (a .args .k) _ (a .pre .1 .1 .holds) (omega arith) _ _ _ _ fl ((c .before .before .before .before .before .before .before .before .before .make) .ensures)) in
+    let re = result-is q (fill-make (a .pre .1 .1 .ready) (omega arith) ((c .before .before .before .before .before .before .before .before .before .make) .result) fl ((c .before .before .before .before .before .before .before .before .before .make) .ensures)) in
     let so = still-if _ _ _ _ ((c .before .before .before .before .before .before .before .before .before .before .before .before .if4) .taken) ((c .before .before .before .before .before .before .before .before .before .before .before .before .before .before .before .before .before .fill-branches) .ensures .1) in (
       re,
-      remembers-result _ _ _ (a .args .k) (a .args .x) (a .args .y) (a .args .d) _ _ _ _ (a .pre .1 .1 .holds) ((c .before .before .before .before .before .before .before .before .before .before .before .before .before .before .before .before .before .before .before .before .before .before .before .before .narrow) .ensures) re
-          (remembers-made _ _ _ (a .args .k) ((c .before .before .before .before .before .before .before .before .before .before .before .before .before .before .before .before .before .fill-branches) .result .list) _ ((c .before .before .before .before .before .z) .given .0 .0) _ (fl .filled .grown .well) ((c .before .before .before .before .before .before .before .before .before .make) .ensures) q so) ((c .before .before .remember) .ensures),
+      remembers-result _ _ _ (a .args .k) (a .args .x) (a .args .y) (a .args .d) _ _ _ _ (a .pre .1 .1 .ready) ((c .before .before .before .before .before .before .before .before .before .before .before .before .before .before .before .before .before .before .before .before .before .before .before .before .narrow) .ensures) re
+          (remembers-made _ _ _ (a .args .k) ((c .before .before .before .before .before .before .before .before .before .before .before .before .before .before .before .before .before .fill-branches) .result .list) ((c .before .before .before .before .before .before .before .before .before .make) .result) ((c .before .before .before .before .before .z) .given .0 .0) _ (filling-ready fl) ((c .before .before .before .before .before .before .before .before .before .make) .ensures) q so) ((c .before .before .remember) .ensures),
     )
 
 rest-result-same-length-8 : (t : ℕ) → rest-result-lts.Need-same-length-8 (rest-result-claims t) (rest-result-at t) rest-result.Post
@@ -310,7 +316,7 @@ rest-result-returns-6 : (t : ℕ) → rest-result-lts.Need-returns-6 (rest-resul
 rest-result-returns-6 t c = let a = (c .before .before .before .before .before .before .before .before .before .before .before .before .before .before .before .before .before .before .before) in
     let hk = still-left _ _ _ _ _ (a .pre .1 .0) ((c .before .before .before .before .before .before .before .before .before .before .before .before .before .before .before .if1) .left) in
     let n = as-long _ _ (a .pre .1 .1 .same) in
-    (stop-result (a .args .t .now) (a .args .k) _ (a .pre .1 .1 .holds) (omega arith) _ (not-filled _ _ _ _ _ _ ((c .if4) .left) ((c .before .before .before .before .before .fill-branches) .ensures .0)), tt)
+    (stop-result (a .pre .1 .1 .ready) (omega arith) (not-filled ((c .before .before .before .before .before .fill-branches) .result .list) ((c .if4) .left) ((c .before .before .before .before .before .fill-branches) .ensures .0)), tt)
 
 pub +fill-branches+rest-result-spec : {M : Type 1} → statement M
 +fill-branches+rest-result-spec = close μ-fill-branches μ-rest-result (λ t. fill-branches-lts.spec (fill-branches-claims t)
@@ -345,6 +351,7 @@ pub +fill-branches+rest-result-spec : {M : Type 1} → statement M
     (rest-result-at t)
     rest-result.Post
     (rest-result-above-zero-requires t)
+    (rest-result-branch-of-requires t)
     (rest-result-returns t)
     (rest-result-top-of-requires t)
     (rest-result-top-of-requires-2 t)

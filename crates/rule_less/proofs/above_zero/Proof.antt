@@ -5,11 +5,11 @@ use Prim.Native.Nat.{ℕ}
 use native.Mathlib.Omega.{arith}
 use lib.IntN.{ℤ, pos}
 use lib.Signed.{ltZ}
-use Rattle.cost_laws.specs.Integers.{int}
 use Rattle.cost_laws.proofs.Words.{int-lt, int-le}
 use Rattle.cost_words.proofs.Packing.{int-zero}
 use Rattle.rule_less.proofs.above_zero.Statement.{statement}
 use Rattle.rule_less.proofs.above_zero.Tie as tie
+use Rattle.promises.specs.Integers.{int}
 
 by-word : (d : ℕ) (t : Bool) → ltZ (int 2147483648) (int d) ≡ t → _≡_ {A = ℕ} (cond t 1 0) (cond (ltZ (pos 0) (int d)) 1 0)
 by-word d t e = sym (ap (λ (b : Bool). cond b 1 0) (ap (λ (z : ℤ). ltZ z (int d)) (sym int-zero) ∙ e))

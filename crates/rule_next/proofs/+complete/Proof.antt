@@ -2,7 +2,6 @@
 use Rattle.rule_next.proofs.Seeking.{complete-end, complete-more}
 use Rattle.rule_next.proofs.Marking.{leads-next, smallest-there}
 use Rattle.rule_next.proofs.Stepping.{spot-next}
-use Rattle.words.specs.Words.{features}
 use native.Mathlib.Omega.{arith}
 use Prim.Native.Nat.{ℕ, _-_, _<_}
 use borrow.Author.Needs.{needs}
@@ -17,6 +16,7 @@ use Rattle.words.proofs.head_word.Reads as head-word-reads
 use Rattle.words.proofs.wide.Reads as wide-reads
 use Rattle.rule_next.proofs.+complete.{statement}
 use Rattle.rule_next.proofs.+complete.Tie.{close}
+use Rattle.promises.specs.Words.{features}
 
 abbrev μ-complete : Measures 2 complete-kinds.ps ℕ
 μ-complete κs a = 16 - a .1 .1 .1 .0

@@ -2,7 +2,6 @@
 use Rattle.rule_next.proofs.Seeking.{seek-end, seek-valid, seek-same, seek-none, seek-greater}
 use Rattle.rule_next.proofs.Marking.{leads-next}
 use Rattle.rule_next.proofs.Stepping.{spot-next}
-use Rattle.words.specs.Words.{features}
 use native.Mathlib.Omega.{arith}
 use Prim.Native.Nat.{ℕ, _-_, _<_}
 use borrow.Author.Needs.{needs}
@@ -19,6 +18,7 @@ use Rattle.words.proofs.head_word.Reads as head-word-reads
 use Rattle.words.proofs.wide.Reads as wide-reads
 use Rattle.rule_next.proofs.+seek.{statement}
 use Rattle.rule_next.proofs.+seek.Tie.{close}
+use Rattle.promises.specs.Words.{features}
 
 abbrev μ-seek : Measures 2 seek-kinds.ps ℕ
 μ-seek κs a = 16 - a .1 .1 .1 .0

@@ -1,13 +1,13 @@
 -- `rule_next::child` meets its contract: a node of feature k goes to its branch, any other branch waits. Assumes nothing.
 use Rattle.rule_next.proofs.Stepping.{spot-is, child-phrase, child-here, child-wait}
-use Rattle.rule_words.specs.Words.{decode}
-use Rattle.words.specs.Words.{feature, body}
 use native.Mathlib.Omega.{arith}
 use Prim.Native.Nat.{ℕ}
 use mathlib.Core.Path.{sym, ap, _∙_}
 use borrow.Author.Needs.{needs}
 use Rattle.rule_next.proofs.child.Statement.{statement}
 use Rattle.rule_next.proofs.child.Tie as tie
+use Rattle.promises.specs.RuleWords.{decode}
+use Rattle.promises.specs.Words.{feature, body}
 
 returns : tie.Need-returns
 returns c = child-phrase ((c .before .before) .pre .0) ((c .before .before) .args .v) ((c .if1) .taken)

@@ -1,7 +1,6 @@
 -- `rule_next::first_with` meets its contract: the root is sought from the given setting, whose places past the features are 0. Assumes nothing.
 use Rattle.rule_next.specs.Next.{Seeks}
 use Rattle.settings.specs.declared.steps.Setting.{Setting}
-use Rattle.words.specs.Words.{features, sizes}
 use Rattle.theory.specs.Settings.{Valid}
 use lib.ListN.{take}
 use Rattle.rule_next.proofs.Seeking.{seek-start, answer-none, answer-some}
@@ -11,6 +10,7 @@ use mathlib.Core.Path.{sym, subst, _∙_}
 use borrow.Author.Needs.{needs}
 use Rattle.rule_next.proofs.first_with.Statement.{statement}
 use Rattle.rule_next.proofs.first_with.Tie as tie
+use Rattle.promises.specs.Words.{features, sizes}
 
 answers-requires : tie.Need-answers-requires
 answers-requires c κs = (c .before .before) .pre .0

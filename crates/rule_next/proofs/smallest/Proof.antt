@@ -2,13 +2,13 @@
 use Rattle.rule_next.proofs.Marking.{Passed, passed-none, passed-more, value-tells, spot-small}
 use Rattle.rule_next.proofs.Stepping.{spot-next}
 use Rattle.settings.proofs.Answers.{sure, sure-not}
-use Rattle.words.specs.Words.{size}
 use native.Mathlib.Omega.{arith}
 use Prim.Native.Nat.{_-_, _≤_}
 use mathlib.Core.Path.{_≡_, _∙_}
 use borrow.Author.Needs.{needs}
 use Rattle.rule_next.proofs.smallest.Statement.{statement}
 use Rattle.rule_next.proofs.smallest.Tie as tie
+use Rattle.promises.specs.Words.{size}
 
 abbrev Inv-loop : tie.InvT-loop
 Inv-loop t has number k b from s v₀ v = (s ≡ size t k) × (v ≤ s) × Passed t number k b from v

@@ -1,12 +1,12 @@
 -- `rule_nodes::make` meets its contract: what was found is there; what is missing becomes the last node, where there is room. Assumes nothing.
 use Rattle.rule_nodes.proofs.Making.{found-at, found-missing, made-new, made-none, made-there}
-use Rattle.words.specs.Words.{count}
 use native.Mathlib.Omega.{arith}
 use Prim.Native.Nat.{ℕ, _+_}
 use mathlib.Core.Path.{_≡_, ap, _∙_}
 use borrow.Author.Needs.{needs}
 use Rattle.rule_nodes.proofs.make.Statement.{statement}
 use Rattle.rule_nodes.proofs.make.Tie as tie
+use Rattle.promises.specs.Words.{count}
 
 find-requires : tie.Need-find-requires
 find-requires c κs = search needs

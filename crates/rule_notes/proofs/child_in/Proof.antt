@@ -6,9 +6,9 @@ use mathlib.Core.List.{List}
 use mathlib.Core.Path.{_∙_, ap}
 use Rattle.theory.specs.Rules.{Node}
 use Rattle.theory.specs.Diagrams.{next}
-use Rattle.rule_words.specs.Words.{decode}
 use Rattle.rule_notes.proofs.child_in.Statement.{statement}
 use Rattle.rule_notes.proofs.child_in.Tie as tie
+use Rattle.promises.specs.RuleWords.{decode}
 
 child-of-requires : tie.Need-child-of-requires
 child-of-requires c κs = let a = (c .before) in

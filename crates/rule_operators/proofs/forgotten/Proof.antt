@@ -1,8 +1,6 @@
 -- `rule_operators::forgotten` meets its contract: the rule holds of the numbers from j on, from the last to the first. Assumes nothing.
 use Rattle.rule_operators.proofs.Operating.{forgotten-none, forgotten-more}
-use Rattle.rule_operators.specs.Operators.{forgottenOf}
 use Rattle.words.specs.Words.{listed}
-use Rattle.words.specs.Tab.{tab}
 use lib.ListN.{drop}
 use native.Mathlib.Omega.{arith}
 use Prim.Native.Nat.{ℕ, _-_, _≤_}
@@ -10,6 +8,8 @@ use mathlib.Core.Path.{_≡_, ap, _∙_}
 use borrow.Author.Needs.{needs}
 use Rattle.rule_operators.proofs.forgotten.Statement.{statement}
 use Rattle.rule_operators.proofs.forgotten.Tie as tie
+use Rattle.promises.specs.Operators.{forgottenOf}
+use Rattle.promises.specs.Tab.{tab}
 
 abbrev Inv-loop : tie.InvT-loop
 Inv-loop n vals left₀ j₀ left j = (j ≤ n) × (left ≡ forgottenOf (drop j (tab (listed vals) n)))

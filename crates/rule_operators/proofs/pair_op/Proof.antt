@@ -1,11 +1,11 @@
 -- `rule_operators::pair_op` meets its contract: an arm for each operator number. Assumes nothing.
-use Rattle.rule_operators.specs.Operators.{pairOf}
 use borrow.Author.Tests.{ne-eqb}
 use Prim.Native.Nat.{ℕ}
 use mathlib.Core.Path.{ap, sym, _∙_}
 use borrow.Author.Needs.{needs}
 use Rattle.rule_operators.proofs.pair_op.Statement.{statement}
 use Rattle.rule_operators.proofs.pair_op.Tie as tie
+use Rattle.promises.specs.Operators.{pairOf}
 
 smaller-requires : tie.Need-smaller-requires
 smaller-requires c κs = search needs

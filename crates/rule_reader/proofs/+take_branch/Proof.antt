@@ -2,7 +2,6 @@
 use Rattle.rule_reader.proofs.Walking.{takes-phrase, inside, in-notes, takes-known, loop-start, asks-branch, branch-falls, loop-more, loop-stop, asks-make, made, takes-small, takes-put}
 use Rattle.rule_reader.specs.Reader.{given, Noted}
 use Rattle.rule_nodes.specs.Nodes.{Filling}
-use Rattle.sheet_bytes.specs.Bytes.{width}
 use native.Mathlib.Omega.{arith}
 use mathlib.Core.Path.{_≡_, refl}
 use Prim.Native.Nat.{ℕ, _-_, _≤_, _<_}
@@ -20,6 +19,7 @@ use Rattle.sheet_bytes.proofs.width_at.Reads as width-at-reads
 use Rattle.words.proofs.narrow.Reads as narrow-reads
 use Rattle.rule_reader.proofs.+take_branch.{statement}
 use Rattle.rule_reader.proofs.+take_branch.Tie.{close}
+use Rattle.promises.specs.Sheet.{sheetWidth as width}
 
 abbrev μ-take-branch : Measures 4 take-branch-kinds.ps ℕ
 μ-take-branch κs a = a .1 .1 .1 .1 .0

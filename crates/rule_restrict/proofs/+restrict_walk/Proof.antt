@@ -6,7 +6,6 @@ use Rattle.rule_restrict.proofs.Walking.{walk-holds, walk-small, walk-k
 use Rattle.rule_restrict.specs.Restrict.{restr, Noted}
 use Rattle.notes.specs.Plain.{plain}
 use Rattle.rule_nodes.specs.Nodes.{Filling, top}
-use Rattle.words.specs.Words.{features, size}
 use native.Mathlib.Omega.{arith}
 use borrow.Author.Needs.{needs}
 use borrow.Fn.Kinds.{In}
@@ -23,6 +22,7 @@ use Rattle.words.proofs.head_word.Reads as head-word-reads
 use Rattle.words.proofs.wide.Reads as wide-reads
 use Rattle.rule_restrict.proofs.+restrict_walk.{statement}
 use Rattle.rule_restrict.proofs.+restrict_walk.Tie.{close}
+use Rattle.promises.specs.Words.{features, size}
 
 abbrev μ-restrict-walk : Measures 1 restrict-walk-kinds.ps ℕ
 μ-restrict-walk κs a = features (a .0 .now) - top (a .0 .now) (a .1 .0)

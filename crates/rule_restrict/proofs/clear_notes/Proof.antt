@@ -1,7 +1,6 @@
 -- `rule_restrict::clear_notes` meets its contract: of the far words only the notes of nodes i and up may still not be 0 (Clearing). Assumes nothing.
 use Rattle.notes.proofs.Plain.{length-plain}
 use Rattle.rule_restrict.proofs.Noting.{Clearing, clearing-more, clearing-all}
-use Rattle.words.specs.Words.{count}
 use lib.ListN.{length}
 use native.Mathlib.Omega.{arith}
 use Prim.Native.Nat.{_-_, _≤_}
@@ -9,6 +8,7 @@ use mathlib.Core.Path.{_≡_, refl, sym, ap, _∙_}
 use borrow.Author.Needs.{needs}
 use Rattle.rule_restrict.proofs.clear_notes.Statement.{statement}
 use Rattle.rule_restrict.proofs.clear_notes.Tie as tie
+use Rattle.promises.specs.Words.{count}
 
 abbrev Inv-loop : tie.InvT-loop
 Inv-loop t₀ n i₀ t i = (n ≡ count t₀) × (i ≤ n) × Clearing t₀ t i n

@@ -1,5 +1,4 @@
 -- `rule_sound::alike` meets its contract: each branch passed equals branch 0. Assumes nothing.
-use Rattle.words.specs.Words.{feature, size, body}
 use borrow.Author.Count.{below-more}
 use native.Mathlib.Omega.{arith}
 use Prim.Native.Nat.{ℕ, _-_, _≤_, _<_}
@@ -7,6 +6,7 @@ use mathlib.Core.Path.{_≡_, sym, ap, _∙_}
 use borrow.Author.Needs.{needs}
 use Rattle.rule_sound.proofs.alike.Statement.{statement}
 use Rattle.rule_sound.proofs.alike.Tie as tie
+use Rattle.promises.specs.Words.{feature, size, body}
 
 abbrev Inv-loop : tie.InvT-loop
 Inv-loop t i s first v₀ v = (s ≡ size t (feature t i)) × (v ≤ s) × ((x : ℕ) → x < v → body t i x ≡ body t i 0)

@@ -1,7 +1,6 @@
 -- `rule_sound::lower` meets its contract: each branch passed sits below the node. Assumes nothing.
 use Rattle.rule_sound.specs.Sound.{Sits}
 use Rattle.settings.proofs.Answers.{granted, denied}
-use Rattle.words.specs.Words.{feature, size, body}
 use borrow.Author.Count.{below-more}
 use native.Mathlib.Omega.{arith}
 use Prim.Native.Nat.{ℕ, _+_, _-_, _≤_, _<_}
@@ -9,6 +8,7 @@ use mathlib.Core.Path.{_≡_, ap, _∙_}
 use borrow.Author.Needs.{needs}
 use Rattle.rule_sound.proofs.lower.Statement.{statement}
 use Rattle.rule_sound.proofs.lower.Tie as tie
+use Rattle.promises.specs.Words.{feature, size, body}
 
 abbrev Inv-loop : tie.InvT-loop
 Inv-loop t i k s v₀ v = (k ≡ feature t i) × (s ≡ size t (feature t i)) × (v ≤ s) × ((x : ℕ) → x < v → Sits t i (feature t i + 1) (body t i x))

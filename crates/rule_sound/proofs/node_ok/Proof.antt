@@ -1,11 +1,11 @@
 -- `rule_sound::node_ok` meets its contract: each test is one field of the record. Assumes nothing.
 use Rattle.settings.proofs.Answers.{sure, sure-not, granted, denied, retell}
-use Rattle.words.specs.Words.{feature, size}
 use native.Mathlib.Omega.{arith}
 use mathlib.Core.Path.{_≡_, ap, _∙_}
 use borrow.Author.Needs.{needs}
 use Rattle.rule_sound.proofs.node_ok.Statement.{statement}
 use Rattle.rule_sound.proofs.node_ok.Tie as tie
+use Rattle.promises.specs.Words.{feature, size}
 
 record-word-requires : tie.Need-record-word-requires
 record-word-requires c κs = let p = (c .before) .pre in (omega (arith, p .0 .room, p .0 .within), omega (arith, p .0 .most, p .0 .within), omega arith)

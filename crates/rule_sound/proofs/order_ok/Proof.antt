@@ -1,8 +1,6 @@
 -- `rule_sound::order_ok` meets its contract: the walk from the roots passed meets its nodes in turn. Assumes nothing.
 use Rattle.checks.proofs.Walking.{Walk, walk-none, walk-more, walk-lost, order-lost, order-tells}
 use Rattle.rule_sound.proofs.Walking.{says-root, roots-are}
-use Rattle.rule_words.specs.Words.{decode, nodes, root}
-use Rattle.words.specs.Words.{count, sizes}
 use Rattle.theory.specs.Walk.{scan}
 use native.Mathlib.Omega.{arith}
 use Prim.Native.Nat.{_-_, _≤_}
@@ -10,6 +8,8 @@ use mathlib.Core.Path.{_∙_}
 use borrow.Author.Needs.{needs}
 use Rattle.rule_sound.proofs.order_ok.Statement.{statement}
 use Rattle.rule_sound.proofs.order_ok.Tie as tie
+use Rattle.promises.specs.RuleWords.{decode, ruleNodes as nodes, ruleRoot as root}
+use Rattle.promises.specs.Words.{count, sizes}
 
 abbrev Inv-loop : tie.InvT-loop
 Inv-loop t d₀ p₀ d p = (p ≤ 32) × Walk (scan (nodes t) 0 (sizes t)) (λ q. decode (root t q)) (count t) 0 p d

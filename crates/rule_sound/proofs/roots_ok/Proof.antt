@@ -1,8 +1,6 @@
 -- `rule_sound::roots_ok` meets its contract: each root passed sits. Assumes nothing.
 use Rattle.rule_sound.specs.Sound.{Sits}
 use Rattle.settings.proofs.Answers.{granted, denied}
-use Rattle.rule_words.specs.Words.{root}
-use Rattle.words.specs.Words.{count}
 use borrow.Author.Count.{below-more}
 use native.Mathlib.Omega.{arith}
 use Prim.Native.Nat.{ℕ, _-_, _≤_, _<_}
@@ -10,6 +8,8 @@ use mathlib.Core.Path.{_≡_}
 use borrow.Author.Needs.{needs}
 use Rattle.rule_sound.proofs.roots_ok.Statement.{statement}
 use Rattle.rule_sound.proofs.roots_ok.Tie as tie
+use Rattle.promises.specs.RuleWords.{ruleRoot as root}
+use Rattle.promises.specs.Words.{count}
 
 abbrev Inv-loop : tie.InvT-loop
 Inv-loop t n p₀ p = (n ≡ count t) × (p ≤ 32) × ((x : ℕ) → x < p → Sits t (count t) 0 (root t x))

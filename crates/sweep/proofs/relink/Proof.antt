@@ -1,5 +1,4 @@
 -- `sweep::relink` meets its contract: the links of the first i nodes and the chain heads are those of the first i nodes (Relinking). Assumes nothing.
-use Rattle.words.specs.Words.{head, count}
 use Rattle.sweep.proofs.Relinking.{Relinking, relinking-none, relinking-more, relinked}
 use lib.ListN.{length-set}
 use native.Mathlib.Omega.{arith}
@@ -8,6 +7,7 @@ use mathlib.Core.Path.{_≡_, refl}
 use borrow.Author.Needs.{needs}
 use Rattle.sweep.proofs.relink.Statement.{statement}
 use Rattle.sweep.proofs.relink.Tie as tie
+use Rattle.promises.specs.Words.{head, count}
 
 abbrev Inv-loop : tie.InvT-loop
 Inv-loop t₀ n i₀ t i = (n ≡ count t₀) × (i ≤ n) × Relinking t₀ t i

@@ -1,5 +1,4 @@
 -- `words::body_of` meets its contract: the words passed stand in the list. Assumes nothing.
-use Rattle.words.specs.Words.{body}
 use Rattle.words.proofs.Tab.{same}
 use lib.Seq.{getD-set-same, getD-set-other}
 use lib.ListN.{length, getD, length-set}
@@ -10,6 +9,7 @@ use mathlib.Core.Path.{_≡_, _∙_}
 use borrow.Author.Needs.{needs}
 use Rattle.words.proofs.body_of.Statement.{statement}
 use Rattle.words.proofs.body_of.Tie as tie
+use Rattle.promises.specs.Words.{body}
 
 abbrev Inv-loop : tie.InvT-loop
 Inv-loop t i list₀ v₀ list v = (length list ≡ 12) × (v ≤ 12) × ((u : ℕ) → u < v → getD list u 0 ≡ body t i u)

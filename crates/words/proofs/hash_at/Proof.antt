@@ -1,12 +1,12 @@
 -- `words::hash_at` meets its contract: the body that was read is the record's. Assumes nothing.
 use Rattle.words.proofs.Words.{hash-ext}
-use Rattle.words.specs.Words.{hashOf}
 use lib.ListN.{getD}
 use Prim.Native.Nat.{ℕ}
 use mathlib.Core.Path.{ap, _∙_}
 use borrow.Author.Needs.{needs}
 use Rattle.words.proofs.hash_at.Statement.{statement}
 use Rattle.words.proofs.hash_at.Tie as tie
+use Rattle.promises.specs.Words.{hashOf}
 
 record-word-requires : tie.Need-record-word-requires
 record-word-requires c κs = search needs

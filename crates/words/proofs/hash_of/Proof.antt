@@ -1,5 +1,5 @@
 -- `words::hash_of` meets its contract: the hash of the words passed, below 2^32. Assumes nothing.
-use Rattle.words.specs.Words.{listed, hashTo, hashOf}
+use Rattle.words.specs.Words.{listed}
 use Prim.Native.Nat.{_/_}
 use native.Mathlib.Nat.{mod-lt}
 use lib.ListN.{getD}
@@ -10,6 +10,7 @@ use mathlib.Core.Path.{_≡_, refl, ap, ap₂}
 use borrow.Author.Needs.{needs}
 use Rattle.words.proofs.hash_of.Statement.{statement}
 use Rattle.words.proofs.hash_of.Tie as tie
+use Rattle.promises.specs.Words.{hashTo, hashOf}
 
 abbrev Inv-loop : tie.InvT-loop
 Inv-loop k list h₀ v₀ h v = (h ≡ hashTo k (listed list) v) × (h < 4294967296) × (v ≤ 12)

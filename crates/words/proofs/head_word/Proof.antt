@@ -1,9 +1,9 @@
 -- `words::head_word` meets its contract: it reads the word. Assumes nothing.
-use Rattle.words.specs.Words.{head}
 use mathlib.Core.Path.{refl}
 use borrow.Author.Needs.{needs}
 use Rattle.words.proofs.head_word.Statement.{statement}
 use Rattle.words.proofs.head_word.Tie as tie
+use Rattle.promises.specs.Words.{head}
 
 mul-result : tie.Need-mul-result
 mul-result c = search needs

@@ -1,9 +1,9 @@
 -- `words::record_word` meets its contract: it reads the word. Assumes nothing.
-use Rattle.words.specs.Words.{word}
 use mathlib.Core.Path.{refl}
 use borrow.Author.Needs.{needs}
 use Rattle.words.proofs.record_word.Statement.{statement}
 use Rattle.words.proofs.record_word.Tie as tie
+use Rattle.promises.specs.Words.{word}
 
 mul-result : tie.Need-mul-result
 mul-result c = search needs

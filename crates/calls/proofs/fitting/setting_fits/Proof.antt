@@ -1,6 +1,5 @@
 -- `calls::fitting::setting_fits` meets its contract: the values passed are below their sizes. Assumes nothing.
 use Rattle.words.proofs.Words.{length-sizes, at-sizes}
-use Rattle.words.specs.Words.{features, size, sizes}
 use Rattle.theory.proofs.Ranges.{valid-length, valid-at, valid-from}
 use borrow.Author.Count.{below-more}
 use lib.ListN.{length, getD}
@@ -10,6 +9,7 @@ use mathlib.Core.Path.{_≡_, sym, _∙_}
 use borrow.Author.Needs.{needs}
 use Rattle.calls.proofs.fitting.setting_fits.Statement.{statement}
 use Rattle.calls.proofs.fitting.setting_fits.Tie as tie
+use Rattle.promises.specs.Words.{features, size, sizes}
 
 abbrev Inv-loop : tie.InvT-loop
 Inv-loop t setting n k₀ k = (n ≡ features t) × (length setting ≡ n) × (k ≤ n) × ((j : ℕ) → j < k → getD setting j 0 < size t j)

@@ -3,11 +3,11 @@ use borrow.Author.Count.{below-more}
 use native.Mathlib.Omega.{arith}
 use Prim.Native.Nat.{ℕ, _-_, _≤_, _<_}
 use mathlib.Core.Path.{_≡_, sym, _∙_}
-use Rattle.words.specs.Words.{features, size}
 use Rattle.calls.proofs.Lists.{lists-equal, as-long, as-large}
 use borrow.Author.Needs.{needs}
 use Rattle.calls.proofs.matching.same_features.Statement.{statement}
 use Rattle.calls.proofs.matching.same_features.Tie as tie
+use Rattle.promises.specs.Words.{features, size}
 
 abbrev Inv-loop : tie.InvT-loop
 Inv-loop t u n k₀ k = (n ≡ features t) × (features u ≡ features t) × (k ≤ n) × ((j : ℕ) → j < k → size t j ≡ size u j)

@@ -3,13 +3,13 @@ use Rattle.cost_engine.proofs.Operating.{scale-end}
 use Rattle.cost_engine.specs.declared.operators.Operator.{Operator}
 use Rattle.cost_engine.specs.Joint.{opOf}
 use Rattle.cost_words.proofs.Packing.{int-zero}
-use Rattle.cost_laws.specs.Range.{addMost}
-use Rattle.cost_laws.specs.Integers.{Fit, int}
 use lib.IntN.{ℤ, pos, _-ℤ_, +ℤ-idl}
 use mathlib.Core.Path.{sym, ap, subst, _∙_}
 use borrow.Author.Needs.{needs}
 use Rattle.cost_engine.proofs.operators.end_word.Statement.{statement}
 use Rattle.cost_engine.proofs.operators.end_word.Tie as tie
+use Rattle.promises.specs.Range.{addMost}
+use Rattle.promises.specs.Integers.{Fit, int}
 
 enum-told : tie.Need-enum-told
 enum-told c = search needs

@@ -1,84 +1,77 @@
--- `cost_operations::joining::join_places` meets its contract: each test refuses in its turn, and the branches of the places are the operands. Assumes nothing.
-use native.Mathlib.Omega.{arith}
-use mathlib.Core.Logic.{⊎-elim}
-use Rattle.cost_operations.proofs.Operands.{operable, places-agree}
-use Rattle.cost_settling.proofs.Settling.{write-pass}
-use Rattle.cost_sound.specs.Sound.{Sound}
-use Rattle.settings.specs.declared.refusals.Refusal.the-variants.{Damaged, BadPlace}
-use Rattle.settings.proofs.Endings.{stop, pass}
-use Rattle.settings.proofs.Answers.{granted, denied}
-use Rattle.costs.proofs.Answering.{write-refused}
+-- `cost_operations::joining::join_places` meets its contract: the door, and the branches of the places are the operands. Assumes nothing.
+use Rattle.cost_operations.proofs.Operands.{operable, places-agree, range-ends}
 use Rattle.costs.proofs.Sounding.{sound-long}
-use mathlib.Core.Logic.{inl, inr}
+use Rattle.costs.proofs.Edge.{wrote}
+use Rattle.cost_engine.specs.Joint.{opOf}
+use Rattle.calls.proofs.Meeting.{turned-away, let-in, refuses}
+use Rattle.promises.specs.CostOperations.{joined}
+use Rattle.promises.specs.CostDeeds.{costed, join}
+use Rattle.promises.specs.State.{on}
+use Rattle.promises.specs.Table.{stateOf}
+use native.Mathlib.Omega.{arith}
+use mathlib.Core.Path.{refl}
 use borrow.Author.Needs.{needs}
 use Rattle.cost_operations.proofs.joining.join_places.Statement.{statement}
 use Rattle.cost_operations.proofs.joining.join_places.Tie as tie
 
-sound-requires : tie.Need-sound-requires
-sound-requires c κs = search needs
+slice-aggregate-door : tie.Need-slice-aggregate-door
+slice-aggregate-door c = search needs
+
+door-requires : tie.Need-door-requires
+door-requires c κs = search needs
+
+enum-known-d : tie.Need-enum-known-d
+enum-known-d c = search needs
 
 same-length : tie.Need-same-length
 same-length c = search needs
 
 returns : tie.Need-returns
-returns c = write-refused (stop (denied ((c .before .sound) .result) ((c .if1) .taken) ((c .before .sound) .ensures)))
+returns c = refuses refl refl (turned-away ((c .before .before .before .door) .ensures) ((c .before .d) .given .1))
+
+enum-told : tie.Need-enum-told
+enum-told c = search needs
+
+arm-of-requires : tie.Need-arm-of-requires
+arm-of-requires c κs = let e = (c .before .before .before .door) .ensures in let t = (c .before .enum-told) .given .1 in (omega (arith, sound-long (e .sound t)), e .there t .each 1 (omega arith))
+
+arm-of-requires-2 : tie.Need-arm-of-requires-2
+arm-of-requires-2 c κs = let e = (c .before .before .before .before .before .door) .ensures in let t = (c .before .before .before .enum-told) .given .1 in (omega (arith, sound-long (e .sound t)), e .there t .each 2 (omega arith))
+
+put-joint-requires : tie.Need-put-joint-requires
+put-joint-requires c κs = let a = (c .before .before .before .before .before .before .before .before .before .before .before .before .before) in
+    let e = (c .before .before .before .before .before .before .before .before .door) .ensures in
+    let t = (c .before .before .before .before .before .before .enum-told) .given .1 in
+    (e .sound t, e .there t .each 0 (omega arith), operable (e .sound t) (a .args .o) _ _ (a .args .a) (a .args .b) ((c .before .before .before .before .arm-of) .ensures) ((c .before .before .arm-of2) .ensures) (e .there t .each 1 (omega arith)) (e .there t .each 2 (omega arith)) (a .pre))
 
 same-length-2 : tie.Need-same-length-2
 same-length-2 c = search needs
 
-returns-2 : tie.Need-returns-2
-returns-2 c = write-refused (pass (λ n. n (granted ((c .before .before .sound) .result) ((c .before .if1) .left) ((c .before .before .sound) .ensures))) (stop (inl (omega arith))))
-
 same-length-3 : tie.Need-same-length-3
 same-length-3 c = search needs
 
-returns-3 : tie.Need-returns-3
-returns-3 c = write-refused (pass (λ n. n (granted ((c .before .before .before .sound) .result) ((c .before .before .if1) .left) ((c .before .before .before .sound) .ensures))) (stop (inr (inl (omega arith)))))
-
-same-length-4 : tie.Need-same-length-4
-same-length-4 c = search needs
-
-returns-4 : tie.Need-returns-4
-returns-4 c = write-refused (pass (λ n. n (granted ((c .before .before .before .before .sound) .result) ((c .before .before .before .if1) .left) ((c .before .before .before .before .sound) .ensures))) (stop (inr (inr (omega arith)))))
-
-arm-of-requires : tie.Need-arm-of-requires
-arm-of-requires c κs = let s : Sound ((c .before .before .before .before .before .before .before .before .before) .args .t .now) = granted ((c .before .before .before .before .before .sound) .result) ((c .before .before .before .before .if1) .left) ((c .before .before .before .before .before .sound) .ensures) in (omega (arith, sound-long s), omega arith)
-
-arm-of-requires-2 : tie.Need-arm-of-requires-2
-arm-of-requires-2 c κs = let s : Sound ((c .before .before .before .before .before .before .before .before .before .before .before) .args .t .now) = granted ((c .before .before .before .before .before .before .before .sound) .result) ((c .before .before .before .before .before .before .if1) .left) ((c .before .before .before .before .before .before .before .sound) .ensures) in (omega (arith, sound-long s), omega arith)
-
-put-joint-requires : tie.Need-put-joint-requires
-put-joint-requires c κs = let s : Sound ((c .before .before .before .before .before .before .before .before .before .before .before .before .before .before) .args .t .now) = granted ((c .before .before .before .before .before .before .before .before .before .before .sound) .result) ((c .before .before .before .before .before .before .before .before .before .if1) .left) ((c .before .before .before .before .before .before .before .before .before .before .sound) .ensures) in
-    (s, omega arith, operable s ((c .before .before .before .before .before .before .before .before .before .before .before .before .before .before) .args .o) _ _ ((c .before .before .before .before .before .before .before .before .before .before .before .before .before .before) .args .a) ((c .before .before .before .before .before .before .before .before .before .before .before .before .before .before) .args .b) ((c .before .before .before .before .arm-of) .ensures) ((c .before .before .arm-of2) .ensures) (omega arith) (omega arith) ((c .before .before .before .before .before .before .before .before .before .before .before .before .before .before) .pre))
-
-same-length-5 : tie.Need-same-length-5
-same-length-5 c = search needs
-
-same-length-6 : tie.Need-same-length-6
-same-length-6 c = search needs
-
-returns-5 : tie.Need-returns-5
-returns-5 c = let s : Sound ((c .before .before .before .before .before .before .before .before .before .before .before .before .before .before .before .before .before .before .before) .args .t .now) = granted ((c .before .before .before .before .before .before .before .before .before .before .before .before .before .before .before .sound) .result) ((c .before .before .before .before .before .before .before .before .before .before .before .before .before .before .if1) .left) ((c .before .before .before .before .before .before .before .before .before .before .before .before .before .before .before .sound) .ensures) in
-    write-pass Damaged (λ n. n s)
-    (write-pass BadPlace (⊎-elim (λ h. omega arith) (⊎-elim (λ h. omega arith) (λ h. omega arith)))
-    ((c .before .before .before .before .put-joint) .ensures .joins _ (places-agree s ((c .before .before .before .before .before .before .before .before .before .before .before .before .before .before .before .before .before .before .before) .args .o) _ _ ((c .before .before .before .before .before .before .before .before .before .before .before .before .before .before .before .before .before .before .before) .args .a) ((c .before .before .before .before .before .before .before .before .before .before .before .before .before .before .before .before .before .before .before) .args .b) ((c .before .before .before .before .before .before .before .before .before .arm-of) .ensures) ((c .before .before .before .before .before .before .before .arm-of2) .ensures))))
+returns-2 : tie.Need-returns-2
+returns-2 c = let a = (c .before .before .before .before .before .before .before .before .before .before .before .before .before .before .before .before .before .before) in
+    let e = (c .before .before .before .before .before .before .before .before .before .before .before .before .before .door) .ensures in
+    let t = (c .before .before .before .before .before .before .before .before .before .before .before .enum-told) .given .1 in
+    let z = stateOf costed (a .args .t .now) in
+    let h = joined (opOf (a .args .o)) (on z (a .args .a)) (on z (a .args .b)) in
+    let x = (c .before .before .before .before .put-joint) .ensures .joins h (places-agree (e .sound t) (a .args .o) _ _ (a .args .a) (a .args .b) ((c .before .before .before .before .before .before .before .before .before .arm-of) .ensures) ((c .before .before .before .before .before .before .before .arm-of2) .ensures) (e .there t .each 1 (omega arith)) (e .there t .each 2 (omega arith))) in
+    wrote {d = join (opOf (a .args .o)) (a .args .place) (a .args .a) (a .args .b)} refl refl x (let-in e t (range-ends (a .args .t .now) h ((c .before .before .before .before .put-joint) .result) (x .ends))) (λ q. tt) (λ y q. q)
 
 pub join-places-spec : {M : Type 1} → statement M
 join-places-spec =
     tie.close
     (tie.spec
-    sound-requires
+    slice-aggregate-door
+    door-requires
+    enum-known-d
     same-length
     returns
-    same-length-2
-    returns-2
-    same-length-3
-    returns-3
-    same-length-4
-    returns-4
+    enum-told
     arm-of-requires
     arm-of-requires-2
     put-joint-requires
-    same-length-5
-    same-length-6
-    returns-5)
+    same-length-2
+    same-length-3
+    returns-2)

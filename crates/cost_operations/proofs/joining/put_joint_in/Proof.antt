@@ -8,11 +8,11 @@ use Rattle.cost_operations.proofs.Operands.{joins-range, joins-put, joi
 use Rattle.cost_settling.proofs.Settling.{settle-asks, settles}
 use Rattle.cost_range.proofs.Ranging.{joinable}
 use Rattle.settings.proofs.Answers.{granted, denied}
-use Rattle.words.specs.Words.{count}
 use Rattle.costs.proofs.Sounding.{sound-long}
 use borrow.Author.Needs.{needs}
 use Rattle.cost_operations.proofs.joining.put_joint_in.Statement.{statement}
 use Rattle.cost_operations.proofs.joining.put_joint_in.Tie as tie
+use Rattle.promises.specs.Words.{count}
 
 in-range-requires : tie.Need-in-range-requires
 in-range-requires c κs = (c .before .before .before .before) .pre .2

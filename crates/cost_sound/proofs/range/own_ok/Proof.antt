@@ -1,11 +1,11 @@
 -- `cost_sound::range::own_ok` meets its contract: what is kept is the lowest and the highest sum along the branches, or no sound table keeps it. Assumes nothing.
 use mathlib.Core.Path.{_≡_, ap, _∙_}
 use native.Mathlib.Omega.{arith}
-use Rattle.words.specs.Words.{size, feature}
 use Rattle.cost_sound.proofs.Ranging.{own-bodied, own-lost, low-wrong, high-wrong, own-right}
 use borrow.Author.Needs.{needs}
 use Rattle.cost_sound.proofs.range.own_ok.Statement.{statement}
 use Rattle.cost_sound.proofs.range.own_ok.Tie as tie
+use Rattle.promises.specs.Words.{size, feature}
 
 record-word-requires : tie.Need-record-word-requires
 record-word-requires c κs = let p = (c .before) .pre in let h = p .0 .header in (omega (arith, h .room, h .within), omega (arith, h .most, h .within), omega arith)

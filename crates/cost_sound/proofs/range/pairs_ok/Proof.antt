@@ -3,16 +3,15 @@ use mathlib.Core.Path.{_≡_, _∙_}
 use mathlib.Core.Bool.{Bool}
 use Prim.Native.Nat.{_-_, _≤_}
 use native.Mathlib.Omega.{arith}
-use Rattle.words.specs.Words.{count}
-use Rattle.cost_words.specs.Words.{nodes}
-use Rattle.cost_words.specs.Sums.{sideOf}
-use Rattle.cost_words.specs.Kept.{kept}
 use Rattle.cost_laws.specs.Extremes.{Passed}
 use Rattle.cost_sound.specs.Paired.{Owns}
 use Rattle.cost_sound.proofs.Ranging.{passes-no, passes-yes, pairs-none, pairs-more, pairs-all}
 use borrow.Author.Needs.{needs}
 use Rattle.cost_sound.proofs.range.pairs_ok.Statement.{statement}
 use Rattle.cost_sound.proofs.range.pairs_ok.Tie as tie
+use Rattle.promises.specs.Words.{count}
+use Rattle.promises.specs.CostWords.{costNodes as nodes}
+use Rattle.promises.specs.CostSound.{sideOf, kept}
 
 abbrev Inv-loop : tie.InvT-loop
 Inv-loop t n i₀ i = (n ≡ count t) × (i ≤ n) × ((up : Bool) → Passed (sideOf up) (nodes t) i (kept up t))

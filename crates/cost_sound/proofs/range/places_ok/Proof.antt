@@ -2,13 +2,13 @@
 use Prim.Native.Nat.{ℕ, _-_, _≤_, _<_}
 use native.Mathlib.Omega.{arith}
 use borrow.Author.Count.{below-more}
-use Rattle.words.specs.Words.{sizes}
-use Rattle.cost_words.specs.Words.{costOf}
-use Rattle.cost_laws.specs.Range.{Within, costMost}
 use Rattle.settings.proofs.Answers.{granted, denied}
 use borrow.Author.Needs.{needs}
 use Rattle.cost_sound.proofs.range.places_ok.Statement.{statement}
 use Rattle.cost_sound.proofs.range.places_ok.Tie as tie
+use Rattle.promises.specs.Words.{sizes}
+use Rattle.promises.specs.CostWords.{costOf}
+use Rattle.promises.specs.Range.{Within, costMost}
 
 abbrev Inv-loop : tie.InvT-loop
 Inv-loop t p₀ p = (p ≤ 16) × ((x : ℕ) → x < p → Within costMost (sizes t) (costOf t x))

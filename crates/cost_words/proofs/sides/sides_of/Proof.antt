@@ -3,14 +3,13 @@ use mathlib.Core.Path.{_≡_}
 use mathlib.Core.Bool.{Bool}
 use Prim.Native.Nat.{_-_, _≤_, _<_}
 use native.Mathlib.Omega.{arith}
-use Rattle.cost_laws.specs.Integers.{int}
-use Rattle.cost_laws.specs.Extremes.{across}
-use Rattle.cost_words.specs.Sums.{sideOf}
 use Rattle.cost_words.specs.Sides.{endOf, armSum}
 use Rattle.cost_words.proofs.Keeping.{side-one, side-more, side-lost, side-all}
 use borrow.Author.Needs.{needs}
 use Rattle.cost_words.proofs.sides.sides_of.Statement.{statement}
 use Rattle.cost_words.proofs.sides.sides_of.Tie as tie
+use Rattle.promises.specs.Integers.{int}
+use Rattle.promises.specs.CostSound.{across, sideOf}
 
 abbrev Inv-loop : tie.InvT-loop
 Inv-loop t list m best₀ v₀ best v = (1 ≤ v) × (v ≤ m) × (0 < best .low) × ((up : Bool) → int (endOf up (best .low) (best .high)) ≡ across (sideOf up) (armSum up t list) v)

@@ -3,7 +3,7 @@ use Rattle.rule_notes.proofs.Reading.{plain-head}
 use Rattle.notes.specs.Plain.{plain}
 use Rattle.notes.proofs.Plain.{length-plain}
 use Rattle.rule_nodes.specs.Nodes.{top}
-use Rattle.words.specs.Words.{features, listed}
+use Rattle.words.specs.Words.{listed}
 use borrow.Author.Count.{below-more}
 use native.Mathlib.Omega.{arith}
 use Prim.Native.Nat.{ℕ, _-_, _≤_, _<_}
@@ -11,6 +11,7 @@ use mathlib.Core.Path.{_≡_, sym, _∙_}
 use borrow.Author.Needs.{needs}
 use Rattle.engine.proofs.operands.lowest.Statement.{statement}
 use Rattle.engine.proofs.operands.lowest.Tie as tie
+use Rattle.promises.specs.Words.{features}
 
 abbrev Inv-loop : tie.InvT-loop
 Inv-loop t n ops m₀ j₀ m j = (m ≤ features (plain t)) × (j ≤ n) × ((i : ℕ) → i < j → m ≤ top (plain t) (listed ops i)) × ((z : ℕ) → z ≤ features (plain t) → ((i : ℕ) → i < j → z ≤ top (plain t) (listed ops i)) → z ≤ m)

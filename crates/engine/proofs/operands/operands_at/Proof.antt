@@ -1,7 +1,6 @@
 -- `engine::operands::operands_at` meets its contract: the first j operands have gone to their branches. Assumes nothing.
 use Rattle.engine.specs.Joint.{turn}
 use Rattle.notes.specs.Plain.{plain}
-use Rattle.rule_words.specs.Words.{decode, nodes}
 use Rattle.words.specs.Words.{listed}
 use Rattle.theory.specs.Diagrams.{next as nextOf}
 use Rattle.words.proofs.Tab.{same}
@@ -15,6 +14,7 @@ use mathlib.Core.Path.{_≡_, refl, ap, _∙_}
 use borrow.Author.Needs.{needs}
 use Rattle.engine.proofs.operands.operands_at.Statement.{statement}
 use Rattle.engine.proofs.operands.operands_at.Tie as tie
+use Rattle.promises.specs.RuleWords.{decode, ruleNodes as nodes}
 
 abbrev Inv-loop : tie.InvT-loop
 Inv-loop t f n k v ops next₀ j₀ next j = (length next ≡ 9) × (j ≤ n) × ((i : ℕ) → i < j → decode (listed next i) ≡ nextOf (nodes (plain t)) k (decode (listed ops i)) (turn f k i v))

@@ -1,7 +1,7 @@
 -- `lampgrotto::lampgrotto_step` meets its contract: the stepper is asked at the setting that the bytes are. Assumes nothing.
 use Rattle.settings.specs.Step.{Steps}
 use Rattle.settings.specs.declared.steps.Setting.{Setting}
-use mathlib.Core.Path.{subst}
+use mathlib.Core.Path.{refl, subst}
 use borrow.Author.Needs.{needs}
 use Rattle.lampgrotto.proofs.reading.lampgrotto_step.Statement.{statement}
 use Rattle.lampgrotto.proofs.reading.lampgrotto_step.Tie as tie
@@ -24,9 +24,10 @@ same-length c = search needs
 returns : tie.Need-returns
 returns c = record {
   answer = c .before .before .before .before .before .before .before .next .result;
-  meets = subst (λ (s : Setting). Steps ((c .before .before .before .before .before .before .before .before .before .before .before .before) .args .features .now) s (c .before .before .before .before .before .before .before .next .result)) (c .before .before .before .before .before .before .before .before .of .ensures) (c .before .before .before .before .before .before .before .next .ensures);
+  keeps = subst (λ (s : Setting). Steps ((c .before .before .before .before .before .before .before .before .before .before .before .before) .args .features .now) s (c .before .before .before .before .before .before .before .next .result)) (c .before .before .before .before .before .before .before .before .of .ensures) (c .before .before .before .before .before .before .before .next .ensures);
   number = c .outcome-number .ensures;
-  laid = c .before .before .before .put-step .ensures;
+  out = c .before .before .before .put-step .ensures;
+  bytes = refl;
 }
 
 pub lampgrotto-step-spec : {M : Type 1} → statement M

@@ -1,8 +1,9 @@
 -- `lampgrotto_costs::building::lampgrotto_scale` meets its contract: the factor comes through as it is. Assumes nothing.
-use mathlib.Core.Path.{subst}
+use mathlib.Core.Path.{refl, subst}
 use mir.Facts.{toZ-ofZ}
 use lib.IntN.{ℤ}
-use Rattle.cost_operations.specs.Joining.{Scales}
+use Rattle.promises.specs.Deed.{Meets}
+use Rattle.promises.specs.CostDeeds.{scale}
 use borrow.Author.Needs.{needs}
 use Rattle.lampgrotto_costs.proofs.building.lampgrotto_scale.Statement.{statement}
 use Rattle.lampgrotto_costs.proofs.building.lampgrotto_scale.Tie as tie
@@ -21,9 +22,11 @@ same-length-2 c = search needs
 
 returns : tie.Need-returns
 returns c = record {
-  ending = (c .before .before .before .before .before) .scale .result;
-  meets = subst (λ (z : ℤ). Scales ((c .before .before .before .before .before .before .before .before .before .before) .args .place) ((c .before .before .before .before .before .before .before .before .before .before) .args .a) z ((c .before .before .before .before .before .before .before .before .before .before) .args .t .now) ((c .before .before .before .before .before) .scale .last .0) ((c .before .before .before .before .before) .scale .result)) (toZ-ofZ ((c .before .before .before .before .before .before .before .before .before .before) .fits .factor)) ((c .before .before .before .before .before) .scale .ensures);
+  answer = (c .before .before .before .before .before) .scale .result;
+  keeps = subst (λ (z : ℤ). Meets (scale ((c .before .before .before .before .before .before .before .before .before .before) .args .place) ((c .before .before .before .before .before .before .before .before .before .before) .args .a) z) ((c .before .before .before .before .before .before .before .before .before .before) .args .t .now) ((c .before .before .before .before .before) .scale .last .0) ((c .before .before .before .before .before) .scale .result)) (toZ-ofZ ((c .before .before .before .before .before .before .before .before .before .before) .fits .factor)) ((c .before .before .before .before .before) .scale .ensures);
   number = c .outcome-number .ensures;
+  out = refl;
+  bytes = refl;
 }
 
 pub lampgrotto-scale-spec : {M : Type 1} → statement M

@@ -1,14 +1,13 @@
 -- `lampgrotto_costs::reading::lampgrotto_cost_look_up` meets its contract: the answer is a cost, so it has a word. Assumes nothing.
-use mathlib.Core.Path.{ap, _∙_}
+use mathlib.Core.Path.{refl, ap, _∙_}
 use mathlib.Core.List.{[], _∷_}
 use lib.IntN.{ℤ}
 use Rattle.cost_amounts.proofs.Signed.{amount-back}
-use Rattle.c_results.specs.Results.{placed}
-use Rattle.lampgrotto_costs.specs.Signed.{signed}
 use Rattle.lampgrotto_costs.proofs.Fitting.{looked-fits, fits-back}
 use borrow.Author.Needs.{needs}
 use Rattle.lampgrotto_costs.proofs.reading.lampgrotto_cost_look_up.Statement.{statement}
 use Rattle.lampgrotto_costs.proofs.reading.lampgrotto_cost_look_up.Tie as tie
+use Rattle.promises.specs.ForC.{placed, signed}
 
 look-up-requires : tie.Need-look-up-requires
 look-up-requires c κs = search needs
@@ -25,9 +24,10 @@ same-length c = search needs
 returns : tie.Need-returns
 returns c = record {
   answer = (c .before .before .before .before .before .before) .look-up .result;
-  meets = (c .before .before .before .before .before .before) .look-up .ensures;
+  keeps = (c .before .before .before .before .before .before) .look-up .ensures;
   number = c .outcome-number .ensures;
-  laid = (c .before .before .before) .put-cost .ensures ∙ ap (λ (z : ℤ). placed (signed z ∷ (c .before .before .before .before .before .before) .look-up .result .asked ∷ []) ((c .before .before .before .before .before .before .before .before .before .before) .args .out .now)) (amount-back ((c .before .before .before .before .before .before) .look-up .result .cost) (looked-fits ((c .before .before .before .before .before .before .before .before .before .before) .args .place) ((c .before .before .before .before .before .before .before .before .before .before) .args .setting .now) ((c .before .before .before .before .before .before .before .before .before .before) .args .t .now) ((c .before .before .before .before .before .before) .look-up .result) ((c .before .before .before .before .before .before) .look-up .ensures)));
+  out = (c .before .before .before) .put-cost .ensures ∙ ap (λ (z : ℤ). placed (signed z ∷ (c .before .before .before .before .before .before) .look-up .result .asked ∷ []) ((c .before .before .before .before .before .before .before .before .before .before) .args .out .now)) (amount-back ((c .before .before .before .before .before .before) .look-up .result .cost) (looked-fits ((c .before .before .before .before .before .before .before .before .before .before) .args .place) ((c .before .before .before .before .before .before .before .before .before .before) .args .setting .now) ((c .before .before .before .before .before .before .before .before .before .before) .args .t .now) ((c .before .before .before .before .before .before) .look-up .result) ((c .before .before .before .before .before .before) .look-up .ensures)));
+  bytes = refl;
 }
 
 pub lampgrotto-cost-look-up-spec : {M : Type 1} → statement M

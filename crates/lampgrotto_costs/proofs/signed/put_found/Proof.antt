@@ -3,11 +3,10 @@ use mathlib.Core.Path.{ap, _∙_}
 use mathlib.Core.List.{_∷_}
 use Prim.Native.Nat.{ℕ}
 use mir.Facts.{toZ-ofZ}
-use Rattle.c_results.specs.Results.{placed}
-use Rattle.lampgrotto_costs.specs.Signed.{signed}
 use borrow.Author.Needs.{needs}
 use Rattle.lampgrotto_costs.proofs.signed.put_found.Statement.{statement}
 use Rattle.lampgrotto_costs.proofs.signed.put_found.Tie as tie
+use Rattle.promises.specs.ForC.{placed, signed}
 
 signed-word-requires : tie.Need-signed-word-requires
 signed-word-requires c κs = search needs

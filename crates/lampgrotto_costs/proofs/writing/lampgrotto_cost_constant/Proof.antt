@@ -1,8 +1,11 @@
 -- `lampgrotto_costs::writing::lampgrotto_cost_constant` meets its contract: the amount comes through as it is. Assumes nothing.
-use mathlib.Core.Path.{subst}
+use mathlib.Core.Path.{refl, subst}
 use mir.Facts.{toZ-ofZ}
 use lib.IntN.{ℤ}
-use Rattle.costs.specs.Writing.{Constant}
+use Rattle.theory.specs.Costs.{amount}
+use Rattle.promises.specs.Deed.{Meets}
+use Rattle.promises.specs.TableDeeds.{constant}
+use Rattle.promises.specs.CostDeeds.{costed}
 use borrow.Author.Needs.{needs}
 use Rattle.lampgrotto_costs.proofs.writing.lampgrotto_cost_constant.Statement.{statement}
 use Rattle.lampgrotto_costs.proofs.writing.lampgrotto_cost_constant.Tie as tie
@@ -18,9 +21,11 @@ same-length c = search needs
 
 returns : tie.Need-returns
 returns c = record {
-  ending = (c .before .before .before) .constant .result;
-  meets = subst (λ (z : ℤ). Constant ((c .before .before .before .before .before .before) .args .place) z ((c .before .before .before .before .before .before) .args .t .now) ((c .before .before .before) .constant .last .0) ((c .before .before .before) .constant .result)) (toZ-ofZ ((c .before .before .before .before .before .before) .fits .amount)) ((c .before .before .before) .constant .ensures);
+  answer = (c .before .before .before) .constant .result;
+  keeps = subst (λ (z : ℤ). Meets (constant costed ((c .before .before .before .before .before .before) .args .place) (amount z)) ((c .before .before .before .before .before .before) .args .t .now) ((c .before .before .before) .constant .last .0) ((c .before .before .before) .constant .result)) (toZ-ofZ ((c .before .before .before .before .before .before) .fits .amount)) ((c .before .before .before) .constant .ensures);
   number = c .outcome-number .ensures;
+  out = refl;
+  bytes = refl;
 }
 
 pub lampgrotto-cost-constant-spec : {M : Type 1} → statement M

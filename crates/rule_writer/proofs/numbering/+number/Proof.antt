@@ -6,7 +6,6 @@ use native.Mathlib.Numerals.{add-one}
 use borrow.Author.Needs.{needs}
 use borrow.Fn.Kinds.{In}
 use borrow.Fn.PlainCycle.{Measures, is, falls, and}
-use Rattle.words.specs.Words.{size, count, feature}
 use Rattle.rule_writer.specs.Numbering.{mark, Numbering}
 use Rattle.rule_writer.proofs.Numbers.{noted-most, count-most, branch-below, branch-sits, numbers-phrase, numbers-done, numbering-none, numbering-more, numbers-left, numbers-new}
 use Rattle.rule_writer.proofs.numbering.number.Reads as number
@@ -18,6 +17,7 @@ use Rattle.words.proofs.record_word.Reads as record-word-reads
 use Rattle.words.proofs.wide.Reads as wide-reads
 use Rattle.rule_writer.proofs.numbering.+number.{statement}
 use Rattle.rule_writer.proofs.numbering.+number.Tie.{close}
+use Rattle.promises.specs.Words.{size, count, feature}
 
 abbrev μ-number : Measures 2 number-kinds.ps ℕ
 μ-number κs a = a .1 .1 .0

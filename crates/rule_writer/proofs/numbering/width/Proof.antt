@@ -2,10 +2,10 @@
 use mathlib.Core.Path.{_≡_, ap, _∙_}
 use native.Mathlib.Omega.{arith}
 use borrow.Author.Needs.{needs}
-use Rattle.words.specs.Words.{size, feature}
 use Rattle.rule_writer.proofs.Numbers.{sized}
 use Rattle.rule_writer.proofs.numbering.width.Statement.{statement}
 use Rattle.rule_writer.proofs.numbering.width.Tie as tie
+use Rattle.promises.specs.Words.{size, feature}
 
 record-word-requires : tie.Need-record-word-requires
 record-word-requires c κs = search needs

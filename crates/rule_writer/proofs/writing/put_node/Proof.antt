@@ -4,13 +4,13 @@ use Prim.Native.Nat.{_-_, _≤_, _<_}
 use native.Mathlib.Omega.{arith}
 use lib.ListN.{length}
 use borrow.Author.Needs.{needs}
-use Rattle.words.specs.Words.{size, feature}
 use Rattle.rule_writer.specs.Laid.{Puts}
 use Rattle.rule_writer.proofs.Numbers.{count-most, branch-below, word-small}
 use Rattle.rule_writer.proofs.Putting.{puts-none, puts-after, puts-same, puts-long}
 use Rattle.rule_writer.proofs.Parts.{begun, begun-none, begun-more, begun-all, length-begun, length-in}
 use Rattle.rule_writer.proofs.writing.put_node.Statement.{statement}
 use Rattle.rule_writer.proofs.writing.put_node.Tie as tie
+use Rattle.promises.specs.Words.{size, feature}
 
 abbrev Inv-loop : tie.InvT-loop
 Inv-loop t notes c i out₀ p m q₀ v₀ out q v = (m ≡ size t (feature t i)) × (v ≤ m) × Puts (begun t notes i v) out₀ out q₀ q × (length out ≡ length out₀)

@@ -4,7 +4,6 @@ use Prim.Native.Nat.{ℕ, _+_, _-_, _≤_}
 use native.Mathlib.Omega.{arith}
 use lib.ListN.{length}
 use borrow.Author.Needs.{needs}
-use Rattle.words.specs.Words.{size, feature}
 use Rattle.sheet_bytes.specs.Sections.{nodesBytes}
 use Rattle.sheet_bytes.specs.Sheet.{branchBytes}
 use Rattle.rule_writer.specs.Numbering.{numbered}
@@ -14,6 +13,7 @@ use Rattle.rule_writer.proofs.Parts.{length-in, bytes-none, bytes-more,
 use Rattle.rule_writer.proofs.Putting.{puts-none, puts-after, puts-same, puts-long}
 use Rattle.rule_writer.proofs.writing.put_nodes.Statement.{statement}
 use Rattle.rule_writer.proofs.writing.put_nodes.Tie as tie
+use Rattle.promises.specs.Words.{size, feature}
 
 abbrev Inv-loop : tie.InvT-loop
 Inv-loop t notes c out₀ p q₀ j₀ out q j = (j ≤ c) × Puts (nodesBytes branchBytes (numbered t notes j)) out₀ out p q × (length out ≡ length out₀)

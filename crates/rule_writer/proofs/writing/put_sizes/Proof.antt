@@ -6,12 +6,12 @@ use native.Mathlib.Numerals.{add-one}
 use lib.ListN.{length}
 use borrow.Author.Needs.{needs}
 use Rattle.words.proofs.Tab.{tab-none, tab-snoc, length-tab}
-use Rattle.words.specs.Words.{features, size, sizes}
-use Rattle.words.specs.Tab.{tab}
 use Rattle.rule_writer.specs.Laid.{Puts}
 use Rattle.rule_writer.proofs.Putting.{puts-none, puts-after, puts-same, puts-long}
 use Rattle.rule_writer.proofs.writing.put_sizes.Statement.{statement}
 use Rattle.rule_writer.proofs.writing.put_sizes.Tie as tie
+use Rattle.promises.specs.Words.{features, size, sizes}
+use Rattle.promises.specs.Tab.{tab}
 
 abbrev Inv-loop : tie.InvT-loop
 Inv-loop t out₀ p n q₀ k₀ out q k = (n ≡ features t) × (k ≤ n) × Puts (tab (size t) k) out₀ out p q × (length out ≡ length out₀)

@@ -4,7 +4,6 @@ use Prim.Native.Nat.{ℕ, _+_, _*_, _-_, _≤_}
 use native.Mathlib.Omega.{arith}
 use lib.ListN.{length}
 use borrow.Author.Needs.{needs}
-use Rattle.words.specs.Words.{features, size, feature}
 use Rattle.sheet_bytes.specs.Sections.{nodesBytes}
 use Rattle.sheet_bytes.specs.Sheet.{branchBytes}
 use Rattle.rule_writer.specs.Numbering.{member, numbered}
@@ -12,6 +11,7 @@ use Rattle.rule_writer.proofs.Numbers.{count-most, noted-most}
 use Rattle.rule_writer.proofs.Parts.{bytes-none, length-more}
 use Rattle.rule_writer.proofs.writing.sheet_length.Statement.{statement}
 use Rattle.rule_writer.proofs.writing.sheet_length.Tie as tie
+use Rattle.promises.specs.Words.{features, size, feature}
 
 abbrev Inv-loop : tie.InvT-loop
 Inv-loop t notes c n₀ j₀ n j = (j ≤ c) × (n ≡ 12 + features t + length (nodesBytes branchBytes (numbered t notes j))) × (n ≤ 28 + 25 * j)

@@ -1,8 +1,8 @@
 -- `sheet_bytes::bytes::pair_at` meets its contract: the sum of the two bytes, each below 256. Assumes nothing.
-use Rattle.sheet_bytes.specs.Bytes.{pair}
 use borrow.Author.Needs.{needs}
 use Rattle.sheet_bytes.proofs.bytes.pair_at.Statement.{statement}
 use Rattle.sheet_bytes.proofs.bytes.pair_at.Tie as tie
+use Rattle.promises.specs.Sheet.{pair}
 
 shared-slice-read-wide : tie.Need-shared-slice-read-wide
 shared-slice-read-wide c = search needs

@@ -1,8 +1,8 @@
 -- `sheet_bytes::bytes::word_at` meets its contract: the flag byte above the two-byte number. Assumes nothing.
-use Rattle.sheet_bytes.specs.Bytes.{word}
 use borrow.Author.Needs.{needs}
 use Rattle.sheet_bytes.proofs.bytes.word_at.Statement.{statement}
 use Rattle.sheet_bytes.proofs.bytes.word_at.Tie as tie
+use Rattle.promises.specs.Sheet.{triple as word}
 
 shared-slice-read-wide : tie.Need-shared-slice-read-wide
 shared-slice-read-wide c = search needs

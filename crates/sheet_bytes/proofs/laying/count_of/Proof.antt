@@ -2,10 +2,10 @@
 use mathlib.Core.Path.{ap, _∙_}
 use Prim.Native.Nat.{ℕ, _+_}
 use native.Mathlib.Omega.{arith}
-use Rattle.sheet_bytes.specs.Bytes.{pair}
 use borrow.Author.Needs.{needs}
 use Rattle.sheet_bytes.proofs.laying.count_of.Statement.{statement}
 use Rattle.sheet_bytes.proofs.laying.count_of.Tie as tie
+use Rattle.promises.specs.Sheet.{pair}
 
 features-of-requires : tie.Need-features-of-requires
 features-of-requires c κs = (c .before) .pre

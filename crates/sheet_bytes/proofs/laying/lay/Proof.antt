@@ -1,5 +1,5 @@
 -- `sheet_bytes::laying::lay` meets its contract: the nodes passed lie where `place` says, and their places are noted. Assumes nothing.
-use Rattle.sheet_bytes.specs.Bytes.{byte, features, size, count, place, feature, width, Holds}
+use Rattle.sheet_bytes.specs.Bytes.{Holds}
 use Rattle.sheet_bytes.proofs.Places.{place-zero, place-next, place-le, holds-none, holds-more, lay-lost, all-passed, lay-tells}
 use Prim.Native.Nat.{ℕ, _+_, _*_, _-_, _≤_, _<_}
 use mathlib.Core.Path.{_≡_, sym, ap, _∙_}
@@ -9,6 +9,7 @@ use borrow.Author.Count.{below-more}
 use borrow.Author.Needs.{needs}
 use Rattle.sheet_bytes.proofs.laying.lay.Statement.{statement}
 use Rattle.sheet_bytes.proofs.laying.lay.Tie as tie
+use Rattle.promises.specs.Sheet.{byte, sheetFeatures as features, sheetSize as size, sheetCount as count, nodePlace as place, sheetFeature as feature, sheetWidth as width}
 
 abbrev Inv-loop : tie.InvT-loop
 Inv-loop s at₀ n m p₀ i₀ at p i = (n ≡ features s) × (m ≡ count s) × (i ≤ m) × (p ≡ place s i) × (p ≤ 23 + 25 * i) × ((j : ℕ) → j < i → feature s j < features s) × (Holds s at i) × (length at ≡ 4096)

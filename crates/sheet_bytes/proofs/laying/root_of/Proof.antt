@@ -1,10 +1,10 @@
 -- `sheet_bytes::laying::root_of` meets its contract: the root's branch is the last three bytes. Assumes nothing.
 use mathlib.Core.Path.{ap, _∙_}
 use native.Mathlib.Omega.{arith}
-use Rattle.sheet_bytes.specs.Bytes.{word}
 use Rattle.sheet_bytes.proofs.Places.{root-place}
 use Rattle.sheet_bytes.proofs.laying.root_of.Statement.{statement}
 use Rattle.sheet_bytes.proofs.laying.root_of.Tie as tie
+use Rattle.promises.specs.Sheet.{triple as word}
 
 sub-word-at : tie.Need-sub-word-at
 sub-word-at c = omega (arith, (c .before) .pre .ends)

@@ -1,10 +1,10 @@
 -- `sheet_bytes::laying::width_at` meets its contract: the size of the node's feature. Assumes nothing.
 use mathlib.Core.Path.{ap, _∙_}
 use native.Mathlib.Omega.{arith}
-use Rattle.sheet_bytes.specs.Bytes.{size}
 use borrow.Author.Needs.{needs}
 use Rattle.sheet_bytes.proofs.laying.width_at.Statement.{statement}
 use Rattle.sheet_bytes.proofs.laying.width_at.Tie as tie
+use Rattle.promises.specs.Sheet.{sheetSize as size}
 
 feature-at-requires : tie.Need-feature-at-requires
 feature-at-requires c κs = search needs

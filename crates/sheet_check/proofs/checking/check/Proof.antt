@@ -1,5 +1,4 @@
 -- `sheet_check::checking::check` meets its contract: each test refuses in its turn, and what passes all is a sheet. Assumes nothing.
-use native.Mathlib.Omega.{arith}
 use borrow.Author.Tests.{not-false}
 use Rattle.settings.proofs.Answers.{sure, sure-not, granted, denied}
 use Rattle.sheet_check.proofs.Answering.{check-newer, check-bad, check-good}
@@ -32,7 +31,7 @@ returns-4 : tie.Need-returns-4
 returns-4 c = check-bad (sure-not ((c .before .before .before .before .before .before .before .before .if1) .left) ((c .before .before .before .before .before .before .before .before .before .newer) .ensures)) (λ g. denied ((c .before .good2) .result) ((c .if4) .taken) ((c .before .good2) .ensures) g)
 
 returns-5 : tie.Need-returns-5
-returns-5 c = check-good (sure-not ((c .before .before .before .before .before .before .before .before .if1) .left) ((c .before .before .before .before .before .before .before .before .before .newer) .ensures)) (λ p. omega (arith, (c .before .before .before .before .before .before .before .before .before .before .shared-slice-known) .given p))
+returns-5 c = check-good (sure-not ((c .before .before .before .before .before .before .before .before .if1) .left) ((c .before .before .before .before .before .before .before .before .before .newer) .ensures))
     (record {
       good = granted ((c .before .good2) .result) ((c .if4) .left) ((c .before .good2) .ensures);
       laid = record { head = granted ((c .before .before .before .before .before .before .before .head-ok) .result) ((c .before .before .before .before .before .before .if2) .left) ((c .before .before .before .before .before .before .before .head-ok) .ensures); lie = granted ((c .before .before .before .before .lay) .result) ((c .before .before .before .if3) .left) ((c .before .before .before .before .lay) .ensures .tells); places = (c .before .before .before .before .lay) .ensures .places (not-false ((c .before .before .before .before .lay) .result) ((c .before .before .before .if3) .left)) };

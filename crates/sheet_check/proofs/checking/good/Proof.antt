@@ -38,6 +38,7 @@ returns-4 : tie.Need-returns-4
 returns-4 c = retell ((c .in-order) .result)
     (λ q.
     record {
+      bytes = λ p. omega (arith, (c .before .before .before .before .before .before .before .before .before .shared-slice-known) .given p);
       ordered = record { head = (c .before .before .before .before .before .before .before .before .before .before) .pre .head; lie = (c .before .before .before .before .before .before .before .before .before .before) .pre .lie; nodes = granted ((c .before .before .before .before .before .before .before .before .nodes-ok) .result) ((c .before .before .before .before .before .before .before .if1) .left) ((c .before .before .before .before .before .before .before .before .nodes-ok) .ensures); once = granted ((c .before .before .once) .result) ((c .before .if3) .left) ((c .before .before .once) .ensures) };
       top = same-below ((c .before .before .before .before .before .before .count-of) .ensures .0) refl ((c .before .before .before .before .before .root-of) .ensures .0) (granted ((c .before .before .before .before .below) .result) ((c .before .before .before .if2) .left) ((c .before .before .before .before .below) .ensures));
       order = q;

@@ -3,10 +3,10 @@ use Prim.Native.Nat.{ℕ, _-_, _≤_, _<_}
 use mathlib.Core.Path.{_≡_, sym, _∙_}
 use native.Mathlib.Omega.{arith}
 use borrow.Author.Count.{below-more}
-use Rattle.sheet_bytes.specs.Bytes.{width, branch}
 use borrow.Author.Needs.{needs}
 use Rattle.sheet_check.proofs.nodes.alike.Statement.{statement}
 use Rattle.sheet_check.proofs.nodes.alike.Tie as tie
+use Rattle.promises.specs.Sheet.{sheetWidth as width, sheetBranch as branch}
 
 abbrev Inv-loop : tie.InvT-loop
 Inv-loop s at i z first v₀ v = (z ≡ width s i) × (v ≤ z) × ((x : ℕ) → x < v → branch s i x ≡ branch s i 0)

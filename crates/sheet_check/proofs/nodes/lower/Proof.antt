@@ -4,12 +4,11 @@ use mathlib.Core.Path.{_≡_, refl, sym, ap}
 use native.Mathlib.Omega.{arith}
 use borrow.Author.Count.{below-more}
 use Rattle.settings.proofs.Answers.{granted, denied}
-use Rattle.sheet_bytes.specs.Bytes.{feature, width, branch}
-use Rattle.sheet_check.specs.Nodes.{Below}
 use Rattle.sheet_check.proofs.Diagrams.{same-below}
 use borrow.Author.Needs.{needs}
 use Rattle.sheet_check.proofs.nodes.lower.Statement.{statement}
 use Rattle.sheet_check.proofs.nodes.lower.Tie as tie
+use Rattle.promises.specs.Sheet.{sheetFeature as feature, sheetWidth as width, sheetBranch as branch, SheetSits as Below}
 
 abbrev Inv-loop : tie.InvT-loop
 Inv-loop s at i f z v₀ v = (f ≡ feature s i) × (z ≡ width s i) × (v ≤ z) × ((x : ℕ) → x < v → Below s i (feature s i + 1) (branch s i x))

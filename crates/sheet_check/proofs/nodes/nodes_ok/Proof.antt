@@ -4,11 +4,10 @@ use mathlib.Core.Path.{_≡_}
 use native.Mathlib.Omega.{arith}
 use borrow.Author.Count.{below-more}
 use Rattle.settings.proofs.Answers.{sure, sure-not, granted, denied}
-use Rattle.sheet_bytes.specs.Bytes.{count}
-use Rattle.sheet_check.specs.Nodes.{NodeOk}
 use borrow.Author.Needs.{needs}
 use Rattle.sheet_check.proofs.nodes.nodes_ok.Statement.{statement}
 use Rattle.sheet_check.proofs.nodes.nodes_ok.Tie as tie
+use Rattle.promises.specs.Sheet.{sheetCount as count, SheetNodeOk as NodeOk}
 
 abbrev Inv-loop : tie.InvT-loop
 Inv-loop s at m i₀ i = (m ≡ count s) × (i ≤ m) × ((j : ℕ) → j < i → NodeOk s j)

@@ -2,7 +2,6 @@
 use Prim.Native.Nat.{_+_, _*_, _-_, _≤_, ℕ, _<_}
 use mathlib.Core.Path.{_≡_}
 use native.Mathlib.Omega.{arith}
-use Rattle.sheet_bytes.specs.Bytes.{width}
 use Rattle.sheet_check.proofs.Walks.{visits-phrase, visits-done, visits-met, visits-lost, Walked, walked-none, walked-all, branch-below, walked-more, walked-lost}
 use borrow.Author.Needs.{needs}
 use borrow.Fn.Kinds.{In}
@@ -17,6 +16,7 @@ use Rattle.sheet_bytes.proofs.branch_at.Reads as branch-at-reads
 use Rattle.sheet_bytes.proofs.width_at.Reads as width-at-reads
 use Rattle.sheet_check.proofs.order.+visit+visit_list.{statement}
 use Rattle.sheet_check.proofs.order.+visit+visit_list.Tie.{close}
+use Rattle.promises.specs.Sheet.{sheetWidth as width}
 
 abbrev μ-visit : Measures 2 visit-kinds.ps ℕ
 μ-visit κs a = 2 * a .1 .1 .0 + 1

@@ -1,12 +1,11 @@
 -- `sheet_check::order::in_order` meets its contract: the walk from the root, compared with the count. Assumes nothing.
 use mathlib.Core.Path.{sym, subst}
 use native.Mathlib.Omega.{arith}
-use Rattle.sheet_bytes.specs.Bytes.{count}
-use Rattle.sheet_check.specs.Nodes.{Below}
 use Rattle.sheet_check.proofs.Walks.{order-tells}
 use borrow.Author.Needs.{needs}
 use Rattle.sheet_check.proofs.order.in_order.Statement.{statement}
 use Rattle.sheet_check.proofs.order.in_order.Tie as tie
+use Rattle.promises.specs.Sheet.{sheetCount as count, SheetSits as Below}
 
 root-of-requires : tie.Need-root-of-requires
 root-of-requires c κs = search needs

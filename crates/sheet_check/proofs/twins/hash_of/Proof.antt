@@ -2,12 +2,12 @@
 use Prim.Native.Nat.{ℕ, _+_, _*_, _-_, _/_, _%_, _≤_, _<_}
 use mathlib.Core.Path.{_≡_, sym, ap, _∙_}
 use native.Mathlib.Omega.{arith}
-use Rattle.sheet_bytes.specs.Bytes.{width}
 use Rattle.sheet_check.specs.Chains.{hashTo}
 use Rattle.sheet_check.proofs.Hashing.{hash-zero, hash-next, hash-all}
 use borrow.Author.Needs.{needs}
 use Rattle.sheet_check.proofs.twins.hash_of.Statement.{statement}
 use Rattle.sheet_check.proofs.twins.hash_of.Tie as tie
+use Rattle.promises.specs.Sheet.{sheetWidth as width}
 
 abbrev Inv-loop : tie.InvT-loop
 Inv-loop s at i z h₀ v₀ h v = (z ≡ width s i) × (v ≤ z) × (h ≡ hashTo s i v) × (h < 4294967296)

@@ -5,13 +5,12 @@ use native.Mathlib.Omega.{arith}
 use lib.ListN.{length, length-set, length-replicate}
 use borrow.Author.Count.{below-more}
 use Rattle.settings.proofs.Answers.{granted, denied}
-use Rattle.sheet_bytes.specs.Bytes.{count}
-use Rattle.sheet_check.specs.Nodes.{New}
 use Rattle.sheet_check.specs.Chains.{Chained}
 use Rattle.sheet_check.proofs.Hashing.{chained-none, chained-more}
 use borrow.Author.Needs.{needs}
 use Rattle.sheet_check.proofs.twins.once.Statement.{statement}
 use Rattle.sheet_check.proofs.twins.once.Tie as tie
+use Rattle.promises.specs.Sheet.{sheetCount as count, SheetAlone as New}
 
 abbrev Inv-loop : tie.InvT-loop
 Inv-loop s at m heads₀ links₀ i₀ heads links i = (m ≡ count s) × (i ≤ m) × (m ≤ 4096) × (length heads ≡ 4096) × (length links ≡ 4096) × Chained s heads links i × ((j : ℕ) → j < i → New s j)

@@ -3,10 +3,10 @@ use Prim.Native.Nat.{ℕ, _-_, _≤_, _<_}
 use mathlib.Core.Path.{_≡_, sym, ap, _∙_}
 use native.Mathlib.Omega.{arith}
 use borrow.Author.Count.{below-more}
-use Rattle.sheet_bytes.specs.Bytes.{size, feature, width, branch}
 use borrow.Author.Needs.{needs}
 use Rattle.sheet_check.proofs.twins.same.Statement.{statement}
 use Rattle.sheet_check.proofs.twins.same.Tie as tie
+use Rattle.promises.specs.Sheet.{sheetSize as size, sheetFeature as feature, sheetWidth as width, sheetBranch as branch}
 
 abbrev Inv-loop : tie.InvT-loop
 Inv-loop s at i j z v₀ v = (feature s i ≡ feature s j) × (z ≡ width s i) × (v ≤ z) × ((x : ℕ) → x < v → branch s i x ≡ branch s j x)

@@ -1,0 +1,66 @@
+-- `costs::call_same::same` meets its contract: the door, and root words and bases tell. Assumes nothing.
+use Rattle.costs.proofs.Sounding.{sound-long}
+use Rattle.costs.proofs.Answering.{same-other, same-tells}
+use Rattle.calls.proofs.Meeting.{turned-away, let-in, refuses, takes}
+use native.Mathlib.Omega.{arith}
+use mathlib.Core.Path.{refl}
+use borrow.Author.Needs.{needs}
+use Rattle.costs.proofs.call_same.same.Statement.{statement}
+use Rattle.costs.proofs.call_same.same.Tie as tie
+
+slice-aggregate-door : tie.Need-slice-aggregate-door
+slice-aggregate-door c = search needs
+
+door-requires : tie.Need-door-requires
+door-requires c κs = search needs
+
+enum-known-o : tie.Need-enum-known-o
+enum-known-o c = search needs
+
+returns : tie.Need-returns
+returns c = refuses refl refl (turned-away ((c .before .before .before .door) .ensures) ((c .before .o) .given .1))
+
+enum-told : tie.Need-enum-told
+enum-told c = search needs
+
+root-word-requires : tie.Need-root-word-requires
+root-word-requires c κs = let e = (c .before .before .door) .ensures in let t = (c .enum-told) .given .1 in (omega (arith, sound-long (e .sound t)), e .there t .each 0 (omega arith))
+
+root-word-requires-2 : tie.Need-root-word-requires-2
+root-word-requires-2 c κs = let e = (c .before .before .before .door) .ensures in let t = (c .before .enum-told) .given .1 in (omega (arith, sound-long (e .sound t)), e .there t .each 1 (omega arith))
+
+returns-2 : tie.Need-returns-2
+returns-2 c = let a = (c .before .before .before .before .before .before .before .before) in
+    let e = (c .before .before .before .before .before .door) .ensures in
+    let t = (c .before .before .before .enum-told) .given .1 in
+    takes refl (let-in e t refl) refl
+    (same-other (e .sound t) (a .args .a) (a .args .b) (e .there t .each 0 (omega arith)) (e .there t .each 1 (omega arith)) ((c .before .before .root-word) .result) ((c .before .root-word2) .result) ((c .before .before .root-word) .ensures) ((c .before .root-word2) .ensures) ((c .if1) .taken))
+
+base-word-requires : tie.Need-base-word-requires
+base-word-requires c κs = let e = (c .before .before .before .before .before .door) .ensures in let t = (c .before .before .before .enum-told) .given .1 in (omega (arith, sound-long (e .sound t)), e .there t .each 0 (omega arith))
+
+base-word-requires-2 : tie.Need-base-word-requires-2
+base-word-requires-2 c κs = let e = (c .before .before .before .before .before .before .door) .ensures in let t = (c .before .before .before .before .enum-told) .given .1 in (omega (arith, sound-long (e .sound t)), e .there t .each 1 (omega arith))
+
+returns-3 : tie.Need-returns-3
+returns-3 c = let a = (c .before .before .before .before .before .before .before .before .before .before) in
+    let e = (c .before .before .before .before .before .before .before .door) .ensures in
+    let t = (c .before .before .before .before .before .enum-told) .given .1 in
+    takes refl (let-in e t refl) refl
+    (same-tells (e .sound t) (a .args .a) (a .args .b) (e .there t .each 0 (omega arith)) (e .there t .each 1 (omega arith)) ((c .before .before .before .before .root-word) .result) ((c .before .before .before .root-word2) .result) ((c .before .base-word) .result) ((c .base-word2) .result) ((c .before .before .before .before .root-word) .ensures) ((c .before .before .before .root-word2) .ensures) ((c .before .before .if1) .left) ((c .before .base-word) .ensures) ((c .base-word2) .ensures))
+
+pub same-spec : {M : Type 1} → statement M
+same-spec =
+    tie.close
+    (tie.spec
+    slice-aggregate-door
+    door-requires
+    enum-known-o
+    returns
+    enum-told
+    root-word-requires
+    root-word-requires-2
+    returns-2
+    base-word-requires
+    base-word-requires-2
+    returns-3)

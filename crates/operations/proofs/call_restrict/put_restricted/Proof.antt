@@ -1,0 +1,47 @@
+-- `operations::call_restrict::put_restricted` meets its contract: what the walk built is settled. Assumes nothing.
+use Rattle.operations.proofs.Operands.{restrict-holding, restrict-agrees}
+use Rattle.settling.proofs.Settling.{settle-asks, settles, puts-agree}
+use Rattle.rules.proofs.Sounding.{sound-long}
+use Rattle.rule_restrict.specs.Restrict.{restr}
+use mathlib.Core.Path.{_∙_}
+use native.Mathlib.Omega.{arith}
+use borrow.Author.Needs.{needs}
+use Rattle.operations.proofs.call_restrict.put_restricted.Statement.{statement}
+use Rattle.operations.proofs.call_restrict.put_restricted.Tie as tie
+
+head-word-requires : tie.Need-head-word-requires
+head-word-requires c κs = omega (arith, sound-long ((c .before .before) .pre .0))
+
+wide-requires : tie.Need-wide-requires
+wide-requires c κs = search needs
+
+root-word-requires : tie.Need-root-word-requires
+root-word-requires c κs = (omega (arith, sound-long ((c .before .before .before .before .before) .pre .0)), (c .before .before .before .before .before) .pre .2)
+
+held-requires : tie.Need-held-requires
+held-requires c κs = let a = (c .before .before .before .before .before .before .before) in
+    restrict-holding (a .pre .0) (a .args .from) (a .args .feature) (a .args .value) ((c .before .root-word) .result) ((c .before .root-word) .ensures) (a .pre .2) (a .pre .3) (a .pre .4)
+
+settle-requires : tie.Need-settle-requires
+settle-requires c κs = let a = (c .before .before .before .before .before .before .before .before .before .before .before) in
+    settle-asks (restr (a .args .t .now) 0 ((c .before .before .before .before .before .root-word) .result) (a .args .feature) (a .args .value)) ((c .before .before .before .held) .result) (a .pre .0) ((c .before .before .before .held) .ensures) (a .pre .1) ((c .before .before .before .before .before .before .before .wide) .ensures .0 ∙ (c .before .before .before .before .before .before .before .before .head-word) .ensures)
+
+same-length : tie.Need-same-length
+same-length c = search needs
+
+returns : tie.Need-returns
+returns c = let a = (c .before .before .before .before .before .before .before .before .before .before .before .before .before .before) in
+    puts-agree (restrict-agrees (a .pre .0) (a .args .from) (a .args .feature) (a .args .value) ((c .before .before .before .before .before .before .before .before .root-word) .result) ((c .before .before .before .before .before .before .before .before .root-word) .ensures))
+    (settles (restr (a .args .t .now) 0 ((c .before .before .before .before .before .before .before .before .root-word) .result) (a .args .feature) (a .args .value)) ((c .before .before .before .before .before .before .held) .result) (a .pre .0) ((c .before .before .before .before .before .before .held) .ensures) (a .pre .1) ((c .before .before .before .before .before .before .before .before .before .before .wide) .ensures .0 ∙ (c .before .before .before .before .before .before .before .before .before .before .before .head-word) .ensures) ((c .before .before .settle) .ensures))
+
+pub put-restricted-spec : {M : Type 1} → statement M
+put-restricted-spec =
+    tie.close
+    (tie.spec
+    head-word-requires
+    wide-requires
+    root-word-requires
+    held-requires
+    settle-requires
+    same-length
+    returns)

@@ -1,0 +1,81 @@
+-- `rule_sheets::call_read::same_list` meets its contract: the sizes passed are equal. Assumes nothing.
+use borrow.Author.Needs.{needs}
+use mathlib.Core.Path.{_≡_, sym, _∙_}
+use Prim.Native.Nat.{ℕ, _-_, _≤_, _<_}
+use native.Mathlib.Omega.{arith}
+use borrow.Author.Count.{below-more}
+use Rattle.promises.specs.Words.{features, size}
+use Rattle.rules.proofs.Sounding.{sound-long}
+use Rattle.rule_sheets.proofs.Lists.{many-same, size-same, list-same}
+use Rattle.rule_sheets.proofs.call_read.same_list.Statement.{statement}
+use Rattle.rule_sheets.proofs.call_read.same_list.Tie as tie
+use Rattle.promises.specs.Sheet.{sheetFeatures, sheetSize}
+
+abbrev Inv-loop : tie.InvT-loop
+Inv-loop t sheet n k₀ k = (n ≡ sheetFeatures sheet) × (n ≡ features t) × (k ≤ n) × ((j : ℕ) → j < k → sheetSize sheet j ≡ size t j)
+
+abbrev μ-loop : tie.MeasureT-loop
+μ-loop t sheet n k₀ k = n - k
+
+features-of-requires : tie.Need-features-of-requires Inv-loop μ-loop
+features-of-requires c κs = search needs
+
+head-word-requires : tie.Need-head-word-requires Inv-loop μ-loop
+head-word-requires c κs = omega (arith, sound-long ((c .before .before .before) .pre .0))
+
+wide-requires : tie.Need-wide-requires Inv-loop μ-loop
+wide-requires c κs = search needs
+
+returns : tie.Need-returns Inv-loop μ-loop
+returns c = λ e. (c .if1) .taken ((c .before .before .before .features-of) .ensures .0 ∙ many-same ((c .before .before .before .before .before .before) .args .t .now) ((c .before .before .before .before .before .before) .pre .1) e ∙ sym ((c .before .wide) .ensures .0 ∙ (c .before .before .head-word) .ensures))
+
+loop-holds : tie.Need-loop-holds Inv-loop μ-loop
+loop-holds c = ((c .before .before .before .features-of) .ensures .0, (c .if1) .left ∙ (c .before .wide) .ensures .0 ∙ (c .before .before .head-word) .ensures, omega arith, (λ j h. absurd (omega arith)))
+
+size-at-requires : tie.Need-size-at-requires Inv-loop μ-loop
+size-at-requires c κs = ((c .before .before .before .before .before .before .before .before) .pre .1, omega (arith, (c .before .loop) .inv .0))
+
+add-head-word : tie.Need-add-head-word Inv-loop μ-loop
+add-head-word c = search needs
+
+head-word-requires-2 : tie.Need-head-word-requires-2 Inv-loop μ-loop
+head-word-requires-2 c κs = omega (arith, sound-long ((c .before .before .before .before .before .before .before .before .before) .pre .0), (c .before .before .before .before .before .before .before .before .before) .pre .0 .header .few, (c .before .before .loop) .inv .1)
+
+wide-requires-2 : tie.Need-wide-requires-2 Inv-loop μ-loop
+wide-requires-2 c κs = search needs
+
+returns-2 : tie.Need-returns-2 Inv-loop μ-loop
+returns-2 c = λ e. (c .if2) .taken ((c .before .before .before .size-at) .ensures .0 ∙ size-same ((c .before .before .before .before .before .before .before .before .before .before .before .before) .args .t .now) ((c .before .before .before .before .before .before .before .before .before .before .before .before) .pre .1) e ((c .before .before .before .before .before .loop) .k) (omega (arith, (c .before .before .before .before .before .loop) .inv .0)) ∙ sym ((c .before .wide2) .ensures .0 ∙ (c .before .before .head-word2) .ensures))
+
+add-k : tie.Need-add-k Inv-loop μ-loop
+add-k c = search needs
+
+loop-less : tie.Need-loop-less Inv-loop μ-loop
+loop-less c = search needs
+
+loop-again : tie.Need-loop-again Inv-loop μ-loop
+loop-again c = ((c .before .before .before .before .before .loop) .inv .0, (c .before .before .before .before .before .loop) .inv .1, omega arith, below-more _ _ ((c .before .before .before .before .before .loop) .inv .3) (sym ((c .before .before .before .size-at) .ensures .0) ∙ (c .if2) .left ∙ (c .before .wide2) .ensures .0 ∙ (c .before .before .head-word2) .ensures))
+
+returns-3 : tie.Need-returns-3 Inv-loop μ-loop
+returns-3 c = list-same ((c .before .before .before .before .before .before .before .before) .args .t .now) ((c .before .before .before .before .before .before .before .before) .pre .1) (sym ((c .before .loop) .inv .0) ∙ (c .before .loop) .inv .1) (λ j h. (c .before .loop) .inv .3 j (omega (arith, (c .before .loop) .inv .0)))
+
+pub same-list-spec : {M : Type 1} → statement M
+same-list-spec =
+    tie.close
+    (tie.spec
+    Inv-loop
+    μ-loop
+    features-of-requires
+    head-word-requires
+    wide-requires
+    returns
+    loop-holds
+    size-at-requires
+    add-head-word
+    head-word-requires-2
+    wide-requires-2
+    returns-2
+    add-k
+    loop-less
+    loop-again
+    returns-3)
