@@ -5,7 +5,7 @@ use cost_nodes::arm_of;
 use cost_settling::settle;
 use rule_lending::root_of;
 use settings::Outcome;
-use words::head_word;
+use words::count_word;
 use words::wide;
 ghost use mathlib.Core.Path.{_≡_};
 ghost use Prim.Native.Nat.{_<_};
@@ -32,7 +32,7 @@ fn put_choice(
     requires { ⌜ (RuleSound (now rules)) × (CostSound (now t)) × (sizes (now rules) ≡ sizes (now t)) × (place < 16) × (rule < 32) × (a < 16) × (b < 16) ⌝ }
     ensures { λ r. ⌜ Puts place (chosen (ruleOf (now (rules .entry)) rule) (costOf (now (t .entry)) a) (costOf (now (t .entry)) b)) (now (t .entry)) (now (t .exit)) r ⌝ }
 {
-    let used = wide(head_word(t, 19));
+    let used = wide(count_word(t));
     let x = arm_of(t, a);
     let y = arm_of(t, b);
     let r = choose_costs(rules, t, scratch, root_of(rules, rule), x, y);

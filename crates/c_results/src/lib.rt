@@ -6,6 +6,9 @@ ghost use lib.ListN.{set};
 ghost use Rattle.c_results.specs.Laying.{laid};
 ghost use Rattle.promises.specs.ForC.{placed, bit, halves};
 
+// A word is below this.
+const WORD: u64 = 4294967296;
+
 // Yes is 1.
 fn flag(b: bool) -> u32
     ensures { λ r. ⌜ r ≡ bit b ⌝ }
@@ -20,14 +23,14 @@ fn flag(b: bool) -> u32
 fn low(x: u64) -> u32
     ensures { λ r. ⌜ r ≡ x % 4294967296 ⌝ }
 {
-    (x % 4294967296) as u32
+    (x % WORD) as u32
 }
 
 // The high word of a number.
 fn high(x: u64) -> u32
     ensures { λ r. ⌜ r ≡ x / 4294967296 ⌝ }
 {
-    (x / 4294967296) as u32
+    (x / WORD) as u32
 }
 
 // A small number as a word.

@@ -1,5 +1,6 @@
 // Whether bytes are a setting of a table's features.
-use words::head_word;
+use words::features_word;
+use words::size_word;
 use words::wide;
 ghost use mathlib.Core.Path.{_≡_};
 ghost use Prim.Native.Nat.{_≤_, _<_};
@@ -27,13 +28,13 @@ pub fn setting_fits(t: &[u32], setting: &[u8]) -> bool
     requires { ⌜ (64 ≤ length (now t)) × (features (now t) ≤ 16) ⌝ }
     ensures { λ r. ⌜ Tells r (Valid (sizes (now (t .entry))) (now (setting .entry))) ⌝ }
 {
-    let n = wide(head_word(t, 2));
+    let n = wide(features_word(t));
     if setting.len() != n {
         return false;
     }
     let mut k: usize = 0;
     while k < n {
-        if head_word(t, 3 + k) <= small(setting[k]) {
+        if size_word(t, k) <= small(setting[k]) {
             return false;
         }
         k += 1;

@@ -1,5 +1,6 @@
 // Whether two tables, of whatever kinds, are over one feature list.
-use words::head_word;
+use words::features_word;
+use words::size_word;
 use words::wide;
 ghost use mathlib.Core.Path.{_≡_};
 ghost use Prim.Native.Nat.{_≤_};
@@ -12,13 +13,13 @@ pub fn same_features(t: &[u32], u: &[u32]) -> bool
     requires { ⌜ (64 ≤ length (now t)) × (64 ≤ length (now u)) × (features (now t) ≤ 16) ⌝ }
     ensures { λ r. ⌜ Tells r (sizes (now (t .entry)) ≡ sizes (now (u .entry))) ⌝ }
 {
-    let n = wide(head_word(t, 2));
-    if wide(head_word(u, 2)) != n {
+    let n = wide(features_word(t));
+    if wide(features_word(u)) != n {
         return false;
     }
     let mut k: usize = 0;
     while k < n {
-        if head_word(t, 3 + k) != head_word(u, 3 + k) {
+        if size_word(t, k) != size_word(u, k) {
             return false;
         }
         k += 1;

@@ -1,4 +1,5 @@
 // A fresh table laid out in lent words.
+use words::RECORDS;
 use words::narrow;
 ghost use Prim.Native.Nat.{_≤_, _<_};
 ghost use lib.ListN.{length};
@@ -46,7 +47,7 @@ pub fn lay(t: &mut [u32], kind: u32, base: u32, features: &[u8], capacity: usize
     requires { ⌜ Openable (now features) capacity (length (now t)) ⌝ }
     ensures { λ _. ⌜ Named kind base (now (features .entry)) capacity (now (t .entry)) (now (t .exit)) ⌝ }
 {
-    clear(t, 8192 + 32 * capacity);
+    clear(t, RECORDS + 32 * capacity);
     write_bases(t, base);
     t[0] = kind;
     t[1] = narrow(capacity);

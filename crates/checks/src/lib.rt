@@ -5,10 +5,18 @@ ghost use lib.ListN.{length};
 ghost use Rattle.settings.specs.Tells.{Tells};
 ghost use Rattle.checks.specs.Header.{Front};
 ghost use Rattle.checks.specs.Chained.{Framed, Headed};
+use words::CHAINS;
+use words::NODES;
+use words::RECORDS;
+use words::bucket_word;
+use words::capacity_word;
+use words::count_word;
+use words::features_word;
 use words::hash_at;
 use words::head_word;
 use words::narrow;
 use words::record_word;
+use words::size_word;
 use words::wide;
 ghost use Rattle.promises.specs.Words.{features, count, Zeros};
 ghost use Rattle.promises.specs.Sound.{Sizes, Header, Same, Alone, Linked, Chained, Sits};
@@ -32,10 +40,10 @@ pub fn sizes_ok(t: &[u32]) -> bool
     requires { ⌜ (19 ≤ length (now t)) × (features (now t) ≤ 16) ⌝ }
     ensures { λ r. ⌜ Tells r (Sizes (now (t .entry))) ⌝ }
 {
-    let n = wide(head_word(t, 2));
+    let n = wide(features_word(t));
     let mut k: usize = 0;
     while k < n {
-        let s = head_word(t, 3 + k);
+        let s = size_word(t, k);
         if s < 2 {
             return false;
         }
@@ -51,30 +59,30 @@ pub fn sizes_ok(t: &[u32]) -> bool
 pub fn front_ok(t: &[u32], kind: u32) -> bool
     ensures { λ r. ⌜ Tells r (Front kind (now (t .entry))) ⌝ }
 {
-    if t.len() < 8192 {
+    if t.len() < RECORDS {
         return false;
     }
     if head_word(t, 0) != kind {
         return false;
     }
-    let cap = wide(head_word(t, 1));
+    let cap = wide(capacity_word(t));
     if cap < 1 {
         return false;
     }
-    if 4096 < cap {
+    if NODES < cap {
         return false;
     }
-    if t.len() < 8192 + 32 * cap {
+    if t.len() < RECORDS + 32 * cap {
         return false;
     }
-    let n = wide(head_word(t, 2));
+    let n = wide(features_word(t));
     if n < 1 {
         return false;
     }
     if 16 < n {
         return false;
     }
-    wide(head_word(t, 19)) <= cap
+    wide(count_word(t)) <= cap
 }
 
 // Whether the header, and the words that no root, chain or node uses, are those of a table of this kind. It reads any slice.
@@ -87,18 +95,18 @@ pub fn header_ok(t: &[u32], kind: u32) -> bool
     if !sizes_ok(t) {
         return false;
     }
-    if !zeros(t, 3 + wide(head_word(t, 2)), 19) {
+    if !zeros(t, 3 + wide(features_word(t)), 19) {
         return false;
     }
     if !zeros(t, 20, 32) {
         return false;
     }
-    if !zeros(t, 64, 4096) {
+    if !zeros(t, 64, CHAINS) {
         return false;
     }
-    let m = wide(head_word(t, 19));
-    let cap = wide(head_word(t, 1));
-    zeros(t, 8192 + 16 * m, 8192 + 32 * cap)
+    let m = wide(count_word(t));
+    let cap = wide(capacity_word(t));
+    zeros(t, RECORDS + 16 * m, RECORDS + 32 * cap)
 }
 
 // Whether the word b ends, or says a node below m of feature k or higher; words from `first` on say nodes.
@@ -157,7 +165,7 @@ pub fn heads_ok(t: &[u32], last: &[u32]) -> bool
 {
     let mut h: usize = 0;
     while h < 4096 {
-        if head_word(t, 4096 + h) != last[h] {
+        if bucket_word(t, h) != last[h] {
             return false;
         }
         h += 1;
@@ -170,7 +178,7 @@ pub fn chains_ok(t: &[u32]) -> bool
     requires { ⌜ Framed (now t) ⌝ }
     ensures { λ r. ⌜ Tells r (Chained (now (t .entry))) ⌝ }
 {
-    let n = wide(head_word(t, 19));
+    let n = wide(count_word(t));
     let mut last = [0u32; 4096];
     let mut i: usize = 0;
     while i < n {

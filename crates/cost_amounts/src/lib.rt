@@ -4,6 +4,9 @@ ghost use Rattle.settings.specs.Tells.{Tells};
 ghost use Rattle.promises.specs.Integers.{Fit, int};
 ghost use Rattle.promises.specs.Range.{costMost};
 
+// The word that stands for 0.
+const ZERO: i64 = 2147483648;
+
 // Whether a number lies within ±1,000,000,000.
 pub fn amount_ok(z: i64) -> bool
     ensures { λ r. ⌜ Tells r (Fit costMost z) ⌝ }
@@ -22,12 +25,12 @@ pub fn word_of(z: i64) -> u32
     requires { ⌜ Fit costMost z ⌝ }
     ensures { λ r. ⌜ int r ≡ z ⌝ }
 {
-    (z + 2147483648) as u32
+    (z + ZERO) as u32
 }
 
 // The number that a word stands for.
 pub fn cost_of(w: u32) -> i64
     ensures { λ r. ⌜ r ≡ int w ⌝ }
 {
-    (w as i64) - 2147483648
+    (w as i64) - ZERO
 }

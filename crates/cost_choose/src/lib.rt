@@ -8,6 +8,7 @@ use cost_notes::lowest;
 use cost_notes::make_in;
 use cost_notes::recall_in;
 use cost_notes::remember_in;
+use cost_words::ZERO;
 use cost_words::difference_word;
 use cost_words::sum_word;
 use notes::clear;
@@ -17,8 +18,9 @@ use rule_lending::is_number;
 use rule_lending::key_of;
 use rule_lending::number_of;
 use rule_lending::top_at;
-use words::head_word;
+use words::capacity_word;
 use words::narrow;
+use words::size_word;
 use words::wide;
 ghost use mathlib.Core.Path.{_≡_};
 ghost use Prim.Native.Nat.{_≤_, _<_};
@@ -71,7 +73,7 @@ fn ended(n: u32, x: u32, y: u32, d: u32) -> Answer
     if n == 0 {
         return Answer::Is(y, d);
     }
-    Answer::Is(x, 2147483648)
+    Answer::Is(x, ZERO)
 }
 
 // The choice of two targets from feature k on, where the second has d more on it: one node's result. Where the rule has ended it is there already.
@@ -127,7 +129,7 @@ fn fill_branches(
     requires { ⌜ (Choices (now r) (plain (now t)) k b x y (int d)) × (Noted (now r) (now t) (now s)) × (k < features (plain (now t))) ⌝ }
     ensures { λ a. ⌜ (Fills (plain (now (t .entry))) (plain (now (t .exit))) k (choice (lent (now (r .entry)) k b) (nodes (plain (now (t .entry)))) k (target x) (target y) (int d)) (a .ok) (a .goes) (a .adds)) × (StillIf (now (r .entry)) (now (t .exit)) (now (s .exit)) (a .ok)) ⌝ }
 {
-    let n = wide(head_word(t, 3 + k));
+    let n = wide(size_word(t, k));
     let mut goes = [0u32; 8];
     let mut adds = [0u32; 8];
     let mut v: usize = 0;
@@ -181,7 +183,7 @@ fn choose_in(r: &[u32], t: &mut [u32], s: &mut [u32], b: u32, x: Arm, y: Arm) ->
     ensures { λ a. ⌜ Result (now (t .entry)) (now (t .exit)) 0 (chosen (lent (now (r .entry)) 0 b) (meaning (nodes (now (t .entry))) (branch (x .to) (x .adds))) (meaning (nodes (now (t .entry))) (branch (y .to) (y .adds)))) a ⌝ }
 {
     clear(s);
-    let a = branch_result(r, t, s, 0, b, x, y, 2147483648);
+    let a = branch_result(r, t, s, 0, b, x, y, ZERO);
     clear_far(t);
     a
 }
@@ -191,7 +193,7 @@ pub fn choose_costs(r: &[u32], t: &mut [u32], s: &mut [u32], b: u32, x: Arm, y: 
     requires { ⌜ Choosable (now r) (now t) b (branch (x .to) (x .adds)) (branch (y .to) (y .adds)) ⌝ }
     ensures { λ a. ⌜ Result (now (t .entry)) (now (t .exit)) 0 (chosen (lent (now (r .entry)) 0 b) (meaning (nodes (now (t .entry))) (branch (x .to) (x .adds))) (meaning (nodes (now (t .entry))) (branch (y .to) (y .adds)))) a ⌝ }
 {
-    if head_word(t, 1) < 384 {
+    if capacity_word(t) < 384 {
         if s.len() < 6144 {
             let mut own = [0u32; 6144];
             return choose_in(r, t, &mut own, b, x, y);

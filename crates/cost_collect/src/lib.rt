@@ -7,9 +7,10 @@ use sweep::add_copy;
 use sweep::bring_back;
 use sweep::clear_heads;
 use sweep::relink;
-use words::head_word;
+use words::bucket_word;
 use words::narrow;
 use words::record_word;
+use words::size_word;
 use words::wide;
 ghost use Prim.Native.Nat.{_<_};
 ghost use Rattle.theory.specs.Diagrams.{meaning};
@@ -31,7 +32,7 @@ fn copy_target(t: &mut [u32], x: u32) -> u32
         return 0;
     }
     let i = wide(x - 1);
-    let c = head_word(t, 4096 + i);
+    let c = bucket_word(t, i);
     if 0 < c {
         return c;
     }
@@ -44,7 +45,7 @@ fn copy_list(t: &mut [u32], i: usize) -> [u32; 12]
     requires { ⌜ (Ready code (now t)) × (i < count (now t)) ⌝ }
     ensures { λ r. ⌜ Moving code (now (t .entry)) (now (t .exit)) i (size (now (t .entry)) (feature (now (t .entry)) i)) r ⌝ }
 {
-    let m = wide(head_word(t, 3 + wide(record_word(t, i, 0))));
+    let m = wide(size_word(t, wide(record_word(t, i, 0))));
     let mut to = [0u32; 8];
     let mut adds = [0u32; 8];
     let mut v: usize = 0;

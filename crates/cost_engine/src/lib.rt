@@ -9,6 +9,7 @@ use cost_notes::lowest;
 use cost_notes::make_in;
 use cost_notes::recall_in;
 use cost_notes::remember_in;
+use cost_words::ZERO;
 use cost_words::sum_word;
 use notes::clear;
 use notes::clear_far;
@@ -17,8 +18,8 @@ use operators::ahead_word;
 use operators::end_word;
 use operators::gap_word;
 use operators::number_of;
-use words::head_word;
 use words::narrow;
+use words::size_word;
 use words::wide;
 ghost use Prim.Native.Nat.{_<_};
 ghost use Rattle.theory.specs.Diagrams.{meaning};
@@ -88,7 +89,7 @@ fn fill_branches(
     requires { ⌜ (Operands (plain (now t)) o k x y (int d)) × (Noted (now t) o (now s)) × (k < features (plain (now t))) ⌝ }
     ensures { λ r. ⌜ (Fills (plain (now (t .entry))) (plain (now (t .exit))) k (jointFrom o (nodes (plain (now (t .entry)))) k (target x) (target y) (int d)) (r .ok) (r .goes) (r .adds)) × (StillIf (now (t .exit)) o (now (s .exit)) (r .ok)) ⌝ }
 {
-    let m = wide(head_word(t, 3 + k));
+    let m = wide(size_word(t, k));
     let mut goes = [0u32; 8];
     let mut adds = [0u32; 8];
     let mut v: usize = 0;
@@ -139,7 +140,7 @@ pub fn join_costs(t: &mut [u32], s: &mut [u32], o: Operator, a: Arm, b: Arm) -> 
     ensures { λ r. ⌜ Result (now (t .entry)) (now (t .exit)) 0 (together o (meaning (nodes (now (t .entry))) (branch (a .to) (a .adds))) (meaning (nodes (now (t .entry))) (branch (b .to) (b .adds)))) r ⌝ }
 {
     clear(s);
-    let r = branch_result(t, s, o, 0, a, b, 2147483648);
+    let r = branch_result(t, s, o, 0, a, b, ZERO);
     clear_far(t);
     r
 }

@@ -4,6 +4,7 @@ use cost_memory::LARGER;
 use cost_memory::SCALE;
 use cost_memory::SMALLER;
 use cost_memory::SUBTRACT;
+use cost_words::ZERO;
 use cost_words::difference_word;
 use cost_words::sum_word;
 use words::wide;
@@ -44,6 +45,9 @@ fn times(p: usize, q: usize) -> usize
     p * q
 }
 
+// The word that stands for 0, where words are multiplied.
+const WIDE_ZERO: usize = 2147483648;
+
 // The word that stands for the product of two.
 fn product_word(a: u32, c: u32) -> u32
     requires { ⌜ Fit addMost (int a *ℤ int c) ⌝ }
@@ -51,16 +55,16 @@ fn product_word(a: u32, c: u32) -> u32
 {
     let x = wide(a);
     let y = wide(c);
-    if x < 2147483648 {
-        if y < 2147483648 {
-            return (2147483648 + times(2147483648 - x, 2147483648 - y)) as u32;
+    if x < WIDE_ZERO {
+        if y < WIDE_ZERO {
+            return (WIDE_ZERO + times(WIDE_ZERO - x, WIDE_ZERO - y)) as u32;
         }
-        return (2147483648 - times(2147483648 - x, y - 2147483648)) as u32;
+        return (WIDE_ZERO - times(WIDE_ZERO - x, y - WIDE_ZERO)) as u32;
     }
-    if y < 2147483648 {
-        return (2147483648 - times(x - 2147483648, 2147483648 - y)) as u32;
+    if y < WIDE_ZERO {
+        return (WIDE_ZERO - times(x - WIDE_ZERO, WIDE_ZERO - y)) as u32;
     }
-    (2147483648 + times(x - 2147483648, y - 2147483648)) as u32
+    (WIDE_ZERO + times(x - WIDE_ZERO, y - WIDE_ZERO)) as u32
 }
 
 // The word of a difference one branch on: with what the second adds, less what the first adds.
@@ -103,13 +107,13 @@ pub fn gap_word(o: Operator, d: u32, a: u32, b: u32) -> u32
 fn at_most_zero(d: u32) -> u32
     ensures { λ r. ⌜ int r ≡ smallerOf (pos 0) (int d) ⌝ }
 {
-    if d < 2147483648 { d } else { 2147483648 }
+    if d < ZERO { d } else { ZERO }
 }
 
 fn at_least_zero(d: u32) -> u32
     ensures { λ r. ⌜ int r ≡ largerOf (pos 0) (int d) ⌝ }
 {
-    if 2147483648 < d { d } else { 2147483648 }
+    if ZERO < d { d } else { ZERO }
 }
 
 // The result where both have ended: the operator of 0 and d.
@@ -119,9 +123,9 @@ pub fn end_word(o: Operator, d: u32) -> u32
 {
     match o {
         Operator::Add => d,
-        Operator::Subtract => difference_word(2147483648, d),
+        Operator::Subtract => difference_word(ZERO, d),
         Operator::Smaller => at_most_zero(d),
         Operator::Larger => at_least_zero(d),
-        Operator::Scale(c) => 2147483648,
+        Operator::Scale(c) => ZERO,
     }
 }

@@ -18,7 +18,7 @@ use Rattle.cost_laws.proofs.Extremes.{Taken, Way, extreme-beats, extrem
 use Rattle.cost_laws.proofs.Placing.{Takes}
 use Rattle.promises.specs.Integers.{Fit, rise, fall}
 use Rattle.promises.specs.CostOperations.{chosen, constant, larger, priced, scaled, smaller, smallerOf, largerOf, chosenOf}
-use Rattle.promises.specs.Range.{Leaves, Within, costMost}
+use Rattle.promises.specs.Range.{LeavesRange, Within, costMost}
 use Rattle.promises.specs.CostSound.{extreme}
 
 -- ---- by the lowest and the highest
@@ -51,14 +51,14 @@ within-exactly B ns p f = (
   },
 )
 
-pub within-stays : {S : List ℕ} {f : Cost} → Within costMost S f → Leaves S f → ⊥
+pub within-stays : {S : List ℕ} {f : Cost} → Within costMost S f → LeavesRange S f → ⊥
 within-stays h l = l .out (h .fits (l .setting) (l .valid))
 
 -- RANGE EXACTLY: one of the two, and which one the lowest and the highest tell
-pub within-or-leaves : (S : List ℕ) → Pos S → (f : Cost) → Within costMost S f ⊎ Leaves S f
+pub within-or-leaves : (S : List ℕ) → Pos S → (f : Cost) → Within costMost S f ⊎ LeavesRange S f
 within-or-leaves S p f = go (decLe (fall (lowestOf S f)) costMost) (decLe (rise (highestOf S f)) costMost)
   where
-    go : Dec (fall (lowestOf S f) ≤ costMost) → Dec (rise (highestOf S f) ≤ costMost) → Within costMost S f ⊎ Leaves S f
+    go : Dec (fall (lowestOf S f) ≤ costMost) → Dec (rise (highestOf S f) ≤ costMost) → Within costMost S f ⊎ LeavesRange S f
     go (yes a) (yes b) = inl (within-exactly costMost S p f .1 (a, b))
     go (yes a) (no b) =
         let t : Taken S f (highestOf S f) = extreme-taken high S p f in

@@ -12,10 +12,10 @@ use lib.Seq.{ext-getD}
 use Rattle.theory.specs.Build.{Built, make}
 use Rattle.theory.specs.Costs.{costs}
 use Rattle.theory.specs.Deciding.{Alike}
-use Rattle.theory.specs.Diagrams.{Branch, blank, up}
+use Rattle.theory.specs.Diagrams.{Branch, Target, blank, node, up}
 use Rattle.theory.specs.WellFormed.{Ok}
 use Rattle.theory.proofs.Lists.{getD-map-in}
-use Rattle.theory.proofs.Offsets.{Level, branchTo}
+use Rattle.theory.proofs.Offsets.{Level}
 use Rattle.cost_laws.specs.Extremes.{along, keptAt, own}
 use Rattle.cost_laws.proofs.Extremes.{across-ext}
 use Rattle.cost_laws.proofs.Integers.{ℕ-eq, sum-ℕ, minus-ℕ, minus-self}
@@ -30,10 +30,11 @@ use Rattle.records.specs.Changes.{pairOf, Pushed, RecordIs, Finds as FindsRecor
 use Rattle.records.specs.Nodes.{Listed, nodeOf, Behind, Absent}
 use Rattle.records.proofs.Making as M
 use Rattle.cost_words.specs.Sides.{endOf, armSum, Bodied, Sides}
-use Rattle.cost_words.specs.Words.{code, packed, pairWord}
+use Rattle.cost_words.specs.Words.{code, packed, pairWord, targetOf}
 use Rattle.cost_words.proofs.Pairing.{new-pair}
 use Rattle.cost_words.specs.declared.Target.{Target as CodeTarget}
-use Rattle.cost_words.proofs.Packing.{target-node, target-one, int-zero, packed-goes, packed-added, faithful}
+use Rattle.cost_words.specs.declared.Target.the-variants.{Node as NodeIs}
+use Rattle.cost_words.proofs.Packing.{target-one, word-again, int-zero, packed-goes, packed-added, faithful}
 use Rattle.cost_nodes.specs.Nodes.{layout, Holds, Levelled, AllSame, Finds, arms, Armed, Lowered, Makes}
 use Rattle.cost_nodes.specs.declared.Answer.the-variants.{Is, NoRoom}
 use Rattle.cost_nodes.specs.declared.Found.{Found}
@@ -41,9 +42,9 @@ use Rattle.cost_nodes.specs.declared.Found.the-variants.{At, Missing}
 use Rattle.cost_nodes.proofs.Reading.{lawful, ok-small}
 use Rattle.promises.specs.Integers.{Fit, int}
 use Rattle.promises.specs.Range.{addMost}
-use Rattle.promises.specs.CostSound.{across, kept, sideOf}
+use Rattle.promises.specs.CostSound.{across, bare, kept, sideOf}
 use Rattle.promises.specs.Words.{capacity, features, size, sizes, count}
-use Rattle.promises.specs.CostWords.{costBranch as branch, goes, added, costNodes as nodes}
+use Rattle.promises.specs.CostWords.{target, costBranch as branch, goes, added, costNodes as nodes}
 
 -- ---- what the search's answer tells
 pub found-at : (w : List ℕ) (k : ℕ) (l : List ℕ) (r : Found) (x : CodeTarget) → r ≡ At x → Finds w k l r → Finds w k l (At x)
@@ -52,9 +53,9 @@ found-at w k l r x e f = subst (λ (y : Found). Finds w k l y) e f
 pub found-missing : (w : List ℕ) (k : ℕ) (l : List ℕ) (r : Found) → r ≡ Missing → Finds w k l r → Absent code w k l
 found-missing w k l r e f = subst (λ (y : Found). Finds w k l y) e f
 
--- the branch that adds nothing to node i
-node-branch : (x i : ℕ) → x ≡ suc i → branchTo i ≡ branch x 2147483648
-node-branch x i e = λ j. record { adds = sym int-zero j; to = sym (target-node x i e) j }
+-- the word 2,147,483,648 adds nothing
+bare-branch : (x : ℕ) (t : Target costs) → target x ≡ t → bare t ≡ branch x 2147483648
+bare-branch x t e = λ j. record { adds = sym int-zero j; to = sym e j }
 
 -- ---- find
 module _ (w : List ℕ) (k : ℕ) (l : List ℕ) (ok : Holds w) (hk : k < features w) (lv : Levelled w k l) where
@@ -67,11 +68,17 @@ module _ (w : List ℕ) (k : ℕ) (l : List ℕ) (ok : Holds w) (hk : k < featur
   level-bs : Level bs
   level-bs = ap (λ (b : Branch costs). b .adds) (M.at-bs faithful w k l ok hk (lv .fits) 0 (omega (arith, many .0))) ∙ ap int (lv .level) ∙ int-zero
 
+  -- the first target is small
+  first-small : goes (listed l) 0 ≤ count w
+  first-small = ok-small w (suc k) (goes (listed l) 0) (added (listed l) 0) (lv .fits .each 0 (omega (arith, many .0)))
+
   -- equal branches need no node
-  pub found-same : (x : ℕ) → x ≡ goes (listed l) 0 → AllSame (size w k) l → make k bs (nodes w) ≡ (branch x 2147483648, nodes w)
-  found-same x e s =
-      M.found-same faithful w k l ok hk (lv .fits) (λ v h. ap₂ branch (s .targets v h) (s .addeds v h))
-      ∙ ap (λ (b : Branch costs). let t : Built costs = (b, nodes w) in t) (ap₂ branch (sym e) (lv .level))
+  pub found-same : (x : CodeTarget) → targetOf x ≡ target (goes (listed l) 0) → AllSame (size w k) l → Finds w k l (At x)
+  found-same x e s = (
+    M.found-same faithful w k l ok hk (lv .fits) (λ v h. ap₂ branch (s .targets v h) (s .addeds v h))
+        ∙ ap (λ (b : Branch costs). let t : Built costs = (b, nodes w) in t) (ap (branch (goes (listed l) 0)) (lv .level) ∙ sym (bare-branch (goes (listed l) 0) (targetOf x) (sym e))),
+    word-again x (goes (listed l) 0) e (omega (arith, first-small, ok .laid .laid .within, ok .laid .laid .most)),
+  )
 
   not-alike : (AllSame (size w k) l → ⊥) → ¬ Alike blank bs
   not-alike n a =
@@ -81,17 +88,12 @@ module _ (w : List ℕ) (k : ℕ) (l : List ℕ) (ok : Holds w) (hk : k < featur
       })
 
   -- an equal node is there
-  pub found-node : (x i : ℕ) → x ≡ suc i → i < count w → (AllSame (size w k) l → ⊥) → RecordIs w i k l → make k bs (nodes w) ≡ (branch x 2147483648, nodes w)
-  found-node x i e h n q =
-      M.found-node faithful w k l ok hk (lv .fits) level-bs i h (not-alike n) q ∙ ap (λ (b : Branch costs). let t : Built costs = (b, nodes w) in t) (node-branch x i e)
+  pub found-node : (i : ℕ) → i < count w → (AllSame (size w k) l → ⊥) → RecordIs w i k l → Finds w k l (At (NodeIs i))
+  found-node i h n q = (M.found-node faithful w k l ok hk (lv .fits) level-bs i h (not-alike n) q, omega (arith, h, ok .laid .laid .within, ok .laid .laid .most))
 
   -- neither: the branch must be made
   pub found-none : (r : ℕ) → r ≡ 0 → (AllSame (size w k) l → ⊥) → FindsRecord w k l r → Absent code w k l
   found-none r z n f = M.found-none faithful w k l ok hk (lv .fits) r z (not-alike n) f
-
-  -- the first target is small
-  pub first-small : goes (listed l) 0 ≤ count w
-  first-small = ok-small w (suc k) (goes (listed l) 0) (added (listed l) 0) (lv .fits .each 0 (omega (arith, many .0)))
 
 -- ---- make
 pub small-target : (w : List ℕ) (k : ℕ) (x a : List ℕ) → Holds w → Armed w k x a → (v : ℕ) → v < 8 → listed x v < 65536
@@ -215,14 +217,16 @@ module _ (w : List ℕ) (k : ℕ) (x a r l : List ℕ) (ok : Holds w) (hk : k < 
       go (suc zero) h = pair .1 ∙ ap (λ (i : ℕ). pairWord (sizes w) (nodes w ++ (nodeOf code w k l ∷ [])) i 1) (length-nodes code w)
       go (suc (suc j)) h = absurd (omega arith)
 
-  pub made-new : (w′ : List ℕ) (y c d n : ℕ) → Absent code w k l → count w < capacity w → y ≡ suc (count w) → n ≡ m → Sides w l n c d → Pushed w w′ k l c d → Makes w w′ k x a (Is y (listed a 0))
-  made-new w′ y c d n ab less e en s p =
+  pub made-new : (w′ : List ℕ) (y i c d n : ℕ) → Absent code w k l → count w < capacity w → target y ≡ node i → i ≡ count w → n ≡ m → Sides w l n c d → Pushed w w′ k l c d → Makes w w′ k x a (Is y (listed a 0))
+  made-new w′ y i c d n ab less e ei en s p =
       answered w′ y
-      (subst (λ (b : Branch costs). H.Gives layout w w′ (make k (branches code m (listed l)) (nodes w)) (some b)) (node-branch y (count w) e)
+      (subst (λ (b : Branch costs). H.Gives layout w w′ (make k (branches code m (listed l)) (nodes w)) (some b)) (bare-branch y (node (count w)) (e ∙ ap node ei))
       (M.made-new faithful w k l ok hk fits (level-bs w k l ok hk levelled) w′ ab less (behind c d ab (subst (λ (q : ℕ). Sides w l q c d) en s)) p))
 
   pub made-none : Absent code w k l → (count w < capacity w → ⊥) → Makes w w k x a NoRoom
   made-none ab full = lifted w none (M.made-none faithful w k l ok hk fits (level-bs w k l ok hk levelled) ab full)
 
-  pub made-there : (y : ℕ) → make k (branches code m (listed l)) (nodes w) ≡ (branch y 2147483648, nodes w) → Makes w w k x a (Is y (listed a 0))
-  made-there y d = answered w y (M.made-there faithful w k l ok hk fits (branch y 2147483648) d)
+  pub made-there : (y : ℕ) (t : CodeTarget) → target y ≡ targetOf t → make k (branches code m (listed l)) (nodes w) ≡ (bare (targetOf t), nodes w) → Makes w w k x a (Is y (listed a 0))
+  made-there y t e d =
+      answered w y
+      (M.made-there faithful w k l ok hk fits (branch y 2147483648) (d ∙ ap (λ (b : Branch costs). let o : Built costs = (b, nodes w) in o) (bare-branch y (targetOf t) e)))

@@ -15,7 +15,7 @@ use Rattle.words.specs.Coding.{branches}
 use Rattle.words.specs.Holding as H
 use Rattle.words.specs.Words.{listed}
 use Rattle.records.specs.Nodes as R
-use Rattle.cost_words.specs.Words.{code, wordOf}
+use Rattle.cost_words.specs.Words.{code, targetOf, Worded}
 use Rattle.cost_nodes.specs.declared.Found.{Found}
 use Rattle.cost_nodes.specs.declared.Found.the-variants.{At, Missing}
 use Rattle.cost_nodes.specs.declared.Answer.{Answer}
@@ -24,7 +24,7 @@ use Rattle.promises.specs.Integers.{Fit, int}
 use Rattle.promises.specs.Range.{addMost}
 use Rattle.promises.specs.Tab.{tab}
 use Rattle.promises.specs.Words.{features, size, sizes, feature}
-use Rattle.promises.specs.CostSound.{kept, sideOf}
+use Rattle.promises.specs.CostSound.{bare, kept, sideOf}
 use Rattle.promises.specs.CostWords.{target, costBranch as branch, goes, added, costNodes as nodes}
 
 -- ---- the table
@@ -69,7 +69,7 @@ pub record AllSame (m : ℕ) (l : List ℕ) : Type 0 where
 
 -- what it found is what `make` gives, and it says missing only where `make` adds a node
 abbrev pub Finds : List ℕ → ℕ → List ℕ → Found → Type 0
-Finds w k l (At x) = (make k (branches code (size w k) (listed l)) (nodes w) ≡ (branch (wordOf x) 2147483648, nodes w)) × (wordOf x < 65536)
+Finds w k l (At x) = (make k (branches code (size w k) (listed l)) (nodes w) ≡ (bare (targetOf x), nodes w)) × (Worded x)
 Finds w k l Missing = R.Absent code w k l
 
 -- ---- the making of a node

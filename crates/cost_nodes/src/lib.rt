@@ -1,5 +1,6 @@
 // The nodes of a cost table: the unique search, the making of a node, the branches of places, and steps down a diagram.
 use cost_words::Target;
+use cost_words::ZERO;
 use cost_words::adds_at;
 use cost_words::base_word;
 use cost_words::difference_word;
@@ -12,9 +13,12 @@ use cost_words::target_at;
 use cost_words::target_word;
 use records::find_record;
 use records::push;
-use words::head_word;
+use words::capacity_word;
+use words::count_word;
+use words::features_word;
 use words::narrow;
 use words::record_word;
+use words::size_word;
 use words::wide;
 ghost use mathlib.Core.Path.{_≡_};
 ghost use Prim.Native.Nat.{ℕ, _+_, _≤_, _<_};
@@ -67,7 +71,7 @@ pub fn find(t: &[u32], k: usize, list: [u32; 12]) -> Found
     requires { ⌜ (Holds (now t)) × (k < features (now t)) × (Levelled (now t) k list) ⌝ }
     ensures { λ r. ⌜ Finds (now (t .entry)) k list r ⌝ }
 {
-    if all_same(list, wide(head_word(t, 3 + k))) {
+    if all_same(list, wide(size_word(t, k))) {
         return Found::At(target_at(half_of(list[0], 0)));
     }
     let c = find_record(t, k, list);
@@ -96,11 +100,11 @@ pub fn make(t: &mut [u32], k: usize, goes: [u32; 8], adds: [u32; 8]) -> Answer
     requires { ⌜ (Holds (now t)) × (k < features (now t)) × (Armed (now t) k goes adds) ⌝ }
     ensures { λ r. ⌜ Makes (now (t .entry)) (now (t .exit)) k goes adds r ⌝ }
 {
-    let m = wide(head_word(t, 3 + k));
+    let m = wide(size_word(t, k));
     let list = pack(goes, lowered(adds, m));
     let base = adds[0];
     let Found::At(x) = find(t, k, list) else {
-        if head_word(t, 19) < head_word(t, 1) {
+        if count_word(t) < capacity_word(t) {
             let pair = sides_of(t, list, m);
             let i = narrow(push(t, k, list, pair.low, pair.high));
             return Answer::Is(target_word(Target::Node(i)), base);
@@ -133,7 +137,7 @@ pub fn top_of(t: &[u32], x: u32) -> usize
     ensures { λ r. ⌜ r ≡ top (now (t .entry)) x ⌝ }
 {
     if x == 0 {
-        wide(head_word(t, 2))
+        wide(features_word(t))
     } else {
         wide(record_word(t, wide(x - 1), 0))
     }
@@ -151,9 +155,6 @@ pub fn arm_at(t: &[u32], k: usize, x: u32, v: usize) -> Arm
             adds: adds_at(t, i, v),
         }
     } else {
-        Arm {
-            to: x,
-            adds: 2147483648,
-        }
+        Arm { to: x, adds: ZERO }
     }
 }

@@ -10,7 +10,8 @@ use cost_nodes::make;
 use cost_nodes::top_of;
 use cost_words::Span;
 use cost_words::kept_span;
-use words::head_word;
+use words::RECORDS;
+use words::capacity_word;
 use words::wide;
 ghost use mathlib.Core.Path.{_≡_};
 ghost use Prim.Native.Nat.{ℕ, _≤_, _<_};
@@ -63,9 +64,9 @@ pub fn recall_in(t: &[u32], s: &[u32], o: u32, tag: u32, x: u32, y: u32, d: u32)
     requires { ⌜ Roomy (now t) ⌝ }
     ensures { λ r. ⌜ Recalls (memory (now (t .entry)) (now (s .entry))) tag x y d r ⌝ }
 {
-    let n = 16 * wide(head_word(t, 1));
+    let n = 16 * wide(capacity_word(t));
     if s.len() < n {
-        let from = 8192 + n;
+        let from = RECORDS + n;
         let end = from + n;
         return recall(&t[from..end], o, tag, x, y, d);
     }
@@ -87,9 +88,9 @@ pub fn remember_in(
     requires { ⌜ (Roomy (now t)) × (0 < tag) ⌝ }
     ensures { λ _. ⌜ (plain (now (t .exit)) ≡ plain (now (t .entry))) × (Stored (memory (now (t .entry)) (now (s .entry))) (memory (now (t .exit)) (now (s .exit))) tag x y d z e) ⌝ }
 {
-    let n = 16 * wide(head_word(t, 1));
+    let n = 16 * wide(capacity_word(t));
     if s.len() < n {
-        let from = 8192 + n;
+        let from = RECORDS + n;
         let end = from + n;
         remember(&mut t[from..end], o, tag, x, y, d, z, e);
         return;

@@ -35,7 +35,7 @@ use Rattle.cost_settling.proofs.Settling.{sound-holds, write-pass}
 use Rattle.cost_operations.specs.Joining.{put-cases, Joins}
 use Rattle.promises.specs.Integers.{Fit, int}
 use Rattle.promises.specs.CostOperations.{joined, scaled}
-use Rattle.promises.specs.Range.{Leaves, Within, costMost}
+use Rattle.promises.specs.Range.{LeavesRange, Within, costMost}
 use Rattle.promises.specs.Words.{sizes}
 use Rattle.promises.specs.CostWords.{costNodes as nodes, rootAt}
 use Rattle.promises.specs.CostSound.{CostSound as Sound}
@@ -45,7 +45,7 @@ use Rattle.promises.specs.CostDeeds.{costed, range-cases}
 
 -- ---- the range
 -- costs that agree leave their range together
-leaves-agree : {S : List ℕ} {g h : Cost} → Agree S g h → Leaves S g → Leaves S h
+leaves-agree : {S : List ℕ} {g h : Cost} → Agree S g h → LeavesRange S g → LeavesRange S h
 leaves-agree e l = record { setting = l .setting; valid = l .valid; out = λ f. l .out (subst (Fit costMost) (sym (offs (e (l .setting) (l .valid)))) f) }
 
 module _ {w : List ℕ} (s : Sound w) {p : ℕ} {g : Cost} where

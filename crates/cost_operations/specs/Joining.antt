@@ -8,12 +8,12 @@ use Rattle.settings.specs.declared.refusals.Refusal.the-variants.{Range, NoRoom
 use Rattle.settings.specs.declared.refusals.Outcome.{Outcome}
 use Rattle.costs.specs.Writing.{Writes}
 use Rattle.cost_settling.specs.Settling.{Exceeds}
-use Rattle.promises.specs.Range.{Leaves}
+use Rattle.promises.specs.Range.{LeavesRange}
 use Rattle.promises.specs.Words.{sizes}
 
 -- the cost g is put into a place: RANGE where it leaves its range, even in a full table, then NO ROOM
 abbrev pub put-cases : Cost → List ℕ → Cases
-put-cases g w = Range when (Leaves (sizes w) g) else NoRoom when (Exceeds w g) else taken
+put-cases g w = Range when (LeavesRange (sizes w) g) else NoRoom when (Exceeds w g) else taken
 
 -- the cost g, worked out and put into place p: written, whichever way the cost is said
 pub record Joins (p : ℕ) (g : Cost) (w w′ : List ℕ) (o : Outcome) : Type 0 where

@@ -6,7 +6,9 @@ use cost_settling::settle;
 use costs::door;
 use settings::Outcome;
 use settings::Refusal;
-use words::head_word;
+use words::count_word;
+use words::features_word;
+use words::size_word;
 use words::wide;
 ghost use Prim.Native.Nat.{_≤_, _<_};
 ghost use lib.ListN.{length};
@@ -52,7 +54,7 @@ fn put_prices(t: &mut [u32], place: usize, feature: usize, prices: &[i64]) -> Ou
     requires { ⌜ (CostSound (now t)) × (place < 16) × (Listed feature (now prices) (now t)) ⌝ }
     ensures { λ r. ⌜ Puts place (priced feature (now (prices .entry))) (now (t .entry)) (now (t .exit)) r ⌝ }
 {
-    let used = wide(head_word(t, 19));
+    let used = wide(count_word(t));
     let adds = words_of(prices);
     let r = make(t, feature, [0u32; 8], adds);
     settle(t, place, used, r)
@@ -66,10 +68,10 @@ pub fn price(t: &mut [u32], place: usize, feature: usize, prices: &[i64]) -> Out
     if let Outcome::Refused(x) = o {
         return Outcome::Refused(x);
     }
-    if wide(head_word(t, 2)) <= feature {
+    if wide(features_word(t)) <= feature {
         return Outcome::Refused(Refusal::BadArgument);
     }
-    if prices.len() != wide(head_word(t, 3 + feature)) {
+    if prices.len() != wide(size_word(t, feature)) {
         return Outcome::Refused(Refusal::BadArgument);
     }
     if !prices_ok(prices) {

@@ -8,7 +8,8 @@ use cost_settling::settle;
 use costs::door;
 use settings::Outcome;
 use settings::Refusal;
-use words::head_word;
+use words::capacity_word;
+use words::count_word;
 use words::wide;
 ghost use Prim.Native.Nat.{_<_};
 ghost use Rattle.theory.specs.Diagrams.{meaning};
@@ -36,7 +37,7 @@ fn put_joint_in(
     if !in_range(t, scratch, o, a, b) {
         return Outcome::Refused(Refusal::Range);
     }
-    let used = wide(head_word(t, 19));
+    let used = wide(count_word(t));
     let r = join_costs(t, scratch, o, a, b);
     settle(t, place, used, r)
 }
@@ -53,7 +54,7 @@ pub fn put_joint(
     requires { ⌜ (CostSound (now t)) × (place < 16) × (Operable (now t) o (branch (a .to) (a .adds)) (branch (b .to) (b .adds))) ⌝ }
     ensures { λ r. ⌜ Joins place (together o (meaning (nodes (now (t .entry))) (branch (a .to) (a .adds))) (meaning (nodes (now (t .entry))) (branch (b .to) (b .adds)))) (now (t .entry)) (now (t .exit)) r ⌝ }
 {
-    if head_word(t, 1) < 384 {
+    if capacity_word(t) < 384 {
         if scratch.len() < 6144 {
             let mut own = [0u32; 6144];
             return put_joint_in(t, &mut own, place, o, a, b);

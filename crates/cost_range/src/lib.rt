@@ -12,6 +12,7 @@ use cost_notes::lowest;
 use cost_notes::recall_in;
 use cost_notes::remember_in;
 use cost_words::Span;
+use cost_words::ZERO;
 use cost_words::difference_or_lost;
 use cost_words::further;
 use cost_words::kept_span;
@@ -19,8 +20,8 @@ use cost_words::sum_or_lost;
 use cost_words::sum_word;
 use notes::clear;
 use notes::clear_far;
-use words::head_word;
 use words::narrow;
+use words::size_word;
 use words::wide;
 ghost use mathlib.Core.Path.{_≡_};
 ghost use Prim.Native.Nat.{_+_, _≤_, _<_};
@@ -147,7 +148,7 @@ fn fold_branches(t: &mut [u32], s: &mut [u32], minus: bool, k: usize, x: u32, y:
     requires { ⌜ (Pair (plain (now t)) k x y) × (Noted minus (now t) (now s)) × (k < features (plain (now t))) ⌝ }
     ensures { λ r. ⌜ (Reaches (drop k (sizes (plain (now (t .entry))))) (ofTargets minus (plain (now (t .entry))) k x y) r) × (plain (now (t .exit)) ≡ plain (now (t .entry))) × (Noted minus (now (t .exit)) (now (s .exit))) ⌝ }
 {
-    let m = wide(head_word(t, 3 + k));
+    let m = wide(size_word(t, k));
     let mut low: u32 = 0;
     let mut high: u32 = 0;
     let mut v: usize = 0;
@@ -226,10 +227,10 @@ fn distance(a: u32) -> usize
     requires { ⌜ Fit costMost (int a) ⌝ }
     ensures { λ r. ⌜ (r ≡ rise (int a) + fall (int a)) × (r ≤ costMost) ⌝ }
 {
-    if a < 2147483648 {
-        return wide(2147483648 - a);
+    if a < ZERO {
+        return wide(ZERO - a);
     }
-    wide(a - 2147483648)
+    wide(a - ZERO)
 }
 
 // Whether the product of two integers in range lies in range.

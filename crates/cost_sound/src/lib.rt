@@ -11,18 +11,25 @@ ghost use Rattle.cost_sound.specs.Walk.{Ordered, Visits, VisitsAll};
 use checks::chains_ok;
 use checks::header_ok;
 use checks::sits;
+use cost_words::ZERO;
 use cost_words::adds_at;
 use cost_words::goes_to;
 use cost_words::root_word;
 use range::pairs_ok;
 use range::places_ok;
-use words::head_word;
+use words::NODES;
+use words::count_word;
+use words::features_word;
 use words::record_word;
+use words::size_word;
 use words::wide;
 ghost use Rattle.promises.specs.Words.{features, count, sizes, feature, body};
 ghost use Rattle.promises.specs.CostWords.{Padded, costNodes as nodes, costRoots as roots};
 ghost use Rattle.promises.specs.Sound.{Header};
 ghost use Rattle.promises.specs.CostSound.{CostLower as Lower, CostAdds as Adds, CostAlike as Alike, CostNodeOk as NodeOk, CostNodesOk as Nodes, CostRooted as Rooted, CostSound as Sound};
+
+// A walk that met a node out of its turn; more than any count of nodes.
+const LOST: usize = 8192;
 
 // Whether each branch of node i goes to the end or to an earlier node of a higher feature.
 fn lower(t: &[u32], i: usize) -> bool
@@ -30,7 +37,7 @@ fn lower(t: &[u32], i: usize) -> bool
     ensures { λ r. ⌜ Tells r (Lower (now (t .entry)) i) ⌝ }
 {
     let k = wide(record_word(t, i, 0));
-    let s = wide(head_word(t, 3 + k));
+    let s = wide(size_word(t, k));
     let mut v: usize = 0;
     while v < s {
         if !sits(t, 1, i, k + 1, goes_to(t, i, v)) {
@@ -46,10 +53,10 @@ fn adds_ok(t: &[u32], i: usize) -> bool
     requires { ⌜ (Header 2 (now t)) × (i < count (now t)) × (feature (now t) i < features (now t)) ⌝ }
     ensures { λ r. ⌜ Tells r (Adds (now (t .entry)) i) ⌝ }
 {
-    if adds_at(t, i, 0) != 2147483648 {
+    if adds_at(t, i, 0) != ZERO {
         return false;
     }
-    let s = wide(head_word(t, 3 + wide(record_word(t, i, 0))));
+    let s = wide(size_word(t, wide(record_word(t, i, 0))));
     let mut v: usize = 0;
     while v < s {
         let a = adds_at(t, i, v);
@@ -69,14 +76,14 @@ fn alike(t: &[u32], i: usize) -> bool
     requires { ⌜ (Header 2 (now t)) × (i < count (now t)) × (feature (now t) i < features (now t)) ⌝ }
     ensures { λ r. ⌜ Tells r (Alike (now (t .entry)) i) ⌝ }
 {
-    let s = wide(head_word(t, 3 + wide(record_word(t, i, 0))));
+    let s = wide(size_word(t, wide(record_word(t, i, 0))));
     let first = goes_to(t, i, 0);
     let mut v: usize = 0;
     while v < s {
         if goes_to(t, i, v) != first {
             return false;
         }
-        if adds_at(t, i, v) != 2147483648 {
+        if adds_at(t, i, v) != ZERO {
             return false;
         }
         v += 1;
@@ -108,7 +115,7 @@ fn node_ok(t: &[u32], i: usize) -> bool
     ensures { λ r. ⌜ Tells r (NodeOk (now (t .entry)) i) ⌝ }
 {
     let k = wide(record_word(t, i, 0));
-    if wide(head_word(t, 2)) <= k {
+    if wide(features_word(t)) <= k {
         return false;
     }
     if !lower(t, i) {
@@ -120,7 +127,7 @@ fn node_ok(t: &[u32], i: usize) -> bool
     if alike(t, i) {
         return false;
     }
-    padded_ok(t, i, wide(head_word(t, 3 + k)))
+    padded_ok(t, i, wide(size_word(t, k)))
 }
 
 // Whether each node in use is one.
@@ -128,7 +135,7 @@ fn nodes_ok(t: &[u32]) -> bool
     requires { ⌜ Header 2 (now t) ⌝ }
     ensures { λ r. ⌜ Tells r (Nodes (now (t .entry))) ⌝ }
 {
-    let n = wide(head_word(t, 19));
+    let n = wide(count_word(t));
     let mut i: usize = 0;
     while i < n {
         if !node_ok(t, i) {
@@ -144,7 +151,7 @@ fn roots_ok(t: &[u32]) -> bool
     requires { ⌜ Header 2 (now t) ⌝ }
     ensures { λ r. ⌜ Tells r (Rooted (now (t .entry))) ⌝ }
 {
-    let n = wide(head_word(t, 19));
+    let n = wide(count_word(t));
     let mut p: usize = 0;
     while p < 16 {
         if !sits(t, 1, n, 0, root_word(t, p)) {
@@ -171,7 +178,7 @@ fn visit(t: &[u32], b: u32, c: usize) -> usize
     if visit_list(t, i, c) == i {
         return i + 1;
     }
-    8192
+    LOST
 }
 
 // The same over the branches of node i in turn. A lost walk stops at once, so each node's branches are walked once.
@@ -179,13 +186,13 @@ fn visit_list(t: &[u32], i: usize, c: usize) -> usize
     requires { ⌜ (Ordered (now t)) × (i < count (now t)) × (c ≤ count (now t)) ⌝ }
     ensures { λ r. ⌜ VisitsAll (now (t .entry)) i c r ⌝ }
 {
-    let s = wide(head_word(t, 3 + wide(record_word(t, i, 0))));
+    let s = wide(size_word(t, wide(record_word(t, i, 0))));
     let mut d = c;
     let mut v: usize = 0;
     while v < s {
         d = visit(t, goes_to(t, i, v), d);
-        if 4096 < d {
-            return 8192;
+        if NODES < d {
+            return LOST;
         }
         v += 1;
     }
@@ -201,12 +208,12 @@ fn order_ok(t: &[u32]) -> bool
     let mut p: usize = 0;
     while p < 16 {
         d = visit(t, root_word(t, p), d);
-        if 4096 < d {
+        if NODES < d {
             return false;
         }
         p += 1;
     }
-    d == wide(head_word(t, 19))
+    d == wide(count_word(t))
 }
 
 // Whether the words are a sound cost table. It reads any slice.

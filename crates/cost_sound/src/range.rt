@@ -8,8 +8,9 @@ use cost_words::kept_span;
 use cost_words::root_word;
 use cost_words::sides_of;
 use words::body_of;
-use words::head_word;
+use words::count_word;
 use words::record_word;
+use words::size_word;
 use words::wide;
 ghost use Rattle.promises.specs.Range.{Within, costMost};
 ghost use Rattle.promises.specs.Words.{count, sizes};
@@ -21,7 +22,7 @@ fn own_ok(t: &[u32], i: usize) -> bool
     requires { ⌜ (Shaped (now t)) × (i < count (now t)) ⌝ }
     ensures { λ r. ⌜ Passes r (now (t .entry)) (Owns (now (t .entry)) i) ⌝ }
 {
-    let m = wide(head_word(t, 3 + wide(record_word(t, i, 0))));
+    let m = wide(size_word(t, wide(record_word(t, i, 0))));
     let pair = sides_of(t, body_of(t, i), m);
     if pair.low == 0 {
         return false;
@@ -40,7 +41,7 @@ pub fn pairs_ok(t: &[u32]) -> bool
     requires { ⌜ Shaped (now t) ⌝ }
     ensures { λ r. ⌜ Passes r (now (t .entry)) (Pairs (now (t .entry))) ⌝ }
 {
-    let n = wide(head_word(t, 19));
+    let n = wide(count_word(t));
     let mut i: usize = 0;
     while i < n {
         if !own_ok(t, i) {

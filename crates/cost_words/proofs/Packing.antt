@@ -1,5 +1,5 @@
 -- Targets and integers in words, and two targets in a word: read back. Assumes nothing.
-use mathlib.Core.Path.{_≡_, refl, sym, ap, ap₂, _∙_}
+use mathlib.Core.Path.{_≡_, refl, sym, ap, ap₂, subst, _∙_}
 use mathlib.Core.Logic.{⊎-elim}
 use mathlib.Core.List.{List}
 use Prim.Native.Nat.{ℕ, zero, suc, _+_, _*_, _-_, _/_, _%_, _≤_, _<_}
@@ -15,7 +15,9 @@ use Rattle.cost_laws.proofs.Integers.{ℕ-eq, minus-fall}
 use Rattle.cost_laws.proofs.Words.{int-ℕ, int-one, int-word, signed-word}
 use Rattle.words.specs.Coding.{Faithful}
 use Rattle.words.proofs.Tab.{split, same}
-use Rattle.cost_words.specs.Words.{targetWord, code, packed, pairWord}
+use Rattle.cost_words.specs.Words.{targetWord, code, packed, pairWord, targetOf, Worded}
+use Rattle.cost_words.specs.declared.Target.{Target as CodeTarget}
+use Rattle.cost_words.specs.declared.Target.the-variants.{End, Node as NodeIs}
 use Rattle.promises.specs.Integers.{fall, bias, int}
 use Rattle.promises.specs.CostOperations.{smallerOf, largerOf}
 use Rattle.promises.specs.CostWords.{target, costBranch as branch, half, goes, added, Padded}
@@ -41,6 +43,21 @@ word-target (node i) = refl
 
 pub target-one : (x y : ℕ) → target x ≡ target y → x ≡ y
 target-one x y e = sym (target-word x) ∙ ap targetWord e ∙ target-word y
+
+-- ---- the code's targets
+pub word-end : (x : CodeTarget) → x ≡ End → target 0 ≡ targetOf x
+word-end x e = target-end 0 refl ∙ sym (ap targetOf e)
+
+pub word-node : (x : CodeTarget) (i y : ℕ) → x ≡ NodeIs i → y ≡ suc i → target y ≡ targetOf x
+word-node x i y e h = target-node y i h ∙ sym (ap targetOf e)
+
+pub node-fits : (x : CodeTarget) (i : ℕ) → x ≡ NodeIs i → Worded x → i < 65535
+node-fits x i e h = subst (λ (y : CodeTarget). Worded y) e h
+
+-- the target of a small word has a word
+pub word-again : (x : CodeTarget) (y : ℕ) → targetOf x ≡ target y → y < 65536 → Worded x
+word-again End y e h = tt
+word-again (NodeIs i) y e h = let q : suc i ≡ y = ap targetWord e ∙ target-word y in omega (arith, q, h)
 
 -- ---- integers
 pub int-zero : int 2147483648 ≡ pos 0

@@ -1,6 +1,6 @@
 -- Contract between layers: what the words of a cost table say: its nodes, its roots and bases, its costs. Assumes nothing.
 use mathlib.Core.List.{List}
-use Prim.Native.Nat.{ℕ, zero, suc, _+_, _*_, _-_}
+use Prim.Native.Nat.{ℕ, zero, suc, _+_, _*_, _-_, _<_}
 use lib.Dec.{ltb}
 use Rattle.theory.specs.Costs.{costs}
 use Rattle.theory.specs.Diagrams.{Node, Target, leaf, node}
@@ -34,7 +34,12 @@ packed x a v = pick (ltb v 4) (x (2 * v) + 65536 * x (2 * v + 1)) (a (v - 4))
 abbrev pub nodeAt : List ℕ → ℕ → Node costs
 nodeAt w i = C.nodeAt code w i
 
--- the word of the code's target
-abbrev pub wordOf : CodeTarget → ℕ
-wordOf End = 0
-wordOf (NodeIs i) = 1 + i
+-- the code's target
+abbrev pub targetOf : CodeTarget → Target costs
+targetOf End = leaf tt
+targetOf (NodeIs i) = node i
+
+-- it has a word, which fits a half word
+abbrev pub Worded : CodeTarget → Type 0
+Worded End = Unit {0}
+Worded (NodeIs i) = i < 65535

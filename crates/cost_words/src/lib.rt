@@ -15,11 +15,19 @@ ghost use Prim.Native.Nat.{ℕ, _+_, _*_, _≤_, _<_};
 ghost use lib.ListN.{length, getD};
 ghost use lib.IntN.{_+ℤ_, _-ℤ_};
 ghost use Rattle.words.specs.Words.{listed};
-ghost use Rattle.cost_words.specs.Words.{packed, wordOf};
+ghost use Rattle.cost_words.specs.Words.{packed, targetOf, Worded};
 ghost use Rattle.promises.specs.Integers.{Fit, int};
 ghost use Rattle.promises.specs.Range.{addMost};
 ghost use Rattle.promises.specs.Words.{body};
-ghost use Rattle.promises.specs.CostWords.{half, goes, added, costRoot as root, costBase as base};
+ghost use Rattle.promises.specs.CostWords.{target, half, goes, added, costRoot as root, costBase as base};
+
+// The word that stands for the integer 0, here and where words are added up.
+pub const ZERO: u32 = 2147483648;
+
+const WIDE_ZERO: u64 = 2147483648;
+
+// A half word is below this.
+const HALF: u32 = 65536;
 
 // Where a branch goes: to the end or to a node.
 pub enum Target {
@@ -29,8 +37,8 @@ pub enum Target {
 
 // The word of a target.
 pub fn target_word(x: Target) -> u32
-    requires { ⌜ wordOf x < 65536 ⌝ }
-    ensures { λ r. ⌜ r ≡ wordOf x ⌝ }
+    requires { ⌜ Worded x ⌝ }
+    ensures { λ r. ⌜ target r ≡ targetOf x ⌝ }
 {
     match x {
         Target::End => 0,
@@ -40,7 +48,7 @@ pub fn target_word(x: Target) -> u32
 
 // The target of a word.
 pub fn target_at(w: u32) -> Target
-    ensures { λ r. ⌜ wordOf r ≡ w ⌝ }
+    ensures { λ r. ⌜ targetOf r ≡ target w ⌝ }
 {
     if w == 0 {
         Target::End
@@ -53,7 +61,7 @@ pub fn target_at(w: u32) -> Target
 pub fn half_of(x: u32, v: usize) -> u32
     ensures { λ r. ⌜ r ≡ half x v ⌝ }
 {
-    if v % 2 == 0 { x % 65536 } else { x / 65536 }
+    if v % 2 == 0 { x % HALF } else { x / HALF }
 }
 
 // The target word of value v of record i.
@@ -100,7 +108,7 @@ pub fn sum_word(a: u32, b: u32) -> u32
     requires { ⌜ Fit addMost (int a +ℤ int b) ⌝ }
     ensures { λ r. ⌜ int r ≡ int a +ℤ int b ⌝ }
 {
-    (wider(a) + wider(b) - 2147483648) as u32
+    (wider(a) + wider(b) - WIDE_ZERO) as u32
 }
 
 // The word that stands for the difference of two.
@@ -108,7 +116,7 @@ pub fn difference_word(a: u32, b: u32) -> u32
     requires { ⌜ Fit addMost (int a -ℤ int b) ⌝ }
     ensures { λ r. ⌜ int r ≡ int a -ℤ int b ⌝ }
 {
-    (wider(a) + 2147483648 - wider(b)) as u32
+    (wider(a) + WIDE_ZERO - wider(b)) as u32
 }
 
 // Body word v of a record with these targets and added words.
@@ -117,7 +125,7 @@ fn packed_word(to: [u32; 8], adds: [u32; 8], v: usize) -> u32
     ensures { λ r. ⌜ r ≡ packed (listed to) (listed adds) v ⌝ }
 {
     if v < 4 {
-        to[2 * v] + 65536 * to[2 * v + 1]
+        to[2 * v] + HALF * to[2 * v + 1]
     } else {
         adds[v - 4]
     }

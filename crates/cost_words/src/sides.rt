@@ -1,4 +1,5 @@
 // What a table keeps for its nodes, the lowest and the highest sum below each, and what that is for a body.
+use crate::ZERO;
 use crate::half_of;
 use crate::sums::further;
 use crate::sums::sum_or_lost;
@@ -20,8 +21,8 @@ pub fn kept_span(t: &[u32], x: u32) -> Span
 {
     if x == 0 {
         return Span {
-            low: 2147483648,
-            high: 2147483648,
+            low: ZERO,
+            high: ZERO,
         };
     }
     let i = wide(x - 1);

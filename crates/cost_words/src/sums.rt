@@ -7,6 +7,9 @@ ghost use Rattle.cost_words.specs.Sums.{Stands};
 ghost use Rattle.promises.specs.Integers.{int};
 ghost use Rattle.promises.specs.CostSound.{sideOf};
 
+// The word that stands for the integer 0.
+const ZERO: usize = 2147483648;
+
 // The word of a sum, or 0 if the sum lies outside ±2,000,000,000.
 pub fn sum_or_lost(a: u32, b: u32) -> u32
     ensures { λ r. ⌜ Stands (int a +ℤ int b) r ⌝ }
@@ -18,7 +21,7 @@ pub fn sum_or_lost(a: u32, b: u32) -> u32
     if 6294967296 < s {
         return 0;
     }
-    (s - 2147483648) as u32
+    (s - ZERO) as u32
 }
 
 // The word of a difference, or 0 if the difference lies outside ±2,000,000,000.

@@ -1,8 +1,11 @@
 // Opening a cost table in lent words.
 use calls::lay;
+use cost_words::ZERO;
 use settings::Outcome;
 use settings::Refusal;
 use settings::features_ok;
+use words::NODES;
+use words::RECORDS;
 ghost use lib.ListN.{length};
 ghost use Rattle.promises.specs.Deed.{Meets};
 ghost use Rattle.promises.specs.TableDeeds as D;
@@ -18,12 +21,12 @@ pub fn open(t: &mut [u32], features: &[u8], capacity: usize) -> Outcome
     if capacity < 1 {
         return Outcome::Refused(Refusal::BadOpening);
     }
-    if 4096 < capacity {
+    if NODES < capacity {
         return Outcome::Refused(Refusal::BadOpening);
     }
-    if t.len() < 8192 + 32 * capacity {
+    if t.len() < RECORDS + 32 * capacity {
         return Outcome::Refused(Refusal::BadOpening);
     }
-    lay(t, 2, 2147483648, features, capacity);
+    lay(t, 2, ZERO, features, capacity);
     Outcome::Taken
 }

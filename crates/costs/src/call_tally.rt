@@ -2,7 +2,7 @@
 use crate::at_the_door::door;
 use promises::Tallied;
 use settings::Outcome;
-use words::head_word;
+use words::count_word;
 ghost use Rattle.promises.specs.Deed.{Meets};
 ghost use Rattle.promises.specs.TableDeeds as D;
 ghost use Rattle.promises.specs.CostDeeds.{costed};
@@ -20,6 +20,6 @@ pub fn tally(t: &[u32]) -> Tallied
     }
     Tallied {
         outcome: Outcome::Taken,
-        count: head_word(t, 19),
+        count: count_word(t),
     }
 }

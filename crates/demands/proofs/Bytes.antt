@@ -15,7 +15,7 @@ use Rattle.promises.specs.Deed.{Meets}
 use Rattle.promises.specs.RuleDeeds.{looked}
 use Rattle.promises.specs.SheetDeeds.{look-up-in}
 use Rattle.calls.proofs.Like.{like-refl}
-use Rattle.demands.specs.ByteDeeds.{stepped, step}
+use Rattle.demands.specs.ByteDeeds.{stepped, step-on}
 use Rattle.demands.specs.ByteCalls.{Call, Step, LookUp, deed}
 use Rattle.demands.proofs.Firm.{neg, newer}
 use Rattle.demands.proofs.Effects.{on-none}
@@ -26,12 +26,12 @@ gives-one : (S : List ℕ) (w : Option (List ℕ)) (r q : Stepped) → Gives S w
 gives-one S (some t) r q a b = (a .0 ∙ sym (b .0), a .1 ∙ sym (b .1))
 gives-one S none r q a b = (a .0 ∙ sym (b .0), a .1 ∙ sym (b .1))
 
-step-lawful : (S : List ℕ) (s : Setting) → Lawful on-none (step S s)
+step-lawful : (S : List ℕ) (s : Setting) → Lawful on-none (step-on S s)
 step-lawful S s =
     record {
       ordered = λ z. (omega arith, tt);
       firm = λ z. (neg, tt);
-      cases-like = λ z y a. like-refl (step S s .cases tt);
+      cases-like = λ z y a. like-refl (step-on S s .cases tt);
       writes-like = λ z y a e. tt;
       gives-like = λ z y a e r g. g;
       one = λ z r q a b g h.
@@ -40,7 +40,7 @@ step-lawful S s =
     }
 
 -- THEOREM: the stepper's promise is that of its deed
-pub step-meets : (S : List ℕ) (s : Setting) (r : Stepped) → Steps S s r → Meets (step S s) tt tt r
+pub step-meets : (S : List ℕ) (s : Setting) (r : Stepped) → Steps S s r → Meets (step-on S s) tt tt r
 step-meets S s r a =
     record {
       ends = pass (λ n. n tt) (a .ends);

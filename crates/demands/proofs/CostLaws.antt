@@ -11,7 +11,7 @@ use Rattle.theory.specs.Costs.{costs, Cost, amount}
 use Rattle.settings.specs.declared.refusals.Refusal.the-variants.{BadPlace, BadArgument, Range}
 use Rattle.promises.specs.Integers.{Fit}
 use Rattle.promises.specs.CostOperations.{joined, scaled, smallerOf, largerOf}
-use Rattle.promises.specs.Range.{Leaves, costMost}
+use Rattle.promises.specs.Range.{LeavesRange, costMost}
 use Rattle.promises.specs.State.{state}
 use Rattle.promises.specs.CostDeeds.{cost-looked, costed, price, range-cases, join, scale}
 use Rattle.calls.proofs.Like.{Like, more, keep}
@@ -38,7 +38,7 @@ frame = table-frame cost-looked drawn
 pub offs : {x y : Amount costs} → x ≡ y → x .off ≡ y .off
 offs e = ap (λ (z : Amount costs). z .off) e
 
-pub leaves-like : {S : List ℕ} {g h : Cost} → Agree S g h → Leaves S g → Leaves S h
+pub leaves-like : {S : List ℕ} {g h : Cost} → Agree S g h → LeavesRange S g → LeavesRange S h
 leaves-like e l = record { setting = l .setting; valid = l .valid; out = λ f. l .out (subst (Fit costMost) (sym (offs (e (l .setting) (l .valid)))) f) }
 
 -- RANGE and NO ROOM

@@ -14,7 +14,7 @@ use Rattle.calls.proofs.Theorems.{ended}
 use Rattle.calls.proofs.Like.{more, like-ends, like-one, clear, rest}
 use Rattle.demands.specs.Exact.{Exact}
 use Rattle.demands.specs.Ground.{Ground, Holds}
-use Rattle.demands.specs.Does.{Does, leftBy, after}
+use Rattle.demands.specs.Does.{Does, leftBy, afterwards}
 use Rattle.demands.specs.Run.{Part, Event, Run, begun, called, ran, Told, SameCalls, none, again}
 use Rattle.demands.proofs.Firm.{neg}
 use Rattle.demands.proofs.Exact.{exactly}
@@ -61,7 +61,7 @@ module _ {L : Loan} {G : Ground L} {E : Effects G} (F : Frame E) {d : Deed L} (l
           refused = m .refused;
         }
 
-    step-holds : Holds G w′ (after G d z r)
+    step-holds : Holds G w′ (afterwards G d z r)
     step-holds = go (d .ending r) refl
       where
         go : (o : Outcome) → d .ending r ≡ o → Holds G w′ (leftBy G o (d .writes z) z)

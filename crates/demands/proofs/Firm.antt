@@ -16,7 +16,7 @@ use Rattle.theory.specs.Costs.{Cost}
 use Rattle.cost_laws.proofs.Integers.{fit?}
 use Rattle.settings.specs.Refusals.{Cases, taken, _when_else_}
 use Rattle.promises.specs.Integers.{Fit}
-use Rattle.promises.specs.Range.{Leaves, costMost}
+use Rattle.promises.specs.Range.{LeavesRange, costMost}
 use Rattle.promises.specs.Lowest.{NoneMarked}
 use Rattle.promises.specs.Sheet.{NewerSheet}
 use Rattle.promises.specs.State.{State, Outnumber}
@@ -101,7 +101,7 @@ reaches {S} {g} {m} n =
     record { setting = h .0; valid = h .1; holds = h .2 }
 
 -- RANGE: the cost leaves its range at some setting
-pub leaves : {S : List ℕ} {f : Cost} → Stable (Leaves S f)
+pub leaves : {S : List ℕ} {f : Cost} → Stable (LeavesRange S f)
 leaves {S} {f} n =
     let h = sure (some? {P = λ s. Fit costMost (f s .off) → ⊥} S (λ s. not? (fit? costMost (f s .off)))) (λ k. n (λ r. k (r .setting, r .valid, r .out))) in
     record { setting = h .0; valid = h .1; out = h .2 }

@@ -12,7 +12,7 @@ use Rattle.demands.specs.Run.{Part}
 use Rattle.demands.specs.RuleCalls as R
 use Rattle.demands.specs.CostCalls as C
 use Rattle.demands.specs.BothCalls as B
-use Rattle.demands.specs.ByteDeeds.{step}
+use Rattle.demands.specs.ByteDeeds.{step-on}
 use Rattle.demands.specs.ByteCalls as Y
 use Rattle.demands.specs.ForC.{rule-tell, cost-tell, both-tell, byte-tell}
 use Rattle.demands.proofs.Bytes.{step-meets}
@@ -28,7 +28,7 @@ hears-one : {P : Part} → Kept P → (c : P .Call) (tell : P .deed c .Result �
 hears-one K c tell w a b h k x y = let d = decided K c w a b (x .answer) (y .answer) (x .keeps) (y .keeps) in (told x ∙ ap tell (d .0) ∙ sym (told y), d .1)
 
 -- the stepper for C keeps the promise of its deed
-pub steps-for-c : {S : List ℕ} {s : Setting} {tell : Stepped → Heard} {h : Heard} → Hears (Steps S s) tell h → Hears (Meets (step S s) tt tt) tell h
+pub steps-for-c : {S : List ℕ} {s : Setting} {tell : Stepped → Heard} {h : Heard} → Hears (Steps S s) tell h → Hears (Meets (step-on S s) tt tt) tell h
 steps-for-c {S} {s} x = record { answer = x .answer; keeps = step-meets S s (x .answer) (x .keeps); number = x .number; out = x .out; bytes = x .bytes }
 
 -- THEOREM, of every call for C

@@ -20,7 +20,7 @@ use Rattle.theory.proofs.Ranges.{features?, valid?}
 use Rattle.settings.specs.Step.{valuesOf, Inside}
 use Rattle.settings.specs.declared.steps.Setting.{Setting}
 use Rattle.promises.specs.Words.{bound}
-use Rattle.promises.specs.Range.{Leaves, costMost}
+use Rattle.promises.specs.Range.{LeavesRange, costMost}
 use Rattle.promises.specs.State.{State, Outnumber, Places}
 use Rattle.promises.specs.TableDeeds.{Openable}
 use Rattle.promises.specs.CostDeeds.{Priced}
@@ -114,7 +114,7 @@ priced? l = via (λ a. record { each = a }) (λ r. r .each) (all? (λ v. fit? co
 pub reaches? : (S : List ℕ) (g : Rule) (m : ℕ) → Dec (Reaches S g m)
 reaches? S g m = via (λ h. record { setting = h .0; valid = h .1; holds = h .2 }) (λ r. (r .setting, r .valid, r .holds)) (some? {P = λ s. m ≤ g s .end} S (λ s. decLe m (g s .end)))
 
-pub leaves? : (S : List ℕ) (f : Cost) → Dec (Leaves S f)
+pub leaves? : (S : List ℕ) (f : Cost) → Dec (LeavesRange S f)
 leaves? S f = via (λ h. record { setting = h .0; valid = h .1; out = h .2 }) (λ r. (r .setting, r .valid, r .out)) (some? S (λ s. not? (fit? costMost (f s .off))))
 
 pub openable? : (S : List ℕ) (cap n : ℕ) → Dec (Openable S cap n)

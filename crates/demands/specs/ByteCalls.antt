@@ -7,14 +7,14 @@ use Rattle.promises.specs.Deed.{Deed}
 use Rattle.promises.specs.SheetDeeds.{look-up-in}
 use Rattle.demands.specs.Ground.{no-ground}
 use Rattle.demands.specs.Run.{Part}
-use Rattle.demands.specs.ByteDeeds.{step}
+use Rattle.demands.specs.ByteDeeds.{step-on}
 
 pub data Call : Type 0 where
   Step : (features : List ℕ) → (setting : Setting) → Call
   LookUp : (sheet setting : List ℕ) → Call
 
 abbrev pub deed : Call → Deed no-table
-deed (Step S s) = step S s
+deed (Step S s) = step-on S s
 deed (LookUp s t) = look-up-in s t
 
 abbrev pub on-bytes : Part

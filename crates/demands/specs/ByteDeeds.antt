@@ -23,5 +23,5 @@ stepped =
     }
 
 -- the setting after s of the list S, or that s was the last; refused, no and the setting of no values
-abbrev pub step : List ℕ → Setting → Deed no-table
-step S s = reads stepped (false, settingOf []) (λ z. BadArgument when (Inside S s → ⊥) else taken) (λ z a. Gives S (nextOf S (valuesOf s)) (stepped .made Taken a))
+abbrev pub step-on : List ℕ → Setting → Deed no-table
+step-on S s = reads stepped (false, settingOf []) (λ z. BadArgument when (Inside S s → ⊥) else taken) (λ z a. Gives S (nextOf S (valuesOf s)) (stepped .made Taken a))

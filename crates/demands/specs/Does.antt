@@ -21,8 +21,8 @@ module _ {L : Loan} where
     leftBy Taken e z = G .left e z
     leftBy (Refused x) e z = z
 
-    abbrev pub after : (d : Deed L) → L .Plain → d .Result → L .Plain
-    after d z r = leftBy (d .ending r) (d .writes z) z
+    abbrev pub afterwards : (d : Deed L) → L .Plain → d .Result → L .Plain
+    afterwards d z r = leftBy (d .ending r) (d .writes z) z
 
 -- a call on the first of two loans, or on the second, asks nothing of the other and keeps it
 abbrev pub on-first : {A : Loan} (B : Loan) → Deed A → Deed (A and B)

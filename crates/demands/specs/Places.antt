@@ -1,7 +1,7 @@
 -- WHAT STANDS ON THE PLACES of a kind of table, when it begins and ever after. Assumes nothing.
 use mathlib.Core.Path.{_≡_}
 use mathlib.Core.List.{List}
-use Prim.Native.Nat.{ℕ, _≤_, _<_}
+use Prim.Native.Nat.{ℕ, _≤_}
 use lib.ListN.{length}
 use Rattle.theory.specs.Kind.{Kind}
 use Rattle.theory.specs.Functions.{Agree}

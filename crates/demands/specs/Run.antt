@@ -3,7 +3,7 @@ use mathlib.Core.List.{List, [], _∷_}
 use Rattle.promises.specs.Loan.{Loan}
 use Rattle.promises.specs.Deed.{Deed, Meets}
 use Rattle.demands.specs.Ground.{Ground, Holds}
-use Rattle.demands.specs.Does.{Does, after}
+use Rattle.demands.specs.Does.{Does, afterwards}
 
 pub record Part : Type 1 where
   pub loan : Loan
@@ -26,7 +26,7 @@ module _ (P : Part) where
   -- THE RUN ON FUNCTIONS: the functions after the events, and that each event is what its call does to the functions that it finds
   abbrev pub ran : P .loan .Plain → List Event → P .loan .Plain
   ran z [] = z
-  ran z (e ∷ l) = after (P .ground) (P .deed (e .0)) (ran z l) (e .1)
+  ran z (e ∷ l) = afterwards (P .ground) (P .deed (e .0)) (ran z l) (e .1)
 
   abbrev pub Told : P .loan .Plain → List Event → Type 0
   Told z [] = Unit {0}

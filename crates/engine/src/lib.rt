@@ -14,7 +14,9 @@ use rule_nodes::Answer;
 use rule_notes::make_in;
 use rule_operators::combine;
 use shortcuts::shortcut;
-use words::head_word;
+use words::capacity_word;
+use words::features_word;
+use words::size_word;
 use words::wide;
 ghost use Prim.Native.Nat.{_<_};
 ghost use Rattle.notes.specs.Plain.{Resting, plain};
@@ -46,7 +48,7 @@ fn rest_result(
         return Answer::Is(combine(o, ops, n));
     }
     let m = lowest(t, ops, n);
-    if wide(head_word(t, 2)) <= m {
+    if wide(features_word(t)) <= m {
         return Answer::Is(combine(o, ops, n));
     }
     if k < m {
@@ -85,7 +87,7 @@ fn fill_branches(
     requires { ⌜ (Operands (plain (now t)) f n k ops) × (Noted (now t) o f n (now s)) × (k < features (plain (now t))) ⌝ }
     ensures { λ r. ⌜ (Fills (plain (now (t .entry))) (plain (now (t .exit))) k (joint (plain (now (t .entry))) o f n k ops) (r .ok) (r .list)) × (StillIf (now (t .exit)) o f n (now (s .exit)) (r .ok)) ⌝ }
 {
-    let m = wide(head_word(t, 3 + k));
+    let m = wide(size_word(t, k));
     let mut list = [0u32; 12];
     let mut v: usize = 0;
     while v < m {
@@ -115,7 +117,7 @@ pub fn join(t: &mut [u32], s: &mut [u32], o: u32, f: usize, n: usize, ops: [u32;
     requires { ⌜ (Operands (now t) f n 0 ops) × (Resting (now t)) ⌝ }
     ensures { λ r. ⌜ Result (now (t .entry)) (now (t .exit)) 0 (joint (now (t .entry)) o f n 0 ops) r ⌝ }
 {
-    if head_word(t, 1) < 352 {
+    if capacity_word(t) < 352 {
         if s.len() < 5632 {
             let mut own = [0u32; 5632];
             return join_in(t, &mut own, o, f, n, ops);

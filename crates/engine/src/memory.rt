@@ -2,7 +2,8 @@
 use notes::mixed;
 use notes::slot_after;
 use notes::slot_at;
-use words::head_word;
+use words::RECORDS;
+use words::capacity_word;
 use words::narrow;
 use words::wide;
 ghost use mathlib.Core.Path.{_≡_};
@@ -105,9 +106,9 @@ pub fn recall_in(t: &[u32], s: &[u32], o: u32, n: usize, k: usize, ops: [u32; 9]
     requires { ⌜ (Roomy (now t)) × (n ≤ 9) × (k < 16) ⌝ }
     ensures { λ r. ⌜ Recalls (memory (now (t .entry)) (now (s .entry))) k ops r ⌝ }
 {
-    let room = 16 * wide(head_word(t, 1));
+    let room = 16 * wide(capacity_word(t));
     if s.len() < room {
-        let from = 8192 + room;
+        let from = RECORDS + room;
         let end = from + room;
         return recall(&t[from..end], o, n, k, ops);
     }
@@ -119,9 +120,9 @@ pub fn remember_in(t: &mut [u32], s: &mut [u32], o: u32, n: usize, k: usize, ops
     requires { ⌜ (Roomy (now t)) × (n ≤ 9) × (k < 16) ⌝ }
     ensures { λ _. ⌜ (plain (now (t .exit)) ≡ plain (now (t .entry))) × (Stored (memory (now (t .entry)) (now (s .entry))) (memory (now (t .exit)) (now (s .exit))) k ops x) ⌝ }
 {
-    let room = 16 * wide(head_word(t, 1));
+    let room = 16 * wide(capacity_word(t));
     if s.len() < room {
-        let from = 8192 + room;
+        let from = RECORDS + room;
         let end = from + room;
         remember(&mut t[from..end], o, n, k, ops, x);
         return;

@@ -1,7 +1,7 @@
 // The operands of a joint rule at a feature.
 use rule_notes::child_in;
 use rule_notes::top_in;
-use words::head_word;
+use words::features_word;
 use words::wide;
 ghost use mathlib.Core.Path.{_≡_};
 ghost use Prim.Native.Nat.{ℕ, _+_, _≤_, _<_};
@@ -23,7 +23,7 @@ pub fn lowest(t: &[u32], ops: [u32; 9], n: usize) -> usize
     requires { ⌜ (Laid (plain (now t))) × (n ≤ 9) × ((j : ℕ) → j < n → getD ops j 0 < 65536 + count (plain (now t))) ⌝ }
     ensures { λ r. ⌜ Lowest (plain (now (t .entry))) n ops r ⌝ }
 {
-    let mut m = wide(head_word(t, 2));
+    let mut m = wide(features_word(t));
     let mut j: usize = 0;
     while j < n {
         m = lower(m, top_in(t, ops[j]));

@@ -1,5 +1,6 @@
 // Where nothing is walked: the operator of the branch words themselves is the branch of the result.
 use rule_operators::smaller;
+use rule_words::NUMBERS;
 ghost use mathlib.Core.Bool.{true};
 ghost use mathlib.Core.Path.{_≡_};
 ghost use Rattle.engine.specs.Shortcuts.{ShortPair, Short};
@@ -29,7 +30,7 @@ pub fn shortcut(o: u32, f: usize, x: u32, y: u32) -> bool
         return pair_shortcut(o, x, y);
     }
     if o == 6 {
-        return x < 65536;
+        return x < NUMBERS;
     }
     false
 }

@@ -7,14 +7,14 @@ use Rattle.cost_laws.specs.Extremes.{highestOf, lowestOf}
 use Rattle.examples.specs.Examples.{sizes, P, Q, P+Q}
 use Rattle.promises.specs.CostSound.{extreme}
 use Rattle.promises.specs.CostOperations.{constant, largerOf, smallerOf, sum}
-use Rattle.promises.specs.Range.{Leaves, Within, costMost}
+use Rattle.promises.specs.Range.{LeavesRange, Within, costMost}
 
 lowest-and-highest : (lowestOf sizes P+Q ≡ pos 1) × (highestOf sizes P+Q ≡ pos 15)
 unfolding extreme smallerOf largerOf sizes P Q
 lowest-and-highest = (refl, refl)
 
 -- constant 1,000,000,000 plus 1 leaves the range, plus 0 stays in it
-plus-one : Leaves sizes (sum (constant (pos 1000000000)) (constant (pos 1)))
+plus-one : LeavesRange sizes (sum (constant (pos 1000000000)) (constant (pos 1)))
 unfolding sizes
 plus-one = record { setting = 0 ∷ 0 ∷ []; valid = (omega arith, (omega arith, tt)); out = λ h. absurd (omega (arith, h .top)) }
 

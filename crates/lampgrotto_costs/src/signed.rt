@@ -7,13 +7,16 @@ ghost use Rattle.promises.specs.Integers.{Fit};
 ghost use Rattle.promises.specs.Range.{costMost};
 ghost use Rattle.promises.specs.ForC.{placed, signed};
 
+// A word is below this.
+const WORD: i64 = 4294967296;
+
 // The word of a cost.
 fn signed_word(z: i64) -> u32
     requires { ⌜ Fit costMost z ⌝ }
     ensures { λ r. ⌜ r ≡ signed z ⌝ }
 {
     if z < 0 {
-        return (z + 4294967296) as u32;
+        return (z + WORD) as u32;
     }
     z as u32
 }

@@ -4,7 +4,8 @@ mod slots; // slots.rt: which entries a result is remembered in
 pub use slots::mixed;
 pub use slots::slot_after;
 pub use slots::slot_at;
-use words::head_word;
+use words::RECORDS;
+use words::capacity_word;
 use words::wide;
 ghost use mathlib.Core.Path.{_≡_};
 ghost use Rattle.notes.specs.Plain.{Roomy, plain, Cleared};
@@ -25,8 +26,8 @@ pub fn clear_far(t: &mut [u32])
     requires { ⌜ Roomy (now t) ⌝ }
     ensures { λ _. ⌜ now (t .exit) ≡ plain (now (t .entry)) ⌝ }
 {
-    let n = 16 * wide(head_word(t, 1));
-    let from = 8192 + n;
+    let n = 16 * wide(capacity_word(t));
+    let from = RECORDS + n;
     let end = from + n;
     clear(&mut t[from..end]);
 }

@@ -3,10 +3,15 @@
 use words::wide;
 ghost use Prim.Native.Nat.{_<_};
 
+// A word is below this, a half word below the other.
+const WORD: usize = 4294967296;
+
+const HALF: u32 = 65536;
+
 // One word more mixed in. The high bits are folded down before they are multiplied up again, so that strides of the words do not meet in a few entries.
 pub fn mixed(h: u32, x: u32) -> u32 {
-    let sum = ((wide(h) + wide(x)) % 4294967296) as u32;
-    (wide(sum ^ sum / 65536) * 2654435761 % 4294967296) as u32
+    let sum = ((wide(h) + wide(x)) % WORD) as u32;
+    (wide(sum ^ sum / HALF) * 2654435761 % WORD) as u32
 }
 
 // The entry of so many that a mixed number chooses: as far along them as the number is along all numbers of 32 bits. That needs no division.
@@ -14,8 +19,8 @@ pub fn slot_at(h: u32, slots: usize) -> usize
     requires { ⌜ 0 < slots ⌝ }
     ensures { λ r. ⌜ r < slots ⌝ }
 {
-    if slots < 4294967296 {
-        return wide(h) * slots / 4294967296;
+    if slots < WORD {
+        return wide(h) * slots / WORD;
     }
     wide(h)
 }

@@ -4,7 +4,8 @@ use rule_words::root_word;
 use rules::door;
 use settings::Outcome;
 use settings::Refusal;
-use words::head_word;
+use words::features_word;
+use words::size_word;
 use words::wide;
 ghost use Rattle.promises.specs.Deed.{Meets};
 ghost use Rattle.promises.specs.RuleDeeds as D;
@@ -23,10 +24,10 @@ pub fn forget(
     if let Outcome::Refused(x) = o {
         return Outcome::Refused(x);
     }
-    if wide(head_word(t, 2)) <= feature {
+    if wide(features_word(t)) <= feature {
         return Outcome::Refused(Refusal::BadArgument);
     }
-    let m = wide(head_word(t, 3 + feature));
+    let m = wide(size_word(t, feature));
     let b = root_word(t, from);
     let ops = [b; 9];
     put_joint(t, scratch, place, 7, feature, m, ops)

@@ -5,7 +5,9 @@ use rules::door;
 use settings::Outcome;
 use settings::Refusal;
 use settling::settle;
-use words::head_word;
+use words::count_word;
+use words::features_word;
+use words::size_word;
 use words::wide;
 ghost use Prim.Native.Nat.{_≤_, _<_};
 ghost use Rattle.promises.specs.Words.{features};
@@ -35,8 +37,8 @@ fn put_literal(t: &mut [u32], place: usize, feature: usize, bits: u32) -> Outcom
     requires { ⌜ (RuleSound (now t)) × (place < 32) × (feature < features (now t)) ⌝ }
     ensures { λ r. ⌜ Puts place (literalOf feature bits) (now (t .entry)) (now (t .exit)) r ⌝ }
 {
-    let used = wide(head_word(t, 19));
-    let list = bits_of(bits, wide(head_word(t, 3 + feature)));
+    let used = wide(count_word(t));
+    let list = bits_of(bits, wide(size_word(t, feature)));
     let r = make(t, feature, list);
     settle(t, place, used, r)
 }
@@ -65,10 +67,10 @@ pub fn literal(t: &mut [u32], place: usize, feature: usize, bits: u32) -> Spelle
     if let Outcome::Refused(x) = o {
         return sized(Outcome::Refused(x), bits);
     }
-    if wide(head_word(t, 2)) <= feature {
+    if wide(features_word(t)) <= feature {
         return sized(Outcome::Refused(Refusal::BadArgument), bits);
     }
-    if bits >> head_word(t, 3 + feature) != 0 {
+    if bits >> size_word(t, feature) != 0 {
         return sized(Outcome::Refused(Refusal::BadArgument), bits);
     }
     sized(put_literal(t, place, feature, bits), bits)

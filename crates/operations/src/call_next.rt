@@ -2,6 +2,7 @@
 use calls::setting_fits;
 use promises::Met;
 use rule_next::first_with;
+use rule_words::NUMBERS;
 use rules::door;
 use settings::Outcome;
 use settings::Refusal;
@@ -29,7 +30,7 @@ pub fn next(t: &[u32], place: usize, number: u32, setting: &[u8]) -> Met
     if let Outcome::Refused(x) = o {
         return refused(x);
     }
-    if 65536 <= number {
+    if NUMBERS <= number {
         return refused(Refusal::BadArgument);
     }
     if !setting_fits(t, setting) {

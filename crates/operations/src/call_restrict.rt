@@ -5,7 +5,9 @@ use rules::door;
 use settings::Outcome;
 use settings::Refusal;
 use settling::settle;
-use words::head_word;
+use words::count_word;
+use words::features_word;
+use words::size_word;
 use words::wide;
 ghost use Prim.Native.Nat.{_<_};
 ghost use Rattle.theory.specs.Operations.{restricted};
@@ -21,7 +23,7 @@ fn put_restricted(t: &mut [u32], place: usize, from: usize, feature: usize, valu
     requires { ⌜ (RuleSound (now t)) × (place < 32) × (from < 32) × (feature < features (now t)) × (value < size (now t) feature) ⌝ }
     ensures { λ r. ⌜ Puts place (restricted feature value (ruleOf (now (t .entry)) from)) (now (t .entry)) (now (t .exit)) r ⌝ }
 {
-    let used = wide(head_word(t, 19));
+    let used = wide(count_word(t));
     let b = root_word(t, from);
     let r = held(t, b, feature, value);
     settle(t, place, used, r)
@@ -35,10 +37,10 @@ pub fn restrict(t: &mut [u32], place: usize, from: usize, feature: usize, value:
     if let Outcome::Refused(x) = o {
         return Outcome::Refused(x);
     }
-    if wide(head_word(t, 2)) <= feature {
+    if wide(features_word(t)) <= feature {
         return Outcome::Refused(Refusal::BadArgument);
     }
-    if wide(head_word(t, 3 + feature)) <= value {
+    if wide(size_word(t, feature)) <= value {
         return Outcome::Refused(Refusal::BadArgument);
     }
     put_restricted(t, place, from, feature, value)

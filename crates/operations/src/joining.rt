@@ -2,7 +2,7 @@
 use engine::join;
 use settings::Outcome;
 use settling::settle;
-use words::head_word;
+use words::count_word;
 use words::wide;
 ghost use Prim.Native.Nat.{_<_};
 ghost use Rattle.promises.specs.RuleSound.{RuleSound};
@@ -22,7 +22,7 @@ pub fn put_joint(
     requires { ⌜ (RuleSound (now t)) × (place < 32) × (Operands (now t) f n 0 ops) ⌝ }
     ensures { λ r. ⌜ Puts place (joint (now (t .entry)) o f n 0 ops) (now (t .entry)) (now (t .exit)) r ⌝ }
 {
-    let used = wide(head_word(t, 19));
+    let used = wide(count_word(t));
     let r = join(t, scratch, o, f, n, ops);
     settle(t, place, used, r)
 }

@@ -12,7 +12,7 @@ use Rattle.settings.specs.declared.refusals.Refusal.the-variants.{BadArgument, 
 use Rattle.promises.specs.declared.CostLooked.{CostLooked}
 use Rattle.promises.specs.Integers.{Fit}
 use Rattle.promises.specs.CostOperations.{smallerOf, largerOf, priced, joined, scaled}
-use Rattle.promises.specs.Range.{Leaves, costMost}
+use Rattle.promises.specs.Range.{LeavesRange, costMost}
 use Rattle.promises.specs.CostWords.{costsOf}
 use Rattle.promises.specs.CostSound.{CostSound}
 use Rattle.promises.specs.State.{State, on, front, room-cases}
@@ -46,7 +46,7 @@ price p f l =
 
 -- a cost that is worked out: RANGE where it leaves its range, even in a full table, then NO ROOM
 abbrev pub range-cases : Cost → State costs → Cases
-range-cases g z = Range when (Leaves (z .list) g) else room-cases g z
+range-cases g z = Range when (LeavesRange (z .list) g) else room-cases g z
 
 -- ADD, SUBTRACT, SMALLER, LARGER: what the costs of places a and b give together
 abbrev pub join : (ℤ → ℤ → ℤ) → ℕ → ℕ → ℕ → Deed (table costed)

@@ -17,7 +17,7 @@ abbrev pub addMost : ℕ
 addMost = 2000000000
 
 -- RANGE: the cost leaves its range at some setting
-pub record Leaves (S : List ℕ) (f : Cost) : Type 0 where
+pub record LeavesRange (S : List ℕ) (f : Cost) : Type 0 where
   pub setting : List ℕ
   pub valid : Valid S setting
   pub out : Fit costMost (f setting .off) → ⊥

@@ -5,9 +5,12 @@ ghost use lib.ListN.{length};
 ghost use Rattle.settings.specs.Tells.{Tells};
 ghost use Rattle.records.specs.Laid.{Laid};
 ghost use Rattle.records.specs.Changes.{Pushed, Popped, Rolled, RecordIs, Finds};
+use words::CHAINS;
+use words::RECORDS;
+use words::bucket_word;
+use words::count_word;
 use words::hash_at;
 use words::hash_of;
-use words::head_word;
 use words::narrow;
 use words::record_word;
 use words::wide;
@@ -18,11 +21,11 @@ pub fn push(t: &mut [u32], k: usize, list: [u32; 12], x: u32, y: u32) -> usize
     requires { ⌜ (Laid (now t)) × (count (now t) < capacity (now t)) × (k < 16) ⌝ }
     ensures { λ r. ⌜ (r ≡ count (now (t .entry))) × (Pushed (now (t .entry)) (now (t .exit)) k list x y) ⌝ }
 {
-    let i = wide(head_word(t, 19));
+    let i = wide(count_word(t));
     let h = hash_of(k, list);
-    let next = head_word(t, 4096 + h);
+    let next = bucket_word(t, h);
     let more = narrow(i + 1);
-    let base = 8192 + 16 * i;
+    let base = RECORDS + 16 * i;
     t[base] = narrow(k);
     let mut v: usize = 0;
     while v < 12 {
@@ -32,7 +35,7 @@ pub fn push(t: &mut [u32], k: usize, list: [u32; 12], x: u32, y: u32) -> usize
     t[base + 13] = next;
     t[base + 14] = x;
     t[base + 15] = y;
-    t[4096 + h] = more;
+    t[CHAINS + h] = more;
     t[19] = more;
     i
 }
@@ -42,11 +45,11 @@ pub fn pop(t: &mut [u32])
     requires { ⌜ (Laid (now t)) × (0 < count (now t)) ⌝ }
     ensures { λ _. ⌜ Popped (now (t .entry)) (now (t .exit)) (count (now (t .entry)) - 1) ⌝ }
 {
-    let i = wide(head_word(t, 19)) - 1;
+    let i = wide(count_word(t)) - 1;
     let h = hash_at(t, i);
     let next = record_word(t, i, 13);
-    t[4096 + h] = next;
-    let base = 8192 + 16 * i;
+    t[CHAINS + h] = next;
+    let base = RECORDS + 16 * i;
     let mut v: usize = 0;
     while v < 16 {
         t[base + v] = 0;
@@ -60,7 +63,7 @@ pub fn roll_back(t: &mut [u32], n: usize)
     requires { ⌜ (Laid (now t)) × (n ≤ count (now t)) ⌝ }
     ensures { λ _. ⌜ Rolled (now (t .entry)) (now (t .exit)) n ⌝ }
 {
-    let mut m = wide(head_word(t, 19));
+    let mut m = wide(count_word(t));
     while n < m {
         pop(t);
         m -= 1;
@@ -91,7 +94,7 @@ pub fn find_record(t: &[u32], k: usize, list: [u32; 12]) -> usize
     ensures { λ r. ⌜ Finds (now (t .entry)) k list r ⌝ }
 {
     let h = hash_of(k, list);
-    let mut c = wide(head_word(t, 4096 + h));
+    let mut c = wide(bucket_word(t, h));
     while 0 < c {
         let i = c - 1;
         if record_is(t, i, k, list) {

@@ -1,11 +1,14 @@
 // The collector of a rule table: only the nodes that its roots reach stay, numbered as building its rules in turn numbers them.
+use rule_words::NUMBERS;
 use sweep::add_copy;
 use sweep::bring_back;
 use sweep::clear_heads;
 use sweep::relink;
+use words::bucket_word;
 use words::head_word;
 use words::narrow;
 use words::record_word;
+use words::size_word;
 use words::wide;
 ghost use Prim.Native.Nat.{_<_};
 ghost use Rattle.theory.specs.Diagrams.{meaning};
@@ -17,21 +20,24 @@ ghost use Rattle.rule_collect.specs.Tidy.{form, Untidy, Tidied};
 ghost use Rattle.promises.specs.Words.{count, size, feature};
 ghost use Rattle.promises.specs.RuleWords.{decode, ruleNodes as nodes};
 
+// The branch word of a node whose index is told as one more.
+const BEFORE_NODES: u32 = 65535;
+
 // The copy of a branch, made where there is none.
 fn copy_branch(t: &mut [u32], b: u32) -> u32
     requires { ⌜ (Ready code (now t)) × (Good code (now t) (decode b .to)) ⌝ }
     ensures { λ r. ⌜ Moved code (now (t .entry)) (now (t .exit)) (decode b .to) (decode r .to) ⌝ }
 {
-    if b < 65536 {
+    if b < NUMBERS {
         return b;
     }
-    let i = wide(b - 65536);
-    let c = head_word(t, 4096 + i);
+    let i = wide(b - NUMBERS);
+    let c = bucket_word(t, i);
     if 0 < c {
-        return 65535 + c;
+        return BEFORE_NODES + c;
     }
     let list = copy_list(t, i);
-    65536 + narrow(add_copy(t, i, list))
+    NUMBERS + narrow(add_copy(t, i, list))
 }
 
 // The copies of node i's branches in turn, 0 past them.
@@ -39,7 +45,7 @@ fn copy_list(t: &mut [u32], i: usize) -> [u32; 12]
     requires { ⌜ (Ready code (now t)) × (i < count (now t)) ⌝ }
     ensures { λ r. ⌜ Moving code (now (t .entry)) (now (t .exit)) i (size (now (t .entry)) (feature (now (t .entry)) i)) r ⌝ }
 {
-    let m = wide(head_word(t, 3 + wide(record_word(t, i, 0))));
+    let m = wide(size_word(t, wide(record_word(t, i, 0))));
     let mut list = [0u32; 12];
     let mut v: usize = 0;
     while v < m {

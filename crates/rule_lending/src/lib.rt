@@ -4,10 +4,11 @@ use rule_nodes::Answer as Node;
 use rule_nodes::child_of;
 use rule_nodes::make as make_node;
 use rule_nodes::top_of;
+use rule_words::NUMBERS;
 use rule_words::root_word;
 use settings::Outcome;
 use settling::settle as settle_node;
-use words::head_word;
+use words::count_word;
 use words::wide;
 ghost use mathlib.Core.Path.{_≡_};
 ghost use Prim.Native.Nat.{ℕ, _<_};
@@ -53,7 +54,7 @@ pub fn top_at(t: &[u32], b: u32) -> usize
 pub fn is_number(b: u32) -> bool
     ensures { λ r. ⌜ Tells r (Number b) ⌝ }
 {
-    b < 65536
+    b < NUMBERS
 }
 
 // The phrase number that it is.
@@ -96,7 +97,7 @@ pub fn begin(t: &[u32]) -> usize
     requires { ⌜ Sound (now t) ⌝ }
     ensures { λ r. ⌜ Marked (now (t .entry)) r ⌝ }
 {
-    wide(head_word(t, 19))
+    wide(count_word(t))
 }
 
 // What was built after the mark n becomes the rule of the place; where there was no room it is taken back.

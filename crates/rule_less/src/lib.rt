@@ -6,14 +6,15 @@ use cost_memory::remember;
 use cost_nodes::Arm;
 use cost_nodes::arm_at;
 use cost_nodes::top_of;
+use cost_words::ZERO;
 use cost_words::difference_word;
 use cost_words::sum_word;
 use notes::clear;
 use rule_lending::Answer;
 use rule_lending::branch_of;
 use rule_lending::make;
-use words::head_word;
 use words::narrow;
+use words::size_word;
 use words::wide;
 ghost use mathlib.Core.Bool.{cond};
 ghost use mathlib.Core.Path.{_≡_};
@@ -40,7 +41,7 @@ struct Filled {
 fn above_zero(d: u32) -> u32
     ensures { λ r. ⌜ r ≡ cond (ltZ (pos 0) (int d)) 1 0 ⌝ }
 {
-    if 2147483648 < d { 1 } else { 0 }
+    if ZERO < d { 1 } else { 0 }
 }
 
 // The rule's branch for two targets from feature k on, where the second has d more on it: one node's result. Of equal targets the difference decides.
@@ -86,7 +87,7 @@ fn fill_branches(
     requires { ⌜ (Operands (now c) k x y d) × (Beside (now c) (now t)) × (Remembers (Recalled (now c) (now t)) (now s)) × (k < features (now c)) ⌝ }
     ensures { λ r. ⌜ (Fills (now (t .entry)) (now (t .exit)) k (lessFrom (now (c .entry)) k x y d) (r .ok) (r .list)) × (StillIf (now (c .entry)) (now (t .exit)) (now (s .exit)) (r .ok)) ⌝ }
 {
-    let m = wide(head_word(c, 3 + k));
+    let m = wide(size_word(c, k));
     let mut list = [0u32; 12];
     let mut v: usize = 0;
     while v < m {

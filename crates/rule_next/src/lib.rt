@@ -1,10 +1,12 @@
 // The scope's "next": the first setting at or after a given one with a given number, by one pass over the nodes and two descents.
 use rule_count::answers;
 use rule_count::branch_meets;
+use rule_words::NUMBERS;
 use rule_words::root_word;
 use settings::Setting;
-use words::head_word;
+use words::features_word;
 use words::record_word;
+use words::size_word;
 use words::wide;
 ghost use mathlib.Core.Path.{_≡_};
 ghost use Prim.Native.Nat.{_+_, _≤_, _<_};
@@ -42,10 +44,10 @@ fn child(t: &[u32], k: usize, b: u32, v: usize) -> u32
     requires { ⌜ (Spot (now t) k b) × (v < size (now t) k) ⌝ }
     ensures { λ r. ⌜ decode r ≡ next (nodes (now (t .entry))) k (decode b) v ⌝ }
 {
-    if b < 65536 {
+    if b < NUMBERS {
         return b;
     }
-    let i = wide(b - 65536);
+    let i = wide(b - NUMBERS);
     if wide(record_word(t, i, 0)) == k {
         return record_word(t, i, 1 + v);
     }
@@ -57,7 +59,7 @@ fn smallest(t: &[u32], has: &[bool], number: u32, k: usize, b: u32, from: usize)
     requires { ⌜ (Spot (now t) k b) × (k < features (now t)) × (from ≤ size (now t) k) × (Marks (now t) number (now has)) ⌝ }
     ensures { λ r. ⌜ Smallest (now (t .entry)) number k b from r ⌝ }
 {
-    let s = wide(head_word(t, 3 + k));
+    let s = wide(size_word(t, k));
     let mut v = from;
     while v < s {
         if branch_meets(has, true, number, child(t, k, b, v)) {
@@ -74,7 +76,7 @@ fn complete(t: &[u32], has: &[bool], number: u32, k: usize, b: u32, from: [u8; 1
     requires { ⌜ (Spot (now t) k b) × (Marks (now t) number (now has)) × (Leads (now t) number k b) ⌝ }
     ensures { λ r. ⌜ Completes (now (t .entry)) number k b from r ⌝ }
 {
-    if wide(head_word(t, 2)) <= k {
+    if wide(features_word(t)) <= k {
         return from;
     }
     let v = smallest(t, has, number, k, b, 0);
@@ -90,7 +92,7 @@ fn seek(t: &[u32], has: &[bool], number: u32, k: usize, b: u32, from: [u8; 16]) 
     requires { ⌜ (Spot (now t) k b) × (Marks (now t) number (now has)) × (Valid (drop k (sizes (now t))) (slice k (features (now t)) from)) ⌝ }
     ensures { λ r. ⌜ Seeks (now (t .entry)) number k b from (r .found) (r .values) ⌝ }
 {
-    if wide(head_word(t, 2)) <= k {
+    if wide(features_word(t)) <= k {
         return Sought {
             found: b == number,
             values: from,
@@ -102,7 +104,7 @@ fn seek(t: &[u32], has: &[bool], number: u32, k: usize, b: u32, from: [u8; 16]) 
         return same;
     }
     let w = smallest(t, has, number, k, b, v + 1);
-    if wide(head_word(t, 3 + k)) <= w {
+    if wide(size_word(t, k)) <= w {
         return Sought {
             found: false,
             values: from,

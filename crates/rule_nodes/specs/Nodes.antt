@@ -12,7 +12,7 @@ use Rattle.theory.specs.WellFormed.{Ok}
 use Rattle.words.specs.Holding as H
 use Rattle.words.specs.Words.{listed}
 use Rattle.records.specs.Nodes as R
-use Rattle.rule_words.specs.Words.{branches, code, wordOf}
+use Rattle.rule_words.specs.Words.{branches, code, branchOf, Worded}
 use Rattle.rule_nodes.specs.declared.Found.{Found}
 use Rattle.rule_nodes.specs.declared.Found.the-variants.{At, Missing}
 use Rattle.rule_nodes.specs.declared.Answer.{Answer}
@@ -69,7 +69,7 @@ pub record AllSame (m : ℕ) (l : List ℕ) : Type 0 where
 
 -- the unique search is right: what it found is what `make` gives, and it says missing only where `make` adds a node
 abbrev pub Finds : List ℕ → ℕ → List ℕ → Found → Type 0
-Finds w k l (At b) = (make k (branches (size w k) (listed l)) (nodes w) ≡ (decode (wordOf b), nodes w)) × (wordOf b < 131072)
+Finds w k l (At b) = (make k (branches (size w k) (listed l)) (nodes w) ≡ (branchOf b, nodes w)) × (Worded b)
 Finds w k l Missing = R.Absent code w k l
 
 -- the answer and the table are those of `make` with the list's branches

@@ -2,11 +2,15 @@
 use records::find_record;
 use records::push;
 use rule_words::Branch;
+use rule_words::NUMBERS;
 use rule_words::branch_at;
 use rule_words::branch_word;
-use words::head_word;
+use words::capacity_word;
+use words::count_word;
+use words::features_word;
 use words::narrow;
 use words::record_word;
+use words::size_word;
 use words::wide;
 ghost use mathlib.Core.Path.{_≡_};
 ghost use Prim.Native.Nat.{_+_, _≤_, _<_};
@@ -50,7 +54,7 @@ pub fn find(t: &[u32], k: usize, list: [u32; 12]) -> Found
     requires { ⌜ (Holds (now t)) × (k < features (now t)) × (Listed (now t) k list) ⌝ }
     ensures { λ r. ⌜ Finds (now (t .entry)) k list r ⌝ }
 {
-    if all_same(list, wide(head_word(t, 3 + k))) {
+    if all_same(list, wide(size_word(t, k))) {
         return Found::At(branch_at(list[0]));
     }
     let c = find_record(t, k, list);
@@ -66,7 +70,7 @@ pub fn make(t: &mut [u32], k: usize, list: [u32; 12]) -> Answer
     ensures { λ r. ⌜ Makes (now (t .entry)) (now (t .exit)) k list r ⌝ }
 {
     let Found::At(b) = find(t, k, list) else {
-        if head_word(t, 19) < head_word(t, 1) {
+        if count_word(t) < capacity_word(t) {
             let i = narrow(push(t, k, list, 0, 0));
             return Answer::Is(branch_word(Branch::Node(i)));
         }
@@ -80,10 +84,10 @@ pub fn top_of(t: &[u32], b: u32) -> usize
     requires { ⌜ (Laid (now t)) × (b < 65536 + count (now t)) ⌝ }
     ensures { λ r. ⌜ r ≡ top (now (t .entry)) b ⌝ }
 {
-    if b < 65536 {
-        wide(head_word(t, 2))
+    if b < NUMBERS {
+        wide(features_word(t))
     } else {
-        wide(record_word(t, wide(b - 65536), 0))
+        wide(record_word(t, wide(b - NUMBERS), 0))
     }
 }
 
@@ -93,7 +97,7 @@ pub fn child_of(t: &[u32], k: usize, b: u32, v: usize) -> u32
     ensures { λ r. ⌜ decode r ≡ next (nodes (now (t .entry))) k (decode b) v ⌝ }
 {
     if top_of(t, b) == k {
-        record_word(t, wide(b - 65536), 1 + v)
+        record_word(t, wide(b - NUMBERS), 1 + v)
     } else {
         b
     }

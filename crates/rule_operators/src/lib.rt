@@ -8,6 +8,9 @@ ghost use Rattle.rule_operators.specs.Operators.{opOf};
 ghost use Rattle.promises.specs.Tab.{tab};
 ghost use Rattle.promises.specs.Operators.{lesserOf as smallerOf, greaterOf as largerOf, truthOf, pairOf, caseOf, mergedOf, forgottenOf};
 
+// What is left of numbers that differ: the phrase that asks back.
+const SEVERAL: u32 = 65535;
+
 // The smaller of two numbers.
 pub fn smaller(x: u32, y: u32) -> u32
     ensures { λ r. ⌜ r ≡ smallerOf x y ⌝ }
@@ -64,7 +67,7 @@ fn merged(x: u32, y: u32) -> u32
     if x == y {
         return y;
     }
-    65535
+    SEVERAL
 }
 
 // FORGET's rule: the number that stands for those over the values of the forgotten feature.

@@ -1,6 +1,7 @@
 // A sheet's rule taken into a rule table: the sheet's nodes are walked once each, and made where the table has none.
 use rule_nodes::Answer;
 use rule_nodes::make;
+use sheet_bytes::NUMBERS;
 use sheet_bytes::branch_at;
 use sheet_bytes::feature_at;
 use sheet_bytes::root_of;
@@ -24,10 +25,10 @@ fn take_branch(
     requires { ⌜ Asks (now t) (now s) (now at) (now notes) b ⌝ }
     ensures { λ r. ⌜ Takes (now (t .entry)) (now (t .exit)) (now (s .entry)) (now (notes .exit)) b r ⌝ }
 {
-    if b < 65536 {
+    if b < NUMBERS {
         return Answer::Is(narrow(b));
     }
-    let i = b - 65536;
+    let i = b - NUMBERS;
     let known = notes[i];
     if 0 < known {
         return Answer::Is(known - 1);

@@ -3,7 +3,11 @@ use rule_nodes::Answer;
 use rule_nodes::child_of;
 use rule_nodes::make;
 use rule_nodes::top_of;
-use words::head_word;
+use rule_words::NUMBERS;
+use words::RECORDS;
+use words::capacity_word;
+use words::count_word;
+use words::size_word;
 use words::wide;
 ghost use mathlib.Core.Path.{_≡_};
 ghost use Prim.Native.Nat.{_≤_, _<_};
@@ -19,8 +23,8 @@ fn note_of(t: &[u32], i: usize) -> u32
     requires { ⌜ (Roomy (now t)) × (i < capacity (now t)) ⌝ }
     ensures { λ r. ⌜ r ≡ note (now (t .entry)) i ⌝ }
 {
-    let far = wide(head_word(t, 1)) + i;
-    t[8192 + 16 * far]
+    let far = wide(capacity_word(t)) + i;
+    t[RECORDS + 16 * far]
 }
 
 // Makes c the note of node i.
@@ -28,8 +32,8 @@ fn put_note(t: &mut [u32], i: usize, c: u32)
     requires { ⌜ (Roomy (now t)) × (i < capacity (now t)) ⌝ }
     ensures { λ _. ⌜ now (t .exit) ≡ set (now (t .entry)) (noteAt (now (t .entry)) i) c ⌝ }
 {
-    let far = wide(head_word(t, 1)) + i;
-    t[8192 + 16 * far] = c;
+    let far = wide(capacity_word(t)) + i;
+    t[RECORDS + 16 * far] = c;
 }
 
 // Takes the notes of all nodes away.
@@ -37,7 +41,7 @@ fn clear_notes(t: &mut [u32])
     requires { ⌜ (Roomy (now t)) × (count (now t) ≤ capacity (now t)) × (Only (now t) 0 (count (now t))) ⌝ }
     ensures { λ _. ⌜ now (t .exit) ≡ plain (now (t .entry)) ⌝ }
 {
-    let n = wide(head_word(t, 19));
+    let n = wide(count_word(t));
     let mut i: usize = 0;
     while i < n {
         put_note(t, i, 0);
@@ -54,12 +58,12 @@ fn restrict_walk(t: &mut [u32], b: u32, f: usize, x: usize) -> Answer
     if f <= k {
         return Answer::Is(child_of(t, f, b, x));
     }
-    let i = wide(b - 65536);
+    let i = wide(b - NUMBERS);
     let known = note_of(t, i);
     if 0 < known {
         return Answer::Is(known - 1);
     }
-    let m = wide(head_word(t, 3 + k));
+    let m = wide(size_word(t, k));
     let mut list = [0u32; 12];
     let mut v: usize = 0;
     while v < m {

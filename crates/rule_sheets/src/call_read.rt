@@ -7,7 +7,9 @@ use settling::settle;
 use sheet_bytes::features_of;
 use sheet_bytes::size_at;
 use sheet_check::check;
-use words::head_word;
+use words::count_word;
+use words::features_word;
+use words::size_word;
 use words::wide;
 ghost use mathlib.Core.Path.{_≡_};
 ghost use Prim.Native.Nat.{_<_};
@@ -26,12 +28,12 @@ fn same_list(t: &[u32], sheet: &[u8]) -> bool
     ensures { λ r. ⌜ Tells r (sheetSizes (now (sheet .entry)) ≡ sizes (now (t .entry))) ⌝ }
 {
     let n = features_of(sheet);
-    if n != wide(head_word(t, 2)) {
+    if n != wide(features_word(t)) {
         return false;
     }
     let mut k: usize = 0;
     while k < n {
-        if size_at(sheet, k) != wide(head_word(t, 3 + k)) {
+        if size_at(sheet, k) != wide(size_word(t, k)) {
             return false;
         }
         k += 1;
@@ -44,7 +46,7 @@ fn put_read(t: &mut [u32], place: usize, sheet: &[u8], at: &[u32; 4096]) -> Outc
     requires { ⌜ (RuleSound (now t)) × (place < 32) × (Ready (now sheet) (now at)) × (sheetSizes (now sheet) ≡ sizes (now t)) ⌝ }
     ensures { λ r. ⌜ Puts place (sheetRule (now (sheet .entry))) (now (t .entry)) (now (t .exit)) r ⌝ }
 {
-    let used = wide(head_word(t, 19));
+    let used = wide(count_word(t));
     let r = take_in(t, sheet, at);
     settle(t, place, used, r)
 }

@@ -10,14 +10,22 @@ use checks::chains_ok;
 use checks::header_ok;
 use checks::sits;
 use checks::zeros;
+use rule_words::NUMBERS;
 use rule_words::root_word;
-use words::head_word;
+use words::NODES;
+use words::RECORDS;
+use words::count_word;
+use words::features_word;
 use words::record_word;
+use words::size_word;
 use words::wide;
 ghost use Rattle.promises.specs.Words.{features, count, sizes, feature};
 ghost use Rattle.promises.specs.RuleWords.{ruleNodes as nodes, ruleRoots as roots};
 ghost use Rattle.promises.specs.Sound.{Header};
 ghost use Rattle.promises.specs.RuleSound.{RuleLower as Lower, RuleAlike as Alike, RuleNodeOk as NodeOk, RuleNodesOk as Nodes, RuleRooted as Rooted, RuleSound as Sound};
+
+// A walk that met a node out of its turn; more than any count of nodes.
+const LOST: usize = 8192;
 
 // Whether each branch of node i is a phrase or an earlier node of a higher feature.
 fn lower(t: &[u32], i: usize) -> bool
@@ -25,10 +33,10 @@ fn lower(t: &[u32], i: usize) -> bool
     ensures { λ r. ⌜ Tells r (Lower (now (t .entry)) i) ⌝ }
 {
     let k = wide(record_word(t, i, 0));
-    let s = wide(head_word(t, 3 + k));
+    let s = wide(size_word(t, k));
     let mut v: usize = 0;
     while v < s {
-        if !sits(t, 65536, i, k + 1, record_word(t, i, 1 + v)) {
+        if !sits(t, NUMBERS, i, k + 1, record_word(t, i, 1 + v)) {
             return false;
         }
         v += 1;
@@ -41,7 +49,7 @@ fn alike(t: &[u32], i: usize) -> bool
     requires { ⌜ (Header 1 (now t)) × (i < count (now t)) × (feature (now t) i < features (now t)) ⌝ }
     ensures { λ r. ⌜ Tells r (Alike (now (t .entry)) i) ⌝ }
 {
-    let s = wide(head_word(t, 3 + wide(record_word(t, i, 0))));
+    let s = wide(size_word(t, wide(record_word(t, i, 0))));
     let first = record_word(t, i, 1);
     let mut v: usize = 0;
     while v < s {
@@ -59,7 +67,7 @@ fn node_ok(t: &[u32], i: usize) -> bool
     ensures { λ r. ⌜ Tells r (NodeOk (now (t .entry)) i) ⌝ }
 {
     let k = wide(record_word(t, i, 0));
-    if wide(head_word(t, 2)) <= k {
+    if wide(features_word(t)) <= k {
         return false;
     }
     if !lower(t, i) {
@@ -68,8 +76,8 @@ fn node_ok(t: &[u32], i: usize) -> bool
     if alike(t, i) {
         return false;
     }
-    let s = wide(head_word(t, 3 + k));
-    let base = 8192 + 16 * i;
+    let s = wide(size_word(t, k));
+    let base = RECORDS + 16 * i;
     if !zeros(t, base + 1 + s, base + 13) {
         return false;
     }
@@ -81,7 +89,7 @@ fn nodes_ok(t: &[u32]) -> bool
     requires { ⌜ Header 1 (now t) ⌝ }
     ensures { λ r. ⌜ Tells r (Nodes (now (t .entry))) ⌝ }
 {
-    let n = wide(head_word(t, 19));
+    let n = wide(count_word(t));
     let mut i: usize = 0;
     while i < n {
         if !node_ok(t, i) {
@@ -97,10 +105,10 @@ fn roots_ok(t: &[u32]) -> bool
     requires { ⌜ Header 1 (now t) ⌝ }
     ensures { λ r. ⌜ Tells r (Rooted (now (t .entry))) ⌝ }
 {
-    let n = wide(head_word(t, 19));
+    let n = wide(count_word(t));
     let mut p: usize = 0;
     while p < 32 {
-        if !sits(t, 65536, n, 0, root_word(t, p)) {
+        if !sits(t, NUMBERS, n, 0, root_word(t, p)) {
             return false;
         }
         p += 1;
@@ -114,17 +122,17 @@ fn visit(t: &[u32], b: u32, c: usize) -> usize
     requires { ⌜ (Ordered (now t)) × (Sits (now t) (count (now t)) 0 b) × (c ≤ count (now t)) ⌝ }
     ensures { λ r. ⌜ Visits (now (t .entry)) b c r ⌝ }
 {
-    if b < 65536 {
+    if b < NUMBERS {
         return c;
     }
-    let i = wide(b - 65536);
+    let i = wide(b - NUMBERS);
     if i < c {
         return c;
     }
     if visit_list(t, i, c) == i {
         return i + 1;
     }
-    8192
+    LOST
 }
 
 // The same over the branches of node i in turn. A lost walk stops at once, so each node's branches are walked once.
@@ -132,13 +140,13 @@ fn visit_list(t: &[u32], i: usize, c: usize) -> usize
     requires { ⌜ (Ordered (now t)) × (i < count (now t)) × (c ≤ count (now t)) ⌝ }
     ensures { λ r. ⌜ VisitsAll (now (t .entry)) i c r ⌝ }
 {
-    let s = wide(head_word(t, 3 + wide(record_word(t, i, 0))));
+    let s = wide(size_word(t, wide(record_word(t, i, 0))));
     let mut d = c;
     let mut v: usize = 0;
     while v < s {
         d = visit(t, record_word(t, i, 1 + v), d);
-        if 4096 < d {
-            return 8192;
+        if NODES < d {
+            return LOST;
         }
         v += 1;
     }
@@ -154,12 +162,12 @@ fn order_ok(t: &[u32]) -> bool
     let mut p: usize = 0;
     while p < 32 {
         d = visit(t, root_word(t, p), d);
-        if 4096 < d {
+        if NODES < d {
             return false;
         }
         p += 1;
     }
-    d == wide(head_word(t, 19))
+    d == wide(count_word(t))
 }
 
 // Whether the words are a sound rule table. It reads any slice.

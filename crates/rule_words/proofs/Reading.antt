@@ -6,14 +6,16 @@ use Prim.Native.Nat.{ℕ, _+_, _-_, _≤_, _<_}
 use native.Mathlib.Omega.{arith}
 use borrow.Author.Tests.{lt-ltb, le-ltb}
 use lib.ListN.{length, getD}
-use Rattle.theory.specs.Diagrams.{at, blank}
+use Rattle.theory.specs.Diagrams.{at, blank, leaf, node as to-node}
 use Rattle.theory.specs.Functions.{zero-fun}
 use Rattle.theory.specs.WellFormed.{Under}
 use Rattle.theory.specs.Rules.{Branch, Node, phrase, node}
 use Rattle.words.specs.Coding.{Faithful}
 use Rattle.words.proofs.Coding as C
 use Rattle.words.proofs.Tab.{split, tab-ext, length-tab, getD-tab}
-use Rattle.rule_words.specs.Words.{encode, branches, code, nodeAt}
+use Rattle.rule_words.specs.Words.{encode, branches, code, nodeAt, branchOf, Worded}
+use Rattle.rule_words.specs.declared.Branch.{Branch as CodeBranch}
+use Rattle.rule_words.specs.declared.Branch.the-variants.{Phrase, Node as NodeIs}
 use Rattle.promises.specs.Words.{count, size, feature, body}
 use Rattle.promises.specs.RuleWords.{decode, ruleNodes as nodes, ruleRoot as root, ruleRoots as roots, ruleOf, rulesOf}
 
@@ -43,6 +45,25 @@ under-word N m k x u = ⊎-elim
     (λ h. omega (arith, h))
     (λ h. let q : Under N m k (node (x - 65536) .to) = subst (λ (b : Branch). Under N m k (b .to)) (decode-node x h) u in omega (arith, q .0, h))
     (split x 65536)
+
+-- ---- the code's branches
+-- a phrase is its own word, a node's word is 65,536 + its index
+pub word-phrase : (b : CodeBranch) (p : ℕ) → b ≡ Phrase p → Worded b → decode p ≡ branchOf b
+word-phrase b p e h = let q : p < 65536 = subst (λ (x : CodeBranch). Worded x) e h in decode-phrase p q ∙ sym (ap branchOf e)
+
+pub word-node : (b : CodeBranch) (i x : ℕ) → b ≡ NodeIs i → x ≡ 65536 + i → decode x ≡ branchOf b
+word-node b i x e h = decode-index x i h ∙ sym (ap branchOf e)
+
+pub node-fits : (b : CodeBranch) (i : ℕ) → b ≡ NodeIs i → Worded b → i < 65536
+node-fits b i e h = subst (λ (x : CodeBranch). Worded x) e h
+
+-- the branch of a small word has a word
+pub word-again : (b : CodeBranch) (x : ℕ) → branchOf b ≡ decode x → x < 131072 → Worded b
+word-again (Phrase p) x e h = ⊎-elim
+    (λ l. let q : p ≡ x = ap encode e ∙ encode-decode x in omega (arith, q, l))
+    (λ l. let q : leaf p ≡ to-node (x - 65536) = ap (λ (c : Branch). c .to) (e ∙ decode-node x l) in let z : _≡_ {A = ℕ} 0 1 = cc in absurd (omega (arith, z)))
+    (split x 65536)
+word-again (NodeIs i) x e h = let q : 65536 + i ≡ x = ap encode e ∙ encode-decode x in omega (arith, q, h)
 
 -- the node list
 pub length-nodes : (w : List ℕ) → length (nodes w) ≡ count w

@@ -30,7 +30,15 @@ code = record { arm = λ f v. decode (f v); Padded = λ m f. (v : ℕ) → m ≤
 abbrev pub nodeAt : List ℕ → ℕ → Node
 nodeAt w i = C.nodeAt code w i
 
--- the word of the code's branch
-abbrev pub wordOf : CodeBranch → ℕ
-wordOf (Phrase p) = p
-wordOf (NodeIs i) = 65536 + i
+-- where the code's branch goes, and the branch
+abbrev pub targetOf : CodeBranch → D.Target rules
+targetOf (Phrase p) = D.leaf p
+targetOf (NodeIs i) = D.node i
+
+abbrev pub branchOf : CodeBranch → Branch
+branchOf b = record { adds = tt; to = targetOf b }
+
+-- it has a word
+abbrev pub Worded : CodeBranch → Type 0
+Worded (Phrase p) = p < 65536
+Worded (NodeIs i) = i < 65536

@@ -3,8 +3,11 @@ use words::head_word;
 ghost use mathlib.Core.Path.{_≡_};
 ghost use Prim.Native.Nat.{_+_, _≤_, _<_};
 ghost use lib.ListN.{length};
-ghost use Rattle.rule_words.specs.Words.{wordOf};
-ghost use Rattle.promises.specs.RuleWords.{ruleRoot as root};
+ghost use Rattle.rule_words.specs.Words.{branchOf, Worded};
+ghost use Rattle.promises.specs.RuleWords.{decode, ruleRoot as root};
+
+// Phrase numbers are below this; as a branch word, NUMBERS + i is node i.
+pub const NUMBERS: u32 = 65536;
 
 // A branch: a phrase number or a node.
 pub enum Branch {
@@ -14,23 +17,23 @@ pub enum Branch {
 
 // The word of a branch.
 pub fn branch_word(b: Branch) -> u32
-    requires { ⌜ wordOf b < 131072 ⌝ }
-    ensures { λ r. ⌜ r ≡ wordOf b ⌝ }
+    requires { ⌜ Worded b ⌝ }
+    ensures { λ r. ⌜ decode r ≡ branchOf b ⌝ }
 {
     match b {
         Branch::Phrase(p) => p,
-        Branch::Node(i) => 65536 + i,
+        Branch::Node(i) => NUMBERS + i,
     }
 }
 
 // The branch of a word.
 pub fn branch_at(w: u32) -> Branch
-    ensures { λ r. ⌜ wordOf r ≡ w ⌝ }
+    ensures { λ r. ⌜ branchOf r ≡ decode w ⌝ }
 {
-    if w < 65536 {
+    if w < NUMBERS {
         Branch::Phrase(w)
     } else {
-        Branch::Node(w - 65536)
+        Branch::Node(w - NUMBERS)
     }
 }
 

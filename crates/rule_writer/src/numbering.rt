@@ -1,8 +1,9 @@
 // The nodes that a branch reaches, numbered depth first, branch 0 first, each when its branches are done: the order of a sheet.
 // Word i of the notes is 1 + the number of node i, or 0; word 4,096 + j is the node that has the number j.
-use words::head_word;
+use rule_words::NUMBERS;
 use words::narrow;
 use words::record_word;
+use words::size_word;
 use words::wide;
 ghost use mathlib.Core.Path.{_≡_};
 ghost use Prim.Native.Nat.{_≤_, _<_};
@@ -12,12 +13,15 @@ ghost use Rattle.rule_writer.specs.Numbering.{member, renumbered, Noted,
 ghost use Rattle.promises.specs.Words.{size, count, feature};
 ghost use Rattle.promises.specs.RuleSound.{RuleSound as Sound};
 
+// The branch word of a node whose index is told as one more.
+const BEFORE_NODES: u32 = 65535;
+
 // How many branches node i has.
 pub fn width(t: &[u32], i: usize) -> usize
     requires { ⌜ (Sound (now t)) × (i < count (now t)) ⌝ }
     ensures { λ r. ⌜ (r ≡ size (now (t .entry)) (feature (now (t .entry)) i)) × (r ≤ 8) ⌝ }
 {
-    wide(head_word(t, 3 + wide(record_word(t, i, 0))))
+    wide(size_word(t, wide(record_word(t, i, 0))))
 }
 
 // Numbers what the branch of word b reaches, c nodes having numbers: how many have one then. Each node is walked once.
@@ -25,10 +29,10 @@ pub fn number(t: &[u32], notes: &mut [u32; 8192], b: u32, c: usize) -> usize
     requires { ⌜ (Sound (now t)) × (Noted (now t) (now notes) c) × (Sits (now t) (count (now t)) 0 b) ⌝ }
     ensures { λ r. ⌜ Numbers (now (t .entry)) (now (notes .entry)) (now (notes .exit)) b c r ⌝ }
 {
-    if b < 65536 {
+    if b < NUMBERS {
         return c;
     }
-    let i = wide(b - 65536);
+    let i = wide(b - NUMBERS);
     if 0 < notes[i] {
         return c;
     }
@@ -49,10 +53,10 @@ pub fn renumber(notes: &[u32; 8192], b: u32) -> u32
     requires { ⌜ (length (now notes) ≡ 8192) × (b < 69632) × (renumbered (now notes) b < 131072) ⌝ }
     ensures { λ r. ⌜ r ≡ renumbered (now (notes .entry)) b ⌝ }
 {
-    if b < 65536 {
+    if b < NUMBERS {
         return b;
     }
-    65535 + notes[wide(b - 65536)]
+    BEFORE_NODES + notes[wide(b - NUMBERS)]
 }
 
 // The node that has the number j.

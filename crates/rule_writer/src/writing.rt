@@ -5,9 +5,10 @@ use crate::bytes::put_two;
 use crate::numbering::node_of;
 use crate::numbering::renumber;
 use crate::numbering::width;
-use words::head_word;
+use words::features_word;
 use words::narrow;
 use words::record_word;
+use words::size_word;
 use words::wide;
 ghost use mathlib.Core.Path.{_≡_};
 ghost use mathlib.Core.List.{[], _∷_, _++_};
@@ -27,7 +28,7 @@ pub fn sheet_length(t: &[u32], notes: &[u32; 8192], c: usize) -> usize
     requires { ⌜ (Sound (now t)) × (Noted (now t) (now notes) c) ⌝ }
     ensures { λ r. ⌜ r ≡ 12 + features (now (t .entry)) + length (nodesBytes branchBytes (numbered (now (t .entry)) (now (notes .entry)) c)) ⌝ }
 {
-    let mut n = 12 + wide(head_word(t, 2));
+    let mut n = 12 + wide(features_word(t));
     let mut j: usize = 0;
     while j < c {
         n = n + 1 + 3 * width(t, node_of(notes, j));
@@ -41,11 +42,11 @@ fn put_sizes(t: &[u32], out: &mut [u8], p: usize) -> usize
     requires { ⌜ (Sound (now t)) × (p + features (now t) ≤ length (now out)) ⌝ }
     ensures { λ r. ⌜ Puts (sizes (now (t .entry))) (now (out .entry)) (now (out .exit)) p r ⌝ }
 {
-    let n = wide(head_word(t, 2));
+    let n = wide(features_word(t));
     let mut q = p;
     let mut k: usize = 0;
     while k < n {
-        q = put_byte(out, q, head_word(t, 3 + k));
+        q = put_byte(out, q, size_word(t, k));
         k += 1;
     }
     q
@@ -58,7 +59,7 @@ pub fn put_front(t: &[u32], out: &mut [u8]) -> usize
 {
     let p = put_two(out, 0, 1);
     let q = put_byte(out, p, 1);
-    let s = put_two(out, q, head_word(t, 2));
+    let s = put_two(out, q, features_word(t));
     put_sizes(t, out, s)
 }
 

@@ -1,6 +1,7 @@
 // Constant: a rule that gives every setting one number needs no node.
 use crate::at_the_door::door;
 use rule_collect::finish;
+use rule_words::NUMBERS;
 use settings::Outcome;
 use settings::Refusal;
 ghost use Rattle.theory.specs.Rules.{says};
@@ -16,7 +17,7 @@ pub fn constant(t: &mut [u32], place: usize, number: u32) -> Outcome
     if let Outcome::Refused(x) = o {
         return Outcome::Refused(x);
     }
-    if 65536 <= number {
+    if NUMBERS <= number {
         return Outcome::Refused(Refusal::BadArgument);
     }
     finish(t, place, number);

@@ -3,6 +3,7 @@ use crate::at_the_door::door;
 use calls::index;
 use calls::setting_fits;
 use promises::Looked;
+use rule_words::NUMBERS;
 use rule_words::root_word;
 use settings::Outcome;
 use settings::Refusal;
@@ -27,8 +28,8 @@ fn walk(t: &[u32], place: usize, setting: &[u8]) -> Looked
 {
     let mut b = root_word(t, place);
     let mut asked: u32 = 0;
-    while 65536 <= b {
-        let i = wide(b - 65536);
+    while NUMBERS <= b {
+        let i = wide(b - NUMBERS);
         let k = wide(record_word(t, i, 0));
         b = record_word(t, i, 1 + index(setting[k]));
         asked += 1;

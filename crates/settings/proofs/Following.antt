@@ -11,7 +11,7 @@ use lib.Dec.{ltb}
 use lib.ListN.{length, replicate, length-replicate}
 use borrow.Author.Tests.{lt-ltb, ltb-true}
 use Rattle.theory.specs.Settings.{Valid, Before, sooner, later}
-use Rattle.settings.specs.Step.{nextOf, grow, pick}
+use Rattle.settings.specs.Step.{nextOf, grow, kept-if}
 
 -- what is said of a next setting, where there is one
 abbrev Holds : (List ℕ → Type 0) → Option (List ℕ) → Type 0
@@ -19,7 +19,7 @@ Holds P (some t) = P t
 Holds P none = Unit {0}
 
 -- `grow` gives only what P holds of, if P holds of the grown value with zeros and of the value with what came next
-grown : (P : List ℕ → Type 0) (b : Bool) (t : List ℕ) → (b ≡ true → P t) → Holds P (pick b (some t))
+grown : (P : List ℕ → Type 0) (b : Bool) (t : List ℕ) → (b ≡ true → P t) → Holds P (kept-if b (some t))
 grown P true t h = h refl
 grown P false t h = tt
 

@@ -33,14 +33,14 @@ pub record Inside (S : List ℕ) (s : Setting) : Type 0 where
   pub valid : Valid S (valuesOf s)
 
 -- w if the test passes, else none
-abbrev pub pick : Bool → Option (List ℕ) → Option (List ℕ)
-pick true w = w
-pick false w = none
+abbrev pub kept-if : Bool → Option (List ℕ) → Option (List ℕ)
+kept-if true w = w
+kept-if false w = none
 
 -- after v and m more values, given what comes next after those m: v stays while they have a next; else v grows by one, if it can, and they are 0 again
 abbrev pub grow : ℕ → ℕ → ℕ → Option (List ℕ) → Option (List ℕ)
 grow n v m (some t) = some (v ∷ t)
-grow n v m none = pick (ltb (v + 1) n) (some ((v + 1) ∷ replicate m 0))
+grow n v m none = kept-if (ltb (v + 1) n) (some ((v + 1) ∷ replicate m 0))
 
 -- the next setting in dictionary order, or none after the last
 unfoldable pub nextOf : List ℕ → List ℕ → Option (List ℕ)

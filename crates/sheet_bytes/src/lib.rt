@@ -15,3 +15,6 @@ pub use laying::newer;
 pub use laying::root_of;
 pub use laying::size_at;
 pub use laying::width_at;
+
+// Phrase numbers are below this; as a branch of a sheet, NUMBERS + i is node i.
+pub const NUMBERS: usize = 65536;

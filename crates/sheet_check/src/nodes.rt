@@ -1,4 +1,5 @@
 // Each node by itself.
+use sheet_bytes::NUMBERS;
 use sheet_bytes::branch_at;
 use sheet_bytes::count_of;
 use sheet_bytes::feature_at;
@@ -8,18 +9,21 @@ ghost use Rattle.settings.specs.Tells.{Tells};
 ghost use Rattle.sheet_bytes.specs.Bytes.{Laid};
 ghost use Rattle.promises.specs.Sheet.{sheetCount as count, SheetSits as Below, SheetLower as Lower, SheetAlike as Alike, SheetNodesOk as Nodes};
 
+// Branches of a sheet are below this.
+const BRANCHES: usize = 131072;
+
 // Whether w is a phrase, or a node before i of feature k or higher.
 pub fn below(s: &[u8], at: &[u32; 4096], i: usize, k: usize, w: usize) -> bool
     requires { ⌜ (Laid (now s) (now at)) × (i ≤ count (now s)) ⌝ }
     ensures { λ r. ⌜ Tells r (Below (now (s .entry)) i k w) ⌝ }
 {
-    if 131072 <= w {
+    if BRANCHES <= w {
         return false;
     }
-    if w < 65536 {
+    if w < NUMBERS {
         return true;
     }
-    let j = w - 65536;
+    let j = w - NUMBERS;
     if i <= j {
         return false;
     }

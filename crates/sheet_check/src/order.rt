@@ -1,4 +1,5 @@
 // The nodes stand as the walk from the root finishes them: the walk keeps only how many nodes are done.
+use sheet_bytes::NUMBERS;
 use sheet_bytes::branch_at;
 use sheet_bytes::count_of;
 use sheet_bytes::root_of;
@@ -9,22 +10,25 @@ ghost use Rattle.sheet_bytes.specs.Bytes.{Laid};
 ghost use Rattle.sheet_check.specs.Diagram.{Visits, VisitsAll};
 ghost use Rattle.promises.specs.Sheet.{sheetCount as count, sheetRoot as root, SheetSits as Below, SheetOrdered as Ordered, InOrder};
 
+// A walk that met a node out of its turn; more than any count of nodes.
+const LOST: usize = 65536;
+
 // The walk from the branch word w, the nodes below c done: how many are done after it, or 65,536 where one is not met in its turn.
 fn visit(s: &[u8], at: &[u32; 4096], w: usize, c: usize) -> usize
     requires { ⌜ (Ordered (now s)) × (Laid (now s) (now at)) × (Below (now s) (count (now s)) 0 w) × (c < 65536) ⌝ }
     ensures { λ r. ⌜ Visits (now (s .entry)) w c r ⌝ }
 {
-    if w < 65536 {
+    if w < NUMBERS {
         return c;
     }
-    let i = w - 65536;
+    let i = w - NUMBERS;
     if i < c {
         return c;
     }
     if visit_list(s, at, i, c) == i {
         return i + 1;
     }
-    65536
+    LOST
 }
 
 // The same over the branches of node i in turn. A lost walk stops at once, so each node's branches are walked once.
@@ -37,8 +41,8 @@ fn visit_list(s: &[u8], at: &[u32; 4096], i: usize, c: usize) -> usize
     let mut v: usize = 0;
     while v < z {
         d = visit(s, at, branch_at(s, at, i, v), d);
-        if 65536 <= d {
-            return 65536;
+        if LOST <= d {
+            return LOST;
         }
         v += 1;
     }

@@ -4,6 +4,7 @@ use settings::Outcome;
 use settings::Refusal;
 use settings::refusal_number;
 use settings::setting_ok;
+use sheet_bytes::NUMBERS;
 use sheet_bytes::branch_at;
 use sheet_bytes::feature_at;
 use sheet_bytes::features_of;
@@ -23,6 +24,9 @@ ghost use Rattle.promises.specs.SheetDeeds.{look-up-in};
 ghost use Rattle.sheet_check.specs.Diagram.{Ready};
 ghost use Rattle.promises.specs.ForC.{heard, Hears, tell-returned};
 
+// What C gets of a refusal is this and its number: more than any phrase number.
+const REFUSED: u32 = 65536;
+
 // Whether the bytes t are a setting of the sheet's features.
 fn fits(s: &[u8], t: &[u8]) -> bool
     requires { ⌜ Begins (now s) ⌝ }
@@ -40,8 +44,8 @@ fn walk(s: &[u8], at: &[u32; 4096], t: &[u8]) -> Looked
 {
     let mut b = root_of(s);
     let mut asked: u32 = 0;
-    while 65536 <= b {
-        let i = b - 65536;
+    while NUMBERS <= b {
+        let i = b - NUMBERS;
         let k = feature_at(s, at, i);
         b = branch_at(s, at, i, wide(t[k]));
         asked += 1;
@@ -85,6 +89,6 @@ pub extern "C" fn lampgrotto_look_up(sheet: &[u8], setting: &[u8]) -> u32
     let outcome = looked.outcome;
     match outcome {
         Outcome::Taken => looked.number,
-        Outcome::Refused(x) => 65536 + refusal_number(x),
+        Outcome::Refused(x) => REFUSED + refusal_number(x),
     }
 }

@@ -1,4 +1,8 @@
 // The part of the collector that the tables of every kind share: copying a record, bringing the copies back, chaining anew.
+use words::CHAINS;
+use words::RECORDS;
+use words::capacity_word;
+use words::count_word;
 use words::hash_at;
 use words::head_word;
 use words::narrow;
@@ -15,8 +19,8 @@ pub fn clear_heads(t: &mut [u32])
     requires { ⌜ 8192 ≤ length (now t) ⌝ }
     ensures { λ _. ⌜ Cleared (now (t .entry)) (now (t .exit)) ⌝ }
 {
-    let mut h: usize = 4096;
-    while h < 8192 {
+    let mut h: usize = CHAINS;
+    while h < RECORDS {
         t[h] = 0;
         h += 1;
     }
@@ -28,7 +32,7 @@ pub fn add_copy(t: &mut [u32], i: usize, list: [u32; 12]) -> usize
     ensures { λ r. ⌜ (r ≡ done (now (t .entry))) × (Put (now (t .entry)) (now (t .exit)) i list) ⌝ }
 {
     let m = wide(head_word(t, 31));
-    let base = 8192 + 16 * (wide(head_word(t, 1)) + m);
+    let base = RECORDS + 16 * (wide(capacity_word(t)) + m);
     let x = record_word(t, i, 14);
     let y = record_word(t, i, 15);
     t[base] = record_word(t, i, 0);
@@ -39,7 +43,7 @@ pub fn add_copy(t: &mut [u32], i: usize, list: [u32; 12]) -> usize
     }
     t[base + 14] = x;
     t[base + 15] = y;
-    t[4096 + i] = narrow(m + 1);
+    t[CHAINS + i] = narrow(m + 1);
     t[31] = narrow(m + 1);
     m
 }
@@ -50,12 +54,12 @@ pub fn bring_back(t: &mut [u32])
     ensures { λ _. ⌜ Brought (now (t .entry)) (now (t .exit)) ⌝ }
 {
     let m = head_word(t, 31);
-    let far = 8192 + 16 * wide(head_word(t, 1));
-    let end = 16 * wide(head_word(t, 19));
+    let far = RECORDS + 16 * wide(capacity_word(t));
+    let end = 16 * wide(count_word(t));
     let mut j: usize = 0;
     while j < end {
         let x = t[far + j];
-        t[8192 + j] = x;
+        t[RECORDS + j] = x;
         t[far + j] = 0;
         j += 1;
     }
@@ -69,12 +73,12 @@ pub fn relink(t: &mut [u32])
     requires { ⌜ Bare (now t) ⌝ }
     ensures { λ _. ⌜ Relinked (now (t .entry)) (now (t .exit)) ⌝ }
 {
-    let n = wide(head_word(t, 19));
+    let n = wide(count_word(t));
     let mut i: usize = 0;
     while i < n {
         let h = hash_at(t, i);
-        t[8192 + 16 * i + 13] = t[4096 + h];
-        t[4096 + h] = narrow(i + 1);
+        t[RECORDS + 16 * i + 13] = t[CHAINS + h];
+        t[CHAINS + h] = narrow(i + 1);
         i += 1;
     }
 }

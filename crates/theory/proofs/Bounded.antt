@@ -11,7 +11,7 @@ use Rattle.theory.specs.Deciding.{Alike, In, alike?, find}
 use Rattle.theory.specs.Settings.{Valid}
 use Rattle.theory.specs.Functions.{held, parts, zero-fun}
 use Rattle.theory.specs.Diagrams as D
-use Rattle.theory.specs.Diagrams.{Target, at, base, blank, empty, ended, go-on, next, node-of, pick, value}
+use Rattle.theory.specs.Diagrams.{Target, at, base, blank, empty, ended, go-on, next, node-of, at-feature, value}
 use Rattle.theory.specs.Comparing.{branch-discrete, node-discrete}
 use Rattle.theory.specs.Build.{below, build, decide, each, make}
 use Rattle.theory.specs.Rules.{Branch, Built, Node, Rule, number, rules}
@@ -41,11 +41,11 @@ pub record Results (B : ℕ) (r : List Branch × List Node) : Type 0 where
 
 module _ (B : ℕ) (pos : 0 < B) where
   next-bounded : (N : List Node) → Bounds B N → (k : ℕ) (t : Target rules) (v : ℕ) → Bounded B t → Bounded B (go-on N k tt t v .to)
-  unfolding go-on pick
+  unfolding go-on at-feature
   next-bounded N h k (D.leaf p) v b = b
   next-bounded N h k (D.node i) v b = go (ℕ-discrete (at N i .feature) k)
     where
-      go : (d : Dec (at N i .feature ≡ k)) → Bounded B (pick (at N i) k i v tt d .to)
+      go : (d : Dec (at N i .feature ≡ k)) → Bounded B (at-feature (at N i) k i v tt d .to)
       go (yes p) = h .node i .branch v
       go (no p) = tt
 

@@ -9,53 +9,53 @@ use lib.ListN.{length, getD, length-append}
 use Rattle.theory.specs.Kind.{Kind}
 use Rattle.theory.specs.Settings.{Valid, zeros}
 use Rattle.theory.specs.Functions.{Amount, Fun, held, lift, parts, zero-fun}
-use Rattle.theory.specs.Diagrams.{Branch, Node, Target, at, base, blank, ended, ending, go-on, leaf, next, node, node-of, pick, plain, up, value}
+use Rattle.theory.specs.Diagrams.{Branch, Node, Target, at, base, blank, ended, ending, go-on, leaf, next, node, node-of, at-feature, plain, up, value}
 use Rattle.theory.specs.WellFormed.{Mean, Means, Ok, Under, WF}
 use Rattle.theory.specs.Build.{Ext}
 use Rattle.theory.proofs.Offsets.{base-back}
 use Rattle.theory.proofs.WellFormed.{at-more, under-more, under-weaken, wf-prefix}
 
 module _ {K : Kind} where
-  pick-here : (x : Node K) (k i v : ℕ) (a : K .Off) (d : Dec (x .feature ≡ k)) → x .feature ≡ k → pick x k i v a d ≡ up a (getD (x .branches) v blank)
-  unfolding pick
-  pick-here x k i v a (yes p) e = refl
-  pick-here x k i v a (no p) e = absurd (p e)
+  feature-here : (x : Node K) (k i v : ℕ) (a : K .Off) (d : Dec (x .feature ≡ k)) → x .feature ≡ k → at-feature x k i v a d ≡ up a (getD (x .branches) v blank)
+  unfolding at-feature
+  feature-here x k i v a (yes p) e = refl
+  feature-here x k i v a (no p) e = absurd (p e)
 
-  pick-wait : (x : Node K) (k i v : ℕ) (a : K .Off) (d : Dec (x .feature ≡ k)) → ¬ (x .feature ≡ k) → pick x k i v a d ≡ record { adds = a; to = node i }
-  unfolding pick
-  pick-wait x k i v a (yes p) e = absurd (e p)
-  pick-wait x k i v a (no p) e = refl
+  feature-wait : (x : Node K) (k i v : ℕ) (a : K .Off) (d : Dec (x .feature ≡ k)) → ¬ (x .feature ≡ k) → at-feature x k i v a d ≡ record { adds = a; to = node i }
+  unfolding at-feature
+  feature-wait x k i v a (yes p) e = absurd (e p)
+  feature-wait x k i v a (no p) e = refl
 
-  pick-up : (x : Node K) (k i v : ℕ) (c a : K .Off) (d : Dec (x .feature ≡ k)) → pick x k i v (K .plus c a) d ≡ up c (pick x k i v a d)
-  unfolding pick
-  pick-up x k i v c a (yes p) = λ j. record { adds = K .group .plus-assoc c a (getD (x .branches) v blank .adds) j; to = getD (x .branches) v blank .to }
-  pick-up x k i v c a (no p) = refl
+  feature-up : (x : Node K) (k i v : ℕ) (c a : K .Off) (d : Dec (x .feature ≡ k)) → at-feature x k i v (K .plus c a) d ≡ up c (at-feature x k i v a d)
+  unfolding at-feature
+  feature-up x k i v c a (yes p) = λ j. record { adds = K .group .plus-assoc c a (getD (x .branches) v blank .adds) j; to = getD (x .branches) v blank .to }
+  feature-up x k i v c a (no p) = refl
 
   pub next-here : (N : List (Node K)) (k i v : ℕ) (a : K .Off) → at N i .feature ≡ k → go-on N k a (node i) v ≡ up a (getD (at N i .branches) v blank)
   unfolding go-on
-  next-here N k i v a e = pick-here (at N i) k i v a (ℕ-discrete (at N i .feature) k) e
+  next-here N k i v a e = feature-here (at N i) k i v a (ℕ-discrete (at N i .feature) k) e
 
   go-on-wait : (N : List (Node K)) (k : ℕ) (a : K .Off) (t : Target K) (v : ℕ) → Under N (length N) (suc k) t → go-on N k a t v ≡ record { adds = a; to = t }
   unfolding go-on
   go-on-wait N k a (leaf p) v o = refl
-  go-on-wait N k a (node i) v o = pick-wait (at N i) k i v a (ℕ-discrete (at N i .feature) k) (omega arith)
+  go-on-wait N k a (node i) v o = feature-wait (at N i) k i v a (ℕ-discrete (at N i .feature) k) (omega arith)
 
   go-on-up : (N : List (Node K)) (k : ℕ) (c a : K .Off) (t : Target K) (v : ℕ) → go-on N k (K .plus c a) t v ≡ up c (go-on N k a t v)
   unfolding go-on
   go-on-up N k c a (leaf p) v = refl
-  go-on-up N k c a (node i) v = pick-up (at N i) k i v c a (ℕ-discrete (at N i .feature) k)
+  go-on-up N k c a (node i) v = feature-up (at N i) k i v c a (ℕ-discrete (at N i .feature) k)
 
   go-on-more : (N M : List (Node K)) (k : ℕ) (a : K .Off) (t : Target K) (v : ℕ) → Under N (length N) k t → go-on (N ++ M) k a t v ≡ go-on N k a t v
   unfolding go-on
   go-on-more N M k a (leaf p) v o = refl
-  go-on-more N M k a (node i) v o = ap (λ (x : Node K). pick x k i v a (ℕ-discrete (x .feature) k)) (at-more N M i (o .0))
+  go-on-more N M k a (node i) v o = ap (λ (x : Node K). at-feature x k i v a (ℕ-discrete (x .feature) k)) (at-more N M i (o .0))
 
   pub go-on-ok : (S : List ℕ) (N : List (Node K)) → WF S N → (k : ℕ) (a : K .Off) (t : Target K) (v : ℕ) → Under N (length N) k t → Ok N (suc k) (go-on N k a t v)
-  unfolding go-on pick
+  unfolding go-on at-feature
   go-on-ok S N w k a (leaf p) v o = tt
   go-on-ok S N w k a (node i) v o = go (ℕ-discrete (at N i .feature) k)
     where
-      go : (d : Dec (at N i .feature ≡ k)) → Ok N (suc k) (pick (at N i) k i v a d)
+      go : (d : Dec (at N i .feature ≡ k)) → Ok N (suc k) (at-feature (at N i) k i v a d)
       go (yes p) = under-weaken N i (length N) _ (suc k) (getD (at N i .branches) v blank .to) (omega arith) (omega arith) (w .fits i (o .0) .lower v)
       go (no p) = (o .0, omega arith)
 
@@ -158,11 +158,11 @@ module _ {K : Kind} where
 
   -- a branch's amount where all remaining features are 0 is what it adds
   go-on-zero : (S : List ℕ) (N : List (Node K)) → WF S N → (k : ℕ) (a : K .Off) (t : Target K) → Under N (length N) k t → go-on N k a t 0 .adds ≡ a
-  unfolding go-on pick
+  unfolding go-on at-feature
   go-on-zero S N w k a (leaf e) o = refl
   go-on-zero S N w k a (node i) o = go (ℕ-discrete (at N i .feature) k)
     where
-      go : (d : Dec (at N i .feature ≡ k)) → pick (at N i) k i 0 a d .adds ≡ a
+      go : (d : Dec (at N i .feature ≡ k)) → at-feature (at N i) k i 0 a d .adds ≡ a
       go (yes p) = ap (K .plus a) (w .fits i (o .0) .zeroed) ∙ K .group .plus-nil a
       go (no p) = refl
 

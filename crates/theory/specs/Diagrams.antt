@@ -50,14 +50,14 @@ module _ {K : Kind} where
   node-of k bs = record { feature = k; branches = map (less (base bs)) bs }
 
   -- at feature k, value v: a node of feature k goes to its branch v, any other waits
-  unfoldable pub pick : (x : Node K) (k i v : ℕ) → K .Off → Dec (x .feature ≡ k) → Branch K
-  pick x k i v a (yes p) = up a (getD (x .branches) v blank)
-  pick x k i v a (no p) = record { adds = a; to = node i }
+  unfoldable pub at-feature : (x : Node K) (k i v : ℕ) → K .Off → Dec (x .feature ≡ k) → Branch K
+  at-feature x k i v a (yes p) = up a (getD (x .branches) v blank)
+  at-feature x k i v a (no p) = record { adds = a; to = node i }
 
   unfoldable pub go-on : List (Node K) → ℕ → K .Off → Target K → ℕ → Branch K
-  unfolding pick
+  unfolding at-feature
   go-on N k a (leaf e) v = record { adds = a; to = leaf e }
-  go-on N k a (node i) v = pick (at N i) k i v a (ℕ-discrete (at N i .feature) k)
+  go-on N k a (node i) v = at-feature (at N i) k i v a (ℕ-discrete (at N i .feature) k)
 
   abbrev pub next : List (Node K) → ℕ → Branch K → ℕ → Branch K
   next N k b v = go-on N k (b .adds) (b .to) v

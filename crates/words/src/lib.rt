@@ -1,9 +1,25 @@
 // Reading the words of a table of any kind: header, records, hashes.
+mod header;
+
+pub use header::bucket_word;
+pub use header::capacity_word;
+pub use header::count_word;
+pub use header::features_word;
+pub use header::head_word;
+pub use header::size_word;
 ghost use mathlib.Core.Path.{_≡_};
 ghost use Prim.Native.Nat.{ℕ, _+_, _*_, _≤_, _<_};
 ghost use lib.ListN.{length, getD};
 ghost use Rattle.words.specs.Words.{listed};
-ghost use Rattle.promises.specs.Words.{word, head, body, hashOf, hashAt};
+ghost use Rattle.promises.specs.Words.{word, body, hashOf, hashAt};
+
+// A table has at most so many nodes.
+pub const NODES: usize = 4096;
+
+// Where the chain heads begin, and where the records begin.
+pub const CHAINS: usize = 4096;
+
+pub const RECORDS: usize = 8192;
 
 // A word as an index.
 pub fn wide(x: u32) -> usize
@@ -20,20 +36,12 @@ pub fn narrow(x: usize) -> u32
     x as u32
 }
 
-// Word j of the header.
-pub fn head_word(t: &[u32], j: usize) -> u32
-    requires { ⌜ j < length (now t) ⌝ }
-    ensures { λ r. ⌜ r ≡ head (now (t .entry)) j ⌝ }
-{
-    t[j]
-}
-
 // Word j of record i. The far records follow the near ones: far record i is record capacity + i.
 pub fn record_word(t: &[u32], i: usize, j: usize) -> u32
     requires { ⌜ (8192 + 16 * i + j < length (now t)) × (i < 8192) × (j < 16) ⌝ }
     ensures { λ r. ⌜ r ≡ word (now (t .entry)) i j ⌝ }
 {
-    t[8192 + 16 * i + j]
+    t[RECORDS + 16 * i + j]
 }
 
 // The body of record i.

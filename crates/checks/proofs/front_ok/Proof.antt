@@ -16,8 +16,8 @@ head-word-requires c κs = search needs
 returns-2 : tie.Need-returns-2
 returns-2 c = search needs
 
-head-word-requires-2 : tie.Need-head-word-requires-2
-head-word-requires-2 c κs = search needs
+capacity-word-requires : tie.Need-capacity-word-requires
+capacity-word-requires c κs = search needs
 
 wide-requires : tie.Need-wide-requires
 wide-requires c κs = search needs
@@ -37,8 +37,8 @@ add-if5 c = search needs
 returns-5 : tie.Need-returns-5
 returns-5 c = search needs
 
-head-word-requires-3 : tie.Need-head-word-requires-3
-head-word-requires-3 c κs = search needs
+features-word-requires : tie.Need-features-word-requires
+features-word-requires c κs = search needs
 
 wide-requires-2 : tie.Need-wide-requires-2
 wide-requires-2 c κs = search needs
@@ -49,8 +49,8 @@ returns-6 c = search needs
 returns-7 : tie.Need-returns-7
 returns-7 c = search needs
 
-head-word-requires-4 : tie.Need-head-word-requires-4
-head-word-requires-4 c κs = search needs
+count-word-requires : tie.Need-count-word-requires
+count-word-requires c κs = search needs
 
 wide-requires-3 : tie.Need-wide-requires-3
 wide-requires-3 c κs = search needs
@@ -76,17 +76,17 @@ front-ok-spec =
     returns
     head-word-requires
     returns-2
-    head-word-requires-2
+    capacity-word-requires
     wide-requires
     returns-3
     returns-4
     mul-if5
     add-if5
     returns-5
-    head-word-requires-3
+    features-word-requires
     wide-requires-2
     returns-6
     returns-7
-    head-word-requires-4
+    count-word-requires
     wide-requires-3
     returns-8)

@@ -18,8 +18,8 @@ sizes-ok-requires c κs = let f = granted ((c .before .front-ok) .result) ((c .i
 returns-2 : tie.Need-returns-2
 returns-2 c = λ z. denied ((c .before .sizes-ok) .result) ((c .if2) .taken) ((c .before .sizes-ok) .ensures) (z .fit)
 
-head-word-requires : tie.Need-head-word-requires
-head-word-requires c κs = let f = granted ((c .before .before .before .front-ok) .result) ((c .before .before .if1) .left) ((c .before .before .before .front-ok) .ensures) in omega (arith, f .room)
+features-word-requires : tie.Need-features-word-requires
+features-word-requires c κs = let f = granted ((c .before .before .before .front-ok) .result) ((c .before .before .if1) .left) ((c .before .before .before .front-ok) .ensures) in omega (arith, f .room)
 
 wide-requires : tie.Need-wide-requires
 wide-requires c κs = search needs
@@ -45,14 +45,14 @@ zeros-requires-3 c κs = let f = granted ((c .before .before .before .before .be
 returns-5 : tie.Need-returns-5
 returns-5 c = λ z. denied ((c .before .zeros3) .result) ((c .if5) .taken) ((c .before .zeros3) .ensures) (z .middle)
 
-head-word-requires-2 : tie.Need-head-word-requires-2
-head-word-requires-2 c κs = let f = granted ((c .before .before .before .before .before .before .before .before .before .before .before .front-ok) .result) ((c .before .before .before .before .before .before .before .before .before .before .if1) .left) ((c .before .before .before .before .before .before .before .before .before .before .before .front-ok) .ensures) in omega (arith, f .room)
+count-word-requires : tie.Need-count-word-requires
+count-word-requires c κs = let f = granted ((c .before .before .before .before .before .before .before .before .before .before .before .front-ok) .result) ((c .before .before .before .before .before .before .before .before .before .before .if1) .left) ((c .before .before .before .before .before .before .before .before .before .before .before .front-ok) .ensures) in omega (arith, f .room)
 
 wide-requires-2 : tie.Need-wide-requires-2
 wide-requires-2 c κs = search needs
 
-head-word-requires-3 : tie.Need-head-word-requires-3
-head-word-requires-3 c κs = let f = granted ((c .before .before .before .before .before .before .before .before .before .before .before .before .before .front-ok) .result) ((c .before .before .before .before .before .before .before .before .before .before .before .before .if1) .left) ((c .before .before .before .before .before .before .before .before .before .before .before .before .before .front-ok) .ensures) in omega (arith, f .room)
+capacity-word-requires : tie.Need-capacity-word-requires
+capacity-word-requires c κs = let f = granted ((c .before .before .before .before .before .before .before .before .before .before .before .before .before .front-ok) .result) ((c .before .before .before .before .before .before .before .before .before .before .before .before .if1) .left) ((c .before .before .before .before .before .before .before .before .before .before .before .before .before .front-ok) .ensures) in omega (arith, f .room)
 
 wide-requires-3 : tie.Need-wide-requires-3
 wide-requires-3 c κs = search needs
@@ -100,7 +100,7 @@ header-ok-spec =
     returns
     sizes-ok-requires
     returns-2
-    head-word-requires
+    features-word-requires
     wide-requires
     add-zeros
     zeros-requires
@@ -109,9 +109,9 @@ header-ok-spec =
     returns-4
     zeros-requires-3
     returns-5
-    head-word-requires-2
+    count-word-requires
     wide-requires-2
-    head-word-requires-3
+    capacity-word-requires
     wide-requires-3
     mul-zeros
     add-zeros-2

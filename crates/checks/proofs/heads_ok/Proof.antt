@@ -18,11 +18,8 @@ abbrev μ-loop : tie.MeasureT-loop
 loop-holds : tie.Need-loop-holds Inv-loop μ-loop
 loop-holds c = (omega arith, λ x l. absurd (omega arith))
 
-add-head-word : tie.Need-add-head-word Inv-loop μ-loop
-add-head-word c = search needs
-
-head-word-requires : tie.Need-head-word-requires Inv-loop μ-loop
-head-word-requires c κs = search needs
+bucket-word-requires : tie.Need-bucket-word-requires Inv-loop μ-loop
+bucket-word-requires c κs = search needs
 
 mul-if1 : tie.Need-mul-if1 Inv-loop μ-loop
 mul-if1 c = search needs
@@ -31,7 +28,7 @@ shared-slice-read-if1 : tie.Need-shared-slice-read-if1 Inv-loop μ-loop
 shared-slice-read-if1 c = search needs
 
 returns : tie.Need-returns Inv-loop μ-loop
-returns c = λ z. (c .if1) .taken ((c .before .before .head-word) .ensures ∙ z .heads ((c .before .before .before .before .loop) .h) (omega arith))
+returns c = λ z. (c .if1) .taken ((c .before .before .bucket-word) .ensures ∙ z .heads ((c .before .before .before .before .loop) .h) (omega arith))
 
 add-h : tie.Need-add-h Inv-loop μ-loop
 add-h c = search needs
@@ -40,7 +37,7 @@ loop-less : tie.Need-loop-less Inv-loop μ-loop
 loop-less c = search needs
 
 loop-again : tie.Need-loop-again Inv-loop μ-loop
-loop-again c = let l = (c .before .before .before .before .loop) in let a = (c .before .before .before .before .before .before .before) .args in (omega arith, below-more (λ x. bucket (a .t .now) x ≡ getD (a .last .now) x 0) (l .h) (l .inv .1) (sym ((c .before .before .head-word) .ensures) ∙ (c .if1) .left))
+loop-again c = let l = (c .before .before .before .before .loop) in let a = (c .before .before .before .before .before .before .before) .args in (omega arith, below-more (λ x. bucket (a .t .now) x ≡ getD (a .last .now) x 0) (l .h) (l .inv .1) (sym ((c .before .before .bucket-word) .ensures) ∙ (c .if1) .left))
 
 returns-2 : tie.Need-returns-2 Inv-loop μ-loop
 returns-2 c = record { heads = λ x l. (c .before .loop) .inv .1 x (omega arith) }
@@ -52,8 +49,7 @@ heads-ok-spec =
     Inv-loop
     μ-loop
     loop-holds
-    add-head-word
-    head-word-requires
+    bucket-word-requires
     mul-if1
     shared-slice-read-if1
     returns

@@ -14,8 +14,8 @@ Inv-loop t n k₀ k = (n ≡ features t) × (k ≤ n) × ((x : ℕ) → x < k �
 abbrev μ-loop : tie.MeasureT-loop
 μ-loop t n k₀ k = n - k
 
-head-word-requires : tie.Need-head-word-requires Inv-loop μ-loop
-head-word-requires c κs = search needs
+features-word-requires : tie.Need-features-word-requires Inv-loop μ-loop
+features-word-requires c κs = search needs
 
 wide-requires : tie.Need-wide-requires Inv-loop μ-loop
 wide-requires c κs = search needs
@@ -23,17 +23,14 @@ wide-requires c κs = search needs
 loop-holds : tie.Need-loop-holds Inv-loop μ-loop
 loop-holds c = (omega arith, omega arith, λ x h. absurd (omega arith))
 
-add-head-word : tie.Need-add-head-word Inv-loop μ-loop
-add-head-word c = search needs
-
-head-word-requires-2 : tie.Need-head-word-requires-2 Inv-loop μ-loop
-head-word-requires-2 c κs = search needs
+size-word-requires : tie.Need-size-word-requires Inv-loop μ-loop
+size-word-requires c κs = search needs
 
 returns : tie.Need-returns Inv-loop μ-loop
-returns c = λ z. let g = z .large ((c .before .before .before .loop) .k) (omega arith) in omega (arith, (c .before .head-word2) .ensures)
+returns c = λ z. let g = z .large ((c .before .before .before .loop) .k) (omega arith) in omega (arith, (c .before .size-word) .ensures)
 
 returns-2 : tie.Need-returns-2 Inv-loop μ-loop
-returns-2 c = λ z. let g = z .large ((c .before .before .before .before .loop) .k) (omega arith) in omega (arith, (c .before .before .head-word2) .ensures)
+returns-2 c = λ z. let g = z .large ((c .before .before .before .before .loop) .k) (omega arith) in omega (arith, (c .before .before .size-word) .ensures)
 
 add-k : tie.Need-add-k Inv-loop μ-loop
 add-k c = search needs
@@ -45,7 +42,7 @@ loop-again : tie.Need-loop-again Inv-loop μ-loop
 loop-again c = let l = (c .before .before .before .before .loop) in let w = (c .before .before .before .before .before .before .before .before) .args .t .now in (
   l .inv .0,
   omega arith,
-  below-more (λ x. (2 ≤ size w x) × (size w x ≤ 8)) (l .k) (l .inv .2) (omega (arith, (c .before .before .head-word2) .ensures), omega (arith, (c .before .before .head-word2) .ensures)),
+  below-more (λ x. (2 ≤ size w x) × (size w x ≤ 8)) (l .k) (l .inv .2) (omega (arith, (c .before .before .size-word) .ensures), omega (arith, (c .before .before .size-word) .ensures)),
 )
 
 returns-3 : tie.Need-returns-3 Inv-loop μ-loop
@@ -57,11 +54,10 @@ sizes-ok-spec =
     (tie.spec
     Inv-loop
     μ-loop
-    head-word-requires
+    features-word-requires
     wide-requires
     loop-holds
-    add-head-word
-    head-word-requires-2
+    size-word-requires
     returns
     returns-2
     add-k

@@ -47,7 +47,7 @@ use Rattle.cost_words.proofs.sum_word.Reads as sum-word-reads
 use Rattle.rule_lending.proofs.branch_at.Reads as branch-at-reads
 use Rattle.rule_lending.proofs.is_number.Reads as is-number-reads
 use Rattle.rule_lending.proofs.number_of.Reads as number-of-reads
-use Rattle.words.proofs.head_word.Reads as head-word-reads
+use Rattle.words.proofs.size_word.Reads as size-word-reads
 use Rattle.words.proofs.wide.Reads as wide-reads
 use Rattle.cost_choose.proofs.+branch_result+fill_branches+rest_result.{statement}
 use Rattle.cost_choose.proofs.+branch_result+fill_branches+rest_result.Tie.{close}
@@ -100,7 +100,7 @@ abbrev branch-result-claims : ℕ → branch-result-lts.Claims
 branch-result-claims t = (sum-word-reads.Asked, sum-word-reads.Learnt, difference-word-reads.Asked, difference-word-reads.Learnt, rest-result-below t, rest-result.Post)
 
 abbrev fill-branches-claims : ℕ → fill-branches-lts.Claims
-fill-branches-claims t = (head-word-reads.Asked, head-word-reads.Learnt, wide-reads.Asked, wide-reads.Learnt, branch-at-reads.Asked, branch-at-reads.Learnt, arm-in-reads.Asked, arm-in-reads.Learnt, branch-result-below t, branch-result.Post)
+fill-branches-claims t = (size-word-reads.Asked, size-word-reads.Learnt, wide-reads.Asked, wide-reads.Learnt, branch-at-reads.Asked, branch-at-reads.Learnt, arm-in-reads.Asked, arm-in-reads.Learnt, branch-result-below t, branch-result.Post)
 
 abbrev rest-result-claims : ℕ → rest-result-lts.Claims
 rest-result-claims t = (is-number-reads.Asked, is-number-reads.Learnt, number-of-reads.Asked, number-of-reads.Learnt, ended-reads.Asked, ended-reads.Learnt, lowest-of-reads.Asked, lowest-of-reads.Learnt, rest-result-below t, rest-result.Post, tag-of-reads.Asked, tag-of-reads.Learnt, recall-in-reads.Asked, recall-in-reads.Learnt, fill-branches-below t, fill-branches.Post, make-in-reads.Asked, make-in-reads.Learnt, remember-in-reads.Asked, remember-in-reads.Learnt)
@@ -151,18 +151,15 @@ fill-branches-Inv-loop r t₀ s₀ k b x y d n goes₀ adds₀ v₀ t s goes add
 abbrev fill-branches-μ-loop : fill-branches-lts.MeasureT-loop
 fill-branches-μ-loop r t₀ s₀ k b x y d n goes₀ adds₀ v₀ t s goes adds v = n - v
 
-fill-branches-add-head-word : (t : ℕ) → fill-branches-lts.Need-add-head-word (fill-branches-claims t) (fill-branches-at t) fill-branches.Post fill-branches-Inv-loop fill-branches-μ-loop
-fill-branches-add-head-word t c = let a = (c .before .before .before .before) in omega (arith, a .pre .1 .0 .holds .laid .laid .few, a .pre .1 .2)
-
-fill-branches-head-word-requires : (t : ℕ) → fill-branches-lts.Need-head-word-requires (fill-branches-claims t) (fill-branches-at t) fill-branches.Post fill-branches-Inv-loop fill-branches-μ-loop
-fill-branches-head-word-requires t c κs = let a = (c .before .before .before .before) in omega (arith, a .pre .1 .0 .holds .laid .laid .few, a .pre .1 .2, a .pre .1 .0 .holds .laid .laid .room, length-plain (a .args .t .now))
+fill-branches-size-word-requires : (t : ℕ) → fill-branches-lts.Need-size-word-requires (fill-branches-claims t) (fill-branches-at t) fill-branches.Post fill-branches-Inv-loop fill-branches-μ-loop
+fill-branches-size-word-requires t c κs = let a = (c .before .before .before .before) in omega (arith, a .pre .1 .0 .holds .laid .laid .few, a .pre .1 .2, a .pre .1 .0 .holds .laid .laid .room, length-plain (a .args .t .now))
 
 fill-branches-wide-requires : (t : ℕ) → fill-branches-lts.Need-wide-requires (fill-branches-claims t) (fill-branches-at t) fill-branches.Post fill-branches-Inv-loop fill-branches-μ-loop
 fill-branches-wide-requires t c κs = search needs
 
 fill-branches-loop-holds : (t : ℕ) → fill-branches-lts.Need-loop-holds (fill-branches-claims t) (fill-branches-at t) fill-branches.Post fill-branches-Inv-loop fill-branches-μ-loop
 fill-branches-loop-holds t c = let a = (c .before .before .before .before .before .before) in
-    let e : (c .wide) .result ≡ size (plain (a .args .t .now)) (a .args .k) = (c .wide) .ensures .0 ∙ (c .before .head-word) .ensures ∙ sym (plain-head (a .args .t .now) (3 + a .args .k) (omega (arith, a .pre .1 .0 .holds .laid .laid .few, a .pre .1 .2))) in
+    let e : (c .wide) .result ≡ size (plain (a .args .t .now)) (a .args .k) = (c .wide) .ensures .0 ∙ (c .before .size-word) .ensures ∙ sym (plain-head (a .args .t .now) (3 + a .args .k) (omega (arith, a .pre .1 .0 .holds .laid .laid .few, a .pre .1 .2))) in
     (e, omega arith, fill-start _ (a .args .k) _ (a .pre .1 .0 .holds) (a .pre .1 .2) _ _ refl refl (λ u h. getD-replicate 8 u 0 0 h), a .pre .1 .1, refl, refl)
 
 fill-branches-branch-at-requires : (t : ℕ) → fill-branches-lts.Need-branch-at-requires (fill-branches-claims t) (fill-branches-at t) fill-branches.Post fill-branches-Inv-loop fill-branches-μ-loop
@@ -432,8 +429,7 @@ pub +branch-result+fill-branches+rest-result-spec : {M : Type 1} → statement M
     fill-branches.Post
     fill-branches-Inv-loop
     fill-branches-μ-loop
-    (fill-branches-add-head-word t)
-    (fill-branches-head-word-requires t)
+    (fill-branches-size-word-requires t)
     (fill-branches-wide-requires t)
     (fill-branches-loop-holds t)
     (fill-branches-branch-at-requires t)

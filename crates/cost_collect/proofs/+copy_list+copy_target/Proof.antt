@@ -22,7 +22,8 @@ use Rattle.cost_words.proofs.adds_at.Reads as adds-at-reads
 use Rattle.cost_words.proofs.goes_to.Reads as goes-to-reads
 use Rattle.cost_words.proofs.pack.Reads as pack-reads
 use Rattle.sweep.proofs.add_copy.Reads as add-copy-reads
-use Rattle.words.proofs.head_word.Reads as head-word-reads
+use Rattle.words.proofs.size_word.Reads as size-word-reads
+use Rattle.words.proofs.bucket_word.Reads as bucket-word-reads
 use Rattle.words.proofs.narrow.Reads as narrow-reads
 use Rattle.words.proofs.record_word.Reads as record-word-reads
 use Rattle.words.proofs.wide.Reads as wide-reads
@@ -58,10 +59,10 @@ abbrev copy-list-μ-loop : copy-list-lts.MeasureT-loop
 copy-list-μ-loop t₀ i m to₀ adds₀ v₀ t to adds v = m - v
 
 abbrev copy-list-claims : ℕ → copy-list-lts.Claims
-copy-list-claims t = (record-word-reads.Asked, record-word-reads.Learnt, wide-reads.Asked, wide-reads.Learnt, head-word-reads.Asked, head-word-reads.Learnt, goes-to-reads.Asked, goes-to-reads.Learnt, adds-at-reads.Asked, adds-at-reads.Learnt, copy-target-below t, copy-target.Post, pack-reads.Asked, pack-reads.Learnt)
+copy-list-claims t = (record-word-reads.Asked, record-word-reads.Learnt, wide-reads.Asked, wide-reads.Learnt, size-word-reads.Asked, size-word-reads.Learnt, goes-to-reads.Asked, goes-to-reads.Learnt, adds-at-reads.Asked, adds-at-reads.Learnt, copy-target-below t, copy-target.Post, pack-reads.Asked, pack-reads.Learnt)
 
 abbrev copy-target-claims : ℕ → copy-target-lts.Claims
-copy-target-claims t = (wide-reads.Asked, wide-reads.Learnt, head-word-reads.Asked, head-word-reads.Learnt, copy-list-below t, copy-list.Post, add-copy-reads.Asked, add-copy-reads.Learnt, narrow-reads.Asked, narrow-reads.Learnt)
+copy-target-claims t = (wide-reads.Asked, wide-reads.Learnt, bucket-word-reads.Asked, bucket-word-reads.Learnt, copy-list-below t, copy-list.Post, add-copy-reads.Asked, add-copy-reads.Learnt, narrow-reads.Asked, narrow-reads.Learnt)
 
 copy-list-record-word-requires : (t : ℕ) → copy-list-lts.Need-record-word-requires (copy-list-claims t) (copy-list-at t) copy-list.Post copy-list-Inv-loop copy-list-μ-loop
 copy-list-record-word-requires t c κs = let r = (c .before .before) .pre .1 .0 in (omega (arith, r .framed .room, r .framed .within), omega (arith, r .framed .most, r .framed .within), omega arith)
@@ -69,18 +70,15 @@ copy-list-record-word-requires t c κs = let r = (c .before .before) .pre .1 .0 
 copy-list-wide-requires : (t : ℕ) → copy-list-lts.Need-wide-requires (copy-list-claims t) (copy-list-at t) copy-list.Post copy-list-Inv-loop copy-list-μ-loop
 copy-list-wide-requires t c κs = search needs
 
-copy-list-add-head-word : (t : ℕ) → copy-list-lts.Need-add-head-word (copy-list-claims t) (copy-list-at t) copy-list.Post copy-list-Inv-loop copy-list-μ-loop
-copy-list-add-head-word t c = let a = (c .before .before .before .before) in let k = known (a .pre .1 .0 .framed) (a .args .i) (a .pre .1 .1) in omega (arith, few (a .pre .1 .0 .framed))
-
-copy-list-head-word-requires : (t : ℕ) → copy-list-lts.Need-head-word-requires (copy-list-claims t) (copy-list-at t) copy-list.Post copy-list-Inv-loop copy-list-μ-loop
-copy-list-head-word-requires t c κs = let a = (c .before .before .before .before) in let k = known (a .pre .1 .0 .framed) (a .args .i) (a .pre .1 .1) in omega (arith, few (a .pre .1 .0 .framed), a .pre .1 .0 .framed .room)
+copy-list-size-word-requires : (t : ℕ) → copy-list-lts.Need-size-word-requires (copy-list-claims t) (copy-list-at t) copy-list.Post copy-list-Inv-loop copy-list-μ-loop
+copy-list-size-word-requires t c κs = let a = (c .before .before .before .before) in let k = known (a .pre .1 .0 .framed) (a .args .i) (a .pre .1 .1) in omega (arith, few (a .pre .1 .0 .framed), a .pre .1 .0 .framed .room)
 
 copy-list-wide-requires-2 : (t : ℕ) → copy-list-lts.Need-wide-requires-2 (copy-list-claims t) (copy-list-at t) copy-list.Post copy-list-Inv-loop copy-list-μ-loop
 copy-list-wide-requires-2 t c κs = search needs
 
 copy-list-loop-holds : (t : ℕ) → copy-list-lts.Need-loop-holds (copy-list-claims t) (copy-list-at t) copy-list.Post copy-list-Inv-loop copy-list-μ-loop
 copy-list-loop-holds t c = let a = (c .before .before .before .before .before .before) in (
-  (c .wide2) .ensures .0 ∙ (c .before .head-word) .ensures ∙ ap (size (a .args .t .now)) ((c .before .before .wide) .ensures .0 ∙ (c .before .before .before .record-word) .ensures),
+  (c .wide2) .ensures .0 ∙ (c .before .size-word) .ensures ∙ ap (size (a .args .t .now)) ((c .before .before .wide) .ensures .0 ∙ (c .before .before .before .record-word) .ensures),
   search needs,
   packing-none _ _ _ (a .pre .1 .0) (λ u h. getD-replicate 8 u 0 0 h) (λ u h. getD-replicate 8 u 0 0 h) (search needs) (search needs),
 )
@@ -147,11 +145,8 @@ copy-target-sub-wide t c = search needs
 copy-target-wide-requires : (t : ℕ) → copy-target-lts.Need-wide-requires (copy-target-claims t) (copy-target-at t) copy-target.Post
 copy-target-wide-requires t c κs = search needs
 
-copy-target-add-head-word : (t : ℕ) → copy-target-lts.Need-add-head-word (copy-target-claims t) (copy-target-at t) copy-target.Post
-copy-target-add-head-word t c = search needs
-
-copy-target-head-word-requires : (t : ℕ) → copy-target-lts.Need-head-word-requires (copy-target-claims t) (copy-target-at t) copy-target.Post
-copy-target-head-word-requires t c κs = let a = (c .before .before .before .before) in
+copy-target-bucket-word-requires : (t : ℕ) → copy-target-lts.Need-bucket-word-requires (copy-target-claims t) (copy-target-at t) copy-target.Post
+copy-target-bucket-word-requires t c κs = let a = (c .before .before .before .before) in
     let g = good-small (a .args .t .now) (a .args .x) (a .pre .1 .1) in
     omega (arith, a .pre .1 .0 .framed .room, a .pre .1 .0 .framed .within, a .pre .1 .0 .framed .most)
 
@@ -162,9 +157,9 @@ copy-target-returns-2 : (t : ℕ) → copy-target-lts.Need-returns-2 (copy-targe
 copy-target-returns-2 t c = let a = (c .before .before .before .before .before .before) in
     let g = good-small (a .args .t .now) (a .args .x) (a .pre .1 .1) in
     let i = (c .before .before .before .wide) .result in
-    let n = (c .before .head-word) .result in (
-      moved-index _ _ i (n - 1) (omega arith) (omega arith) (moved-marked i (n - 1) (a .pre .1 .0) (omega arith) (omega (arith, (c .before .head-word) .ensures))),
-      omega (arith, marked-small (a .pre .1 .0) i n (omega arith) ((c .before .head-word) .ensures), done-small (a .pre .1 .0), a .pre .1 .0 .framed .within, a .pre .1 .0 .framed .most),
+    let n = (c .before .bucket-word) .result in (
+      moved-index _ _ i (n - 1) (omega arith) (omega arith) (moved-marked i (n - 1) (a .pre .1 .0) (omega arith) (omega (arith, (c .before .bucket-word) .ensures))),
+      omega (arith, marked-small (a .pre .1 .0) i n (omega arith) ((c .before .bucket-word) .ensures), done-small (a .pre .1 .0), a .pre .1 .0 .framed .within, a .pre .1 .0 .framed .most),
     )
 
 copy-target-copy-list-requires : (t : ℕ) → copy-target-lts.Need-copy-list-requires (copy-target-claims t) (copy-target-at t) copy-target.Post
@@ -175,21 +170,21 @@ copy-target-copy-list-requires t c κs = let a = (c .before .before .before .bef
 copy-target-add-copy-requires : (t : ℕ) → copy-target-lts.Need-add-copy-requires (copy-target-claims t) (copy-target-at t) copy-target.Post
 copy-target-add-copy-requires t c κs = let a = (c .before .before .before .before .before .before .before .before .before .before .before) in
     let g = good-small (a .args .t .now) (a .args .x) (a .pre .1 .1) in
-    let z : (c .before .before .before .before .before .before .head-word) .result ≡ 0 = omega arith in
-    spare-for faithful (a .pre .1 .0) (omega arith) (sym ((c .before .before .before .before .before .before .head-word) .ensures) ∙ z) ((c .before .before .before .copy-list) .ensures)
+    let z : (c .before .before .before .before .before .before .bucket-word) .result ≡ 0 = omega arith in
+    spare-for faithful (a .pre .1 .0) (omega arith) (sym ((c .before .before .before .before .before .before .bucket-word) .ensures) ∙ z) ((c .before .before .before .copy-list) .ensures)
 
 copy-target-narrow-requires : (t : ℕ) → copy-target-lts.Need-narrow-requires (copy-target-claims t) (copy-target-at t) copy-target.Post
 copy-target-narrow-requires t c κs = let a = (c .before .before .before .before .before .before .before .before .before .before .before .before .before .before) in
     let g = good-small (a .args .t .now) (a .args .x) (a .pre .1 .1) in
-    let z : (c .before .before .before .before .before .before .before .before .before .head-word) .result ≡ 0 = omega arith in
-    let s = spare-for faithful (a .pre .1 .0) (omega arith) (sym ((c .before .before .before .before .before .before .before .before .before .head-word) .ensures) ∙ z) ((c .before .before .before .before .before .before .copy-list) .ensures) in
+    let z : (c .before .before .before .before .before .before .before .before .before .bucket-word) .result ≡ 0 = omega arith in
+    let s = spare-for faithful (a .pre .1 .0) (omega arith) (sym ((c .before .before .before .before .before .before .before .before .before .bucket-word) .ensures) ∙ z) ((c .before .before .before .before .before .before .copy-list) .ensures) in
     omega (arith, s .free, s .most, (c .before .before .add-copy) .ensures .0)
 
 copy-target-add-result : (t : ℕ) → copy-target-lts.Need-add-result (copy-target-claims t) (copy-target-at t) copy-target.Post
 copy-target-add-result t c = let a = (c .before .before .before .before .before .before .before .before .before .before .before .before .before .before .before) in
     let g = good-small (a .args .t .now) (a .args .x) (a .pre .1 .1) in
-    let z : (c .before .before .before .before .before .before .before .before .before .before .head-word) .result ≡ 0 = omega arith in
-    let s = spare-for faithful (a .pre .1 .0) (omega arith) (sym ((c .before .before .before .before .before .before .before .before .before .before .head-word) .ensures) ∙ z) ((c .before .before .before .before .before .before .before .copy-list) .ensures) in
+    let z : (c .before .before .before .before .before .before .before .before .before .before .bucket-word) .result ≡ 0 = omega arith in
+    let s = spare-for faithful (a .pre .1 .0) (omega arith) (sym ((c .before .before .before .before .before .before .before .before .before .before .bucket-word) .ensures) ∙ z) ((c .before .before .before .before .before .before .before .copy-list) .ensures) in
     omega (arith, s .free, s .most, (c .before .before .before .add-copy) .ensures .0, (c .narrow) .ensures)
 
 copy-target-same-length-2 : (t : ℕ) → copy-target-lts.Need-same-length-2 (copy-target-claims t) (copy-target-at t) copy-target.Post
@@ -198,8 +193,8 @@ copy-target-same-length-2 t c = search needs
 copy-target-returns-3 : (t : ℕ) → copy-target-lts.Need-returns-3 (copy-target-claims t) (copy-target-at t) copy-target.Post
 copy-target-returns-3 t c = let a = (c .before .before .before .before .before .before .before .before .before .before .before .before .before .before .before) in
     let g = good-small (a .args .t .now) (a .args .x) (a .pre .1 .1) in
-    let z : (c .before .before .before .before .before .before .before .before .before .before .head-word) .result ≡ 0 = omega arith in
-    let h = sym ((c .before .before .before .before .before .before .before .before .before .before .head-word) .ensures) ∙ z in
+    let z : (c .before .before .before .before .before .before .before .before .before .before .bucket-word) .result ≡ 0 = omega arith in
+    let h = sym ((c .before .before .before .before .before .before .before .before .before .before .bucket-word) .ensures) ∙ z in
     let s = spare-for faithful (a .pre .1 .0) (omega arith) h ((c .before .before .before .before .before .before .before .copy-list) .ensures) in (
       moved-index _ _ _ _ (omega arith) (omega (arith, (c .narrow) .ensures, (c .before .before .before .add-copy) .ensures .0)) (moved-new faithful (a .pre .1 .0) (omega arith) h ((c .before .before .before .before .before .before .before .copy-list) .ensures) ((c .before .before .before .add-copy) .ensures .1)),
       omega (arith, s .free, s .most, (c .before .before .before .add-copy) .ensures .0, (c .narrow) .ensures),
@@ -213,8 +208,7 @@ pub +copy-list+copy-target-spec : {M : Type 1} → statement M
     copy-list-μ-loop
     (copy-list-record-word-requires t)
     (copy-list-wide-requires t)
-    (copy-list-add-head-word t)
-    (copy-list-head-word-requires t)
+    (copy-list-size-word-requires t)
     (copy-list-wide-requires-2 t)
     (copy-list-loop-holds t)
     (copy-list-goes-to-requires t)
@@ -236,8 +230,7 @@ pub +copy-list+copy-target-spec : {M : Type 1} → statement M
     (copy-target-returns t)
     (copy-target-sub-wide t)
     (copy-target-wide-requires t)
-    (copy-target-add-head-word t)
-    (copy-target-head-word-requires t)
+    (copy-target-bucket-word-requires t)
     (copy-target-same-length t)
     (copy-target-returns-2 t)
     (copy-target-copy-list-requires t)

@@ -44,7 +44,7 @@ use Rattle.cost_notes.proofs.remember_in.Reads as remember-in-reads
 use Rattle.cost_notes.proofs.arm_in.Reads as arm-in-reads
 use Rattle.cost_notes.proofs.make_in.Reads as make-in-reads
 use Rattle.cost_words.proofs.sum_word.Reads as sum-word-reads
-use Rattle.words.proofs.head_word.Reads as head-word-reads
+use Rattle.words.proofs.size_word.Reads as size-word-reads
 use Rattle.cost_engine.proofs.operators.number_of.Reads as number-of-reads
 use Rattle.words.proofs.narrow.Reads as narrow-reads
 use Rattle.words.proofs.wide.Reads as wide-reads
@@ -99,7 +99,7 @@ abbrev branch-result-claims : ℕ → branch-result-lts.Claims
 branch-result-claims t = (gap-word-reads.Asked, gap-word-reads.Learnt, rest-result-below t, rest-result.Post, ahead-word-reads.Asked, ahead-word-reads.Learnt, sum-word-reads.Asked, sum-word-reads.Learnt)
 
 abbrev fill-branches-claims : ℕ → fill-branches-lts.Claims
-fill-branches-claims t = (head-word-reads.Asked, head-word-reads.Learnt, wide-reads.Asked, wide-reads.Learnt, arm-in-reads.Asked, arm-in-reads.Learnt, branch-result-below t, branch-result.Post)
+fill-branches-claims t = (size-word-reads.Asked, size-word-reads.Learnt, wide-reads.Asked, wide-reads.Learnt, arm-in-reads.Asked, arm-in-reads.Learnt, branch-result-below t, branch-result.Post)
 
 abbrev rest-result-claims : ℕ → rest-result-lts.Claims
 rest-result-claims t = (end-word-reads.Asked, end-word-reads.Learnt, lowest-reads.Asked, lowest-reads.Learnt, rest-result-below t, rest-result.Post, number-of-reads.Asked, number-of-reads.Learnt, narrow-reads.Asked, narrow-reads.Learnt, recall-in-reads.Asked, recall-in-reads.Learnt, fill-branches-below t, fill-branches.Post, make-in-reads.Asked, make-in-reads.Learnt, remember-in-reads.Asked, remember-in-reads.Learnt)
@@ -155,18 +155,15 @@ fill-branches-Inv-loop t₀ s₀ o k x y d m goes₀ adds₀ v₀ t s goes adds 
 abbrev fill-branches-μ-loop : fill-branches-lts.MeasureT-loop
 fill-branches-μ-loop t₀ s₀ o k x y d m goes₀ adds₀ v₀ t s goes adds v = m - v
 
-fill-branches-add-head-word : (t : ℕ) → fill-branches-lts.Need-add-head-word (fill-branches-claims t) (fill-branches-at t) fill-branches.Post fill-branches-Inv-loop fill-branches-μ-loop
-fill-branches-add-head-word t c = let a = (c .before .before .before) in omega (arith, a .pre .1 .0 .holds .laid .laid .few, a .pre .1 .2)
-
-fill-branches-head-word-requires : (t : ℕ) → fill-branches-lts.Need-head-word-requires (fill-branches-claims t) (fill-branches-at t) fill-branches.Post fill-branches-Inv-loop fill-branches-μ-loop
-fill-branches-head-word-requires t c κs = let a = (c .before .before .before) in omega (arith, a .pre .1 .0 .holds .laid .laid .few, a .pre .1 .2, a .pre .1 .0 .holds .laid .laid .room, length-plain (a .args .t .now))
+fill-branches-size-word-requires : (t : ℕ) → fill-branches-lts.Need-size-word-requires (fill-branches-claims t) (fill-branches-at t) fill-branches.Post fill-branches-Inv-loop fill-branches-μ-loop
+fill-branches-size-word-requires t c κs = let a = (c .before .before .before) in omega (arith, a .pre .1 .0 .holds .laid .laid .few, a .pre .1 .2, a .pre .1 .0 .holds .laid .laid .room, length-plain (a .args .t .now))
 
 fill-branches-wide-requires : (t : ℕ) → fill-branches-lts.Need-wide-requires (fill-branches-claims t) (fill-branches-at t) fill-branches.Post fill-branches-Inv-loop fill-branches-μ-loop
 fill-branches-wide-requires t c κs = search needs
 
 fill-branches-loop-holds : (t : ℕ) → fill-branches-lts.Need-loop-holds (fill-branches-claims t) (fill-branches-at t) fill-branches.Post fill-branches-Inv-loop fill-branches-μ-loop
 fill-branches-loop-holds t c = let a = (c .before .before .before .before .before) in
-    let e : (c .wide) .result ≡ size (plain (a .args .t .now)) (a .args .k) = (c .wide) .ensures .0 ∙ (c .before .head-word) .ensures ∙ sym (plain-head (a .args .t .now) (3 + a .args .k) (omega (arith, a .pre .1 .0 .holds .laid .laid .few, a .pre .1 .2))) in
+    let e : (c .wide) .result ≡ size (plain (a .args .t .now)) (a .args .k) = (c .wide) .ensures .0 ∙ (c .before .size-word) .ensures ∙ sym (plain-head (a .args .t .now) (3 + a .args .k) (omega (arith, a .pre .1 .0 .holds .laid .laid .few, a .pre .1 .2))) in
     (e, omega arith, fill-start _ (a .args .k) _ (a .pre .1 .0 .holds) (a .pre .1 .2) _ _ refl refl (λ u h. getD-replicate 8 u 0 0 h), a .pre .1 .1, refl, refl)
 
 fill-branches-arm-in-requires : (t : ℕ) → fill-branches-lts.Need-arm-in-requires (fill-branches-claims t) (fill-branches-at t) fill-branches.Post fill-branches-Inv-loop fill-branches-μ-loop
@@ -426,8 +423,7 @@ pub +branch-result+fill-branches+rest-result-spec : {M : Type 1} → statement M
     fill-branches.Post
     fill-branches-Inv-loop
     fill-branches-μ-loop
-    (fill-branches-add-head-word t)
-    (fill-branches-head-word-requires t)
+    (fill-branches-size-word-requires t)
     (fill-branches-wide-requires t)
     (fill-branches-loop-holds t)
     (fill-branches-arm-in-requires t)

@@ -1,20 +1,18 @@
 -- `cost_nodes::find` meets its contract: equal branches need no node; else the records tell whether the node is there. Assumes nothing.
 use Rattle.settings.proofs.Answers.{sure, sure-not}
 use Rattle.cost_nodes.specs.Nodes.{AllSame}
-use Rattle.cost_nodes.proofs.Making.{found-same, found-node, found-none, first-small}
+use Rattle.cost_nodes.proofs.Making.{found-same, found-node, found-none}
 use native.Mathlib.Omega.{arith}
-use Prim.Native.Nat.{ℕ, _+_, _-_}
-use mathlib.Core.Path.{_≡_, sym, subst, _∙_}
+use Prim.Native.Nat.{ℕ, _-_}
+use mathlib.Core.Path.{_≡_, sym, ap, subst, _∙_}
 use borrow.Author.Needs.{needs}
 use Rattle.cost_nodes.proofs.find.Statement.{statement}
 use Rattle.cost_nodes.proofs.find.Tie as tie
 use Rattle.promises.specs.Words.{size}
+use Rattle.promises.specs.CostWords.{target}
 
-add-head-word : tie.Need-add-head-word
-add-head-word c = search needs
-
-head-word-requires : tie.Need-head-word-requires
-head-word-requires c κs = search needs
+size-word-requires : tie.Need-size-word-requires
+size-word-requires c κs = search needs
 
 wide-requires : tie.Need-wide-requires
 wide-requires c κs = search needs
@@ -36,11 +34,8 @@ returns c = let a = (c .before .before .before .before .before .before .before) 
     let w = a .args .t .now in
     let k = a .args .k in
     let l = a .args .t3 in
-    let e : (c .before .before .before .before .wide) .result ≡ size w k = (c .before .before .before .before .wide) .ensures .0 ∙ (c .before .before .before .before .before .head-word) .ensures in
-    let d = a .pre .0 .laid .laid in (
-      found-same w k l (a .pre .0) (a .pre .1) (a .pre .2) _ ((c .target-at) .ensures ∙ (c .before .half-of) .ensures) (subst (λ (n : ℕ). AllSame n l) e (sure ((c .before .before .if1) .taken) ((c .before .before .before .all-same) .ensures))),
-      omega (arith, (c .target-at) .ensures ∙ (c .before .half-of) .ensures, first-small w k l (a .pre .0) (a .pre .1) (a .pre .2), d .within, d .most),
-    )
+    let e : (c .before .before .before .before .wide) .result ≡ size w k = (c .before .before .before .before .wide) .ensures .0 ∙ (c .before .before .before .before .before .size-word) .ensures in
+    found-same w k l (a .pre .0) (a .pre .1) (a .pre .2) ((c .target-at) .result) ((c .target-at) .ensures ∙ ap target ((c .before .half-of) .ensures)) (subst (λ (n : ℕ). AllSame n l) e (sure ((c .before .before .if1) .taken) ((c .before .before .before .all-same) .ensures)))
 
 find-record-requires : tie.Need-find-record-requires
 find-record-requires c κs = search needs
@@ -56,21 +51,18 @@ returns-2 c = let a = (c .before .before .before .before .before .before .before
     let w = a .args .t .now in
     let k = a .args .k in
     let l = a .args .t3 in
-    let e : (c .before .before .before .before .before .wide) .result ≡ size w k = (c .before .before .before .before .before .wide) .ensures .0 ∙ (c .before .before .before .before .before .before .head-word) .ensures in
-    let d = a .pre .0 .laid .laid in
+    let e : (c .before .before .before .before .before .wide) .result ≡ size w k = (c .before .before .before .before .before .wide) .ensures .0 ∙ (c .before .before .before .before .before .before .size-word) .ensures in
     let f = (c .before .before .find-record) .ensures in
-    let q : 1 + (c .narrow) .result ≡ 1 + ((c .before .before .find-record) .result - 1) = omega (arith, (c .narrow) .ensures) in (
-      found-node w k l (a .pre .0) (a .pre .1) (a .pre .2) (1 + (c .narrow) .result) ((c .before .before .find-record) .result - 1) (omega arith) (omega (arith, f .within))
-          (λ s. sure-not ((c .before .before .before .if1) .left) ((c .before .before .before .before .all-same) .ensures) (subst (λ (n : ℕ). AllSame n l) (sym e) s)) (f .there (omega arith)),
-      omega (arith, f .within, d .within, d .most),
-    )
+    rw ((c .narrow) .ensures)
+    (found-node w k l (a .pre .0) (a .pre .1) (a .pre .2) ((c .before .before .find-record) .result - 1) (omega (arith, f .within))
+    (λ s. sure-not ((c .before .before .before .if1) .left) ((c .before .before .before .before .all-same) .ensures) (subst (λ (n : ℕ). AllSame n l) (sym e) s)) (f .there (omega arith)))
 
 returns-3 : tie.Need-returns-3
 returns-3 c = let a = (c .before .before .before .before .before .before .before) in
     let w = a .args .t .now in
     let k = a .args .k in
     let l = a .args .t3 in
-    let e : (c .before .before .before .before .wide) .result ≡ size w k = (c .before .before .before .before .wide) .ensures .0 ∙ (c .before .before .before .before .before .head-word) .ensures in
+    let e : (c .before .before .before .before .wide) .result ≡ size w k = (c .before .before .before .before .wide) .ensures .0 ∙ (c .before .before .before .before .before .size-word) .ensures in
     let d = a .pre .0 .laid .laid in
     found-none w k l (a .pre .0) (a .pre .1) (a .pre .2) ((c .before .find-record) .result) (omega arith)
     (λ s. sure-not ((c .before .before .if1) .left) ((c .before .before .before .all-same) .ensures) (subst (λ (n : ℕ). AllSame n l) (sym e) s)) ((c .before .find-record) .ensures)
@@ -79,8 +71,7 @@ pub find-spec : {M : Type 1} → statement M
 find-spec =
     tie.close
     (tie.spec
-    add-head-word
-    head-word-requires
+    size-word-requires
     wide-requires
     all-same-requires
     array-read-half-of

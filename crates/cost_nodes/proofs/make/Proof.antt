@@ -1,26 +1,23 @@
 -- `cost_nodes::make` meets its contract: what was found is there; what is missing becomes the last node with its pair, where there is room. Assumes nothing.
-use mathlib.Core.Path.{_≡_, ap, subst, _∙_}
-use Prim.Native.Nat.{ℕ, _+_}
+use mathlib.Core.Path.{_≡_, subst, _∙_}
+use Prim.Native.Nat.{ℕ}
 use native.Mathlib.Omega.{arith}
 use Rattle.cost_nodes.proofs.Making.{found-at, found-missing, small-target, levelled, bodied, made-new, made-none, made-there}
 use Rattle.cost_nodes.specs.Nodes.{Lowered}
 use borrow.Author.Needs.{needs}
 use Rattle.cost_nodes.proofs.make.Statement.{statement}
 use Rattle.cost_nodes.proofs.make.Tie as tie
-use Rattle.promises.specs.Words.{size, count}
+use Rattle.promises.specs.Words.{size}
 
-add-head-word : tie.Need-add-head-word
-add-head-word c = search needs
-
-head-word-requires : tie.Need-head-word-requires
-head-word-requires c κs = search needs
+size-word-requires : tie.Need-size-word-requires
+size-word-requires c κs = search needs
 
 wide-requires : tie.Need-wide-requires
 wide-requires c κs = search needs
 
 lowered-requires : tie.Need-lowered-requires
 lowered-requires c κs = let a = (c .before .before .before .before) in
-    let e : (c .wide) .result ≡ size (a .args .t .now) (a .args .k) = (c .wide) .ensures .0 ∙ (c .before .head-word) .ensures in
+    let e : (c .wide) .result ≡ size (a .args .t .now) (a .args .k) = (c .wide) .ensures .0 ∙ (c .before .size-word) .ensures in
     (omega (arith, a .pre .0 .laid .laid .large (a .args .k) (a .pre .1)), λ v h. a .pre .2 .near v (omega arith))
 
 pack-requires : tie.Need-pack-requires
@@ -37,7 +34,7 @@ find-requires c κs = let a = (c .before .before .before .before .before .before
     let y = a .args .t4 in
     let r = (c .before .before .lowered) .result in
     let l = (c .before .pack) .result in
-    let em : (c .before .before .before .wide) .result ≡ size w k = (c .before .before .before .wide) .ensures .0 ∙ (c .before .before .before .before .head-word) .ensures in
+    let em : (c .before .before .before .wide) .result ≡ size w k = (c .before .before .before .wide) .ensures .0 ∙ (c .before .before .before .before .size-word) .ensures in
     let lo : Lowered (size w k) y r = subst (λ (n : ℕ). Lowered n y r) em ((c .before .before .lowered) .ensures) in
     (a .pre .0, a .pre .1, levelled w k x y r l (a .pre .0) (a .pre .1) (a .pre .2) lo ((c .before .pack) .ensures))
 
@@ -47,11 +44,11 @@ enum-known-x c = search needs
 enum-told : tie.Need-enum-told
 enum-told c = search needs
 
-head-word-requires-2 : tie.Need-head-word-requires-2
-head-word-requires-2 c κs = search needs
+count-word-requires : tie.Need-count-word-requires
+count-word-requires c κs = search needs
 
-head-word-requires-3 : tie.Need-head-word-requires-3
-head-word-requires-3 c κs = search needs
+capacity-word-requires : tie.Need-capacity-word-requires
+capacity-word-requires c κs = search needs
 
 sides-of-requires : tie.Need-sides-of-requires
 sides-of-requires c κs = let a = (c .before .before .before .before .before .before .before .before .before .before .before .before .before .before .before .before) in
@@ -61,12 +58,12 @@ sides-of-requires c κs = let a = (c .before .before .before .before .before .be
     let y = a .args .t4 in
     let r = (c .before .before .before .before .before .before .before .before .before .before .before .lowered) .result in
     let l = (c .before .before .before .before .before .before .before .before .before .before .pack) .result in
-    let em : (c .before .before .before .before .before .before .before .before .before .before .before .before .wide) .result ≡ size w k = (c .before .before .before .before .before .before .before .before .before .before .before .before .wide) .ensures .0 ∙ (c .before .before .before .before .before .before .before .before .before .before .before .before .before .head-word) .ensures in
+    let em : (c .before .before .before .before .before .before .before .before .before .before .before .before .wide) .result ≡ size w k = (c .before .before .before .before .before .before .before .before .before .before .before .before .wide) .ensures .0 ∙ (c .before .before .before .before .before .before .before .before .before .before .before .before .before .size-word) .ensures in
     let lo : Lowered (size w k) y r = subst (λ (n : ℕ). Lowered n y r) em ((c .before .before .before .before .before .before .before .before .before .before .before .lowered) .ensures) in
     bodied w k x y r l (a .pre .0) (a .pre .1) (a .pre .2) lo ((c .before .before .before .before .before .before .before .before .before .before .pack) .ensures) _ (omega (arith, a .pre .0 .laid .laid .large k (a .pre .1))) (omega (arith, a .pre .0 .laid .laid .large k (a .pre .1)))
 
 push-requires : tie.Need-push-requires
-push-requires c κs = let a = (c .before .before .before .before .before .before .before .before .before .before .before .before .before .before .before .before .before .before) in (a .pre .0 .laid .laid, omega (arith, (c .before .before .before .if1) .taken, (c .before .before .before .before .head-word3) .ensures, (c .before .before .before .before .before .before .head-word2) .ensures), omega (arith, a .pre .1, a .pre .0 .laid .laid .few))
+push-requires c κs = let a = (c .before .before .before .before .before .before .before .before .before .before .before .before .before .before .before .before .before .before) in (a .pre .0 .laid .laid, omega (arith, (c .before .before .before .if1) .taken, (c .before .before .before .before .capacity-word) .ensures, (c .before .before .before .before .before .before .count-word) .ensures), omega (arith, a .pre .1, a .pre .0 .laid .laid .few))
 
 narrow-requires : tie.Need-narrow-requires
 narrow-requires c κs = let a = (c .before .before .before .before .before .before .before .before .before .before .before .before .before .before .before .before .before .before .before .before .before) in omega (arith, (c .before .before .push) .ensures .0, a .pre .0 .laid .laid .within, a .pre .0 .laid .laid .most)
@@ -85,11 +82,10 @@ returns c = let a = (c .before .before .before .before .before .before .before .
     let y = a .args .t4 in
     let r = (c .before .before .before .before .before .before .before .before .before .before .before .before .before .before .before .before .before .before .lowered) .result in
     let l = (c .before .before .before .before .before .before .before .before .before .before .before .before .before .before .before .before .before .pack) .result in
-    let em : (c .before .before .before .before .before .before .before .before .before .before .before .before .before .before .before .before .before .before .before .wide) .result ≡ size w k = (c .before .before .before .before .before .before .before .before .before .before .before .before .before .before .before .before .before .before .before .wide) .ensures .0 ∙ (c .before .before .before .before .before .before .before .before .before .before .before .before .before .before .before .before .before .before .before .before .head-word) .ensures in
+    let em : (c .before .before .before .before .before .before .before .before .before .before .before .before .before .before .before .before .before .before .before .wide) .result ≡ size w k = (c .before .before .before .before .before .before .before .before .before .before .before .before .before .before .before .before .before .before .before .wide) .ensures .0 ∙ (c .before .before .before .before .before .before .before .before .before .before .before .before .before .before .before .before .before .before .before .before .size-word) .ensures in
     let lo : Lowered (size w k) y r = subst (λ (n : ℕ). Lowered n y r) em ((c .before .before .before .before .before .before .before .before .before .before .before .before .before .before .before .before .before .before .lowered) .ensures) in
     let ab = found-missing w k l _ ((c .before .before .before .before .before .before .before .before .before .before .before .before .before .enum-told) .given .1) ((c .before .before .before .before .before .before .before .before .before .before .before .before .before .before .before .find) .ensures) in
-    let e : (c .target-word) .result ≡ 1 + count w = (c .target-word) .ensures ∙ ap (λ (i : ℕ). 1 + i) ((c .before .narrow) .ensures ∙ (c .before .before .before .before .push) .ensures .0) in
-    made-new w k x y r l (a .pre .0) (a .pre .1) (a .pre .2) lo ((c .before .before .before .before .before .before .before .before .before .before .before .before .before .before .before .before .before .pack) .ensures) _ _ _ _ _ ab (omega (arith, (c .before .before .before .before .before .before .before .before .if1) .taken, (c .before .before .before .before .before .before .before .before .before .head-word3) .ensures, (c .before .before .before .before .before .before .before .before .before .before .before .head-word2) .ensures)) (omega arith) (omega arith) ((c .before .before .before .before .before .before .sides-of) .ensures) ((c .before .before .before .before .push) .ensures .1)
+    made-new w k x y r l (a .pre .0) (a .pre .1) (a .pre .2) lo ((c .before .before .before .before .before .before .before .before .before .before .before .before .before .before .before .before .before .pack) .ensures) _ _ ((c .before .narrow) .result) _ _ _ ab (omega (arith, (c .before .before .before .before .before .before .before .before .if1) .taken, (c .before .before .before .before .before .before .before .before .before .capacity-word) .ensures, (c .before .before .before .before .before .before .before .before .before .before .before .count-word) .ensures)) ((c .target-word) .ensures) ((c .before .narrow) .ensures ∙ (c .before .before .before .before .push) .ensures .0) (omega arith) ((c .before .before .before .before .before .before .sides-of) .ensures) ((c .before .before .before .before .push) .ensures .1)
 
 same-length-2 : tie.Need-same-length-2
 same-length-2 c = search needs
@@ -102,7 +98,7 @@ returns-2 c = let a = (c .before .before .before .before .before .before .before
     let y = a .args .t4 in
     let r = (c .before .before .before .before .before .before .before .before .before .before .lowered) .result in
     let l = (c .before .before .before .before .before .before .before .before .before .pack) .result in
-    let em : (c .before .before .before .before .before .before .before .before .before .before .before .wide) .result ≡ size w k = (c .before .before .before .before .before .before .before .before .before .before .before .wide) .ensures .0 ∙ (c .before .before .before .before .before .before .before .before .before .before .before .before .head-word) .ensures in
+    let em : (c .before .before .before .before .before .before .before .before .before .before .before .wide) .result ≡ size w k = (c .before .before .before .before .before .before .before .before .before .before .before .wide) .ensures .0 ∙ (c .before .before .before .before .before .before .before .before .before .before .before .before .size-word) .ensures in
     let lo : Lowered (size w k) y r = subst (λ (n : ℕ). Lowered n y r) em ((c .before .before .before .before .before .before .before .before .before .before .lowered) .ensures) in
     let ab = found-missing w k l _ ((c .before .before .before .before .before .enum-told) .given .1) ((c .before .before .before .before .before .before .before .find) .ensures) in
     made-none w k x y r l (a .pre .0) (a .pre .1) (a .pre .2) lo ((c .before .before .before .before .before .before .before .before .before .pack) .ensures) ab (omega arith)
@@ -121,17 +117,15 @@ returns-3 c = let a = (c .before .before .before .before .before .before .before
     let y = a .args .t4 in
     let r = (c .before .before .before .before .before .before .before .lowered) .result in
     let l = (c .before .before .before .before .before .before .pack) .result in
-    let em : (c .before .before .before .before .before .before .before .before .wide) .result ≡ size w k = (c .before .before .before .before .before .before .before .before .wide) .ensures .0 ∙ (c .before .before .before .before .before .before .before .before .before .head-word) .ensures in
+    let em : (c .before .before .before .before .before .before .before .before .wide) .result ≡ size w k = (c .before .before .before .before .before .before .before .before .wide) .ensures .0 ∙ (c .before .before .before .before .before .before .before .before .before .size-word) .ensures in
     let lo : Lowered (size w k) y r = subst (λ (n : ℕ). Lowered n y r) em ((c .before .before .before .before .before .before .before .lowered) .ensures) in
-    rw ((c .target-word2) .ensures)
-    (made-there w k x y r l (a .pre .0) (a .pre .1) (a .pre .2) lo ((c .before .before .before .before .before .before .pack) .ensures) _ (found-at w k l _ ((c .before .before .x) .given .0 .0) ((c .before .before .x) .given .1) ((c .before .before .before .before .find) .ensures) .0))
+    made-there w k x y r l (a .pre .0) (a .pre .1) (a .pre .2) lo ((c .before .before .before .before .before .before .pack) .ensures) _ ((c .before .before .x) .given .0 .0) ((c .target-word2) .ensures) (found-at w k l _ ((c .before .before .x) .given .0 .0) ((c .before .before .x) .given .1) ((c .before .before .before .before .find) .ensures) .0)
 
 pub make-spec : {M : Type 1} → statement M
 make-spec =
     tie.close
     (tie.spec
-    add-head-word
-    head-word-requires
+    size-word-requires
     wide-requires
     lowered-requires
     pack-requires
@@ -139,8 +133,8 @@ make-spec =
     find-requires
     enum-known-x
     enum-told
-    head-word-requires-2
-    head-word-requires-3
+    count-word-requires
+    capacity-word-requires
     sides-of-requires
     push-requires
     narrow-requires

@@ -7,8 +7,8 @@ use borrow.Author.Needs.{needs}
 use Rattle.cost_nodes.proofs.top_of.Statement.{statement}
 use Rattle.cost_nodes.proofs.top_of.Tie as tie
 
-head-word-requires : tie.Need-head-word-requires
-head-word-requires c κs = search needs
+features-word-requires : tie.Need-features-word-requires
+features-word-requires c κs = search needs
 
 wide-requires : tie.Need-wide-requires
 wide-requires c κs = search needs
@@ -26,7 +26,7 @@ wide-requires-3 : tie.Need-wide-requires-3
 wide-requires-3 c κs = search needs
 
 returns : tie.Need-returns
-returns c = (c .wide) .ensures .0 ∙ (c .before .head-word) .ensures ∙ sym (top-end ((c .before .before .before .before) .args .t .now) ((c .before .before .before .before) .args .x) (omega arith))
+returns c = (c .wide) .ensures .0 ∙ (c .before .features-word) .ensures ∙ sym (top-end ((c .before .before .before .before) .args .t .now) ((c .before .before .before .before) .args .x) (omega arith))
 
 returns-2 : tie.Need-returns-2
 returns-2 c = let a = (c .before .before .before .before .before) in
@@ -37,7 +37,7 @@ pub top-of-spec : {M : Type 1} → statement M
 top-of-spec =
     tie.close
     (tie.spec
-    head-word-requires
+    features-word-requires
     wide-requires
     sub-wide
     wide-requires-2

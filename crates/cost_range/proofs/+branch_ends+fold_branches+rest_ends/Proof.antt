@@ -36,7 +36,7 @@ use Rattle.cost_range.proofs.furthest.Reads as furthest-reads
 use Rattle.cost_range.proofs.met_ends.Reads as met-ends-reads
 use Rattle.cost_range.proofs.tied_word.Reads as tied-word-reads
 use Rattle.cost_words.proofs.sum_or_lost.Reads as sum-or-lost-reads
-use Rattle.words.proofs.head_word.Reads as head-word-reads
+use Rattle.words.proofs.size_word.Reads as size-word-reads
 use Rattle.cost_range.proofs.number_of.Reads as number-of-reads
 use Rattle.words.proofs.narrow.Reads as narrow-reads
 use Rattle.words.proofs.wide.Reads as wide-reads
@@ -84,7 +84,7 @@ abbrev branch-ends-claims : ℕ → branch-ends-lts.Claims
 branch-ends-claims t = (tied-word-reads.Asked, tied-word-reads.Learnt, rest-ends-below t, rest-ends.Post, sum-or-lost-reads.Asked, sum-or-lost-reads.Learnt)
 
 abbrev fold-branches-claims : ℕ → fold-branches-lts.Claims
-fold-branches-claims t = (head-word-reads.Asked, head-word-reads.Learnt, wide-reads.Asked, wide-reads.Learnt, arm-in-reads.Asked, arm-in-reads.Learnt, branch-ends-below t, branch-ends.Post, furthest-reads.Asked, furthest-reads.Learnt)
+fold-branches-claims t = (size-word-reads.Asked, size-word-reads.Learnt, wide-reads.Asked, wide-reads.Learnt, arm-in-reads.Asked, arm-in-reads.Learnt, branch-ends-below t, branch-ends.Post, furthest-reads.Asked, furthest-reads.Learnt)
 
 abbrev rest-ends-claims : ℕ → rest-ends-lts.Claims
 rest-ends-claims t = (kept-in-reads.Asked, kept-in-reads.Learnt, met-ends-reads.Asked, met-ends-reads.Learnt, lowest-reads.Asked, lowest-reads.Learnt, number-of-reads.Asked, number-of-reads.Learnt, narrow-reads.Asked, narrow-reads.Learnt, recall-in-reads.Asked, recall-in-reads.Learnt, fold-branches-below t, fold-branches.Post, remember-in-reads.Asked, remember-in-reads.Learnt)
@@ -164,18 +164,15 @@ fold-branches-Inv-loop t₀ s₀ minus k x y m low₀ high₀ v₀ t s low high 
 abbrev fold-branches-μ-loop : fold-branches-lts.MeasureT-loop
 fold-branches-μ-loop t₀ s₀ minus k x y m low₀ high₀ v₀ t s low high v = m - v
 
-fold-branches-add-head-word : (t : ℕ) → fold-branches-lts.Need-add-head-word (fold-branches-claims t) (fold-branches-at t) fold-branches.Post fold-branches-Inv-loop fold-branches-μ-loop
-fold-branches-add-head-word t c = search needs
-
-fold-branches-head-word-requires : (t : ℕ) → fold-branches-lts.Need-head-word-requires (fold-branches-claims t) (fold-branches-at t) fold-branches.Post fold-branches-Inv-loop fold-branches-μ-loop
-fold-branches-head-word-requires t c κs = let a = (c .before .before .before) in omega (arith, a .pre .1 .1 .room .room, a .pre .1 .2, a .pre .1 .0 .holds .laid .laid .few)
+fold-branches-size-word-requires : (t : ℕ) → fold-branches-lts.Need-size-word-requires (fold-branches-claims t) (fold-branches-at t) fold-branches.Post fold-branches-Inv-loop fold-branches-μ-loop
+fold-branches-size-word-requires t c κs = let a = (c .before .before .before) in omega (arith, a .pre .1 .1 .room .room, a .pre .1 .2, a .pre .1 .0 .holds .laid .laid .few)
 
 fold-branches-wide-requires : (t : ℕ) → fold-branches-lts.Need-wide-requires (fold-branches-claims t) (fold-branches-at t) fold-branches.Post fold-branches-Inv-loop fold-branches-μ-loop
 fold-branches-wide-requires t c κs = search needs
 
 fold-branches-loop-holds : (t : ℕ) → fold-branches-lts.Need-loop-holds (fold-branches-claims t) (fold-branches-at t) fold-branches.Post fold-branches-Inv-loop fold-branches-μ-loop
 fold-branches-loop-holds t c = let a = (c .before .before .before .before .before) in
-    ((c .wide) .ensures .0 ∙ (c .before .head-word) .ensures ∙ sym (plain-head _ _ (omega (arith, a .pre .1 .2, a .pre .1 .0 .holds .laid .laid .few))), omega arith, folded-none _ _ _ _, folded-none _ _ _ _, refl, a .pre .1 .1, refl, refl)
+    ((c .wide) .ensures .0 ∙ (c .before .size-word) .ensures ∙ sym (plain-head _ _ (omega (arith, a .pre .1 .2, a .pre .1 .0 .holds .laid .laid .few))), omega arith, folded-none _ _ _ _, folded-none _ _ _ _, refl, a .pre .1 .1, refl, refl)
 
 fold-branches-arm-in-requires : (t : ℕ) → fold-branches-lts.Need-arm-in-requires (fold-branches-claims t) (fold-branches-at t) fold-branches.Post fold-branches-Inv-loop fold-branches-μ-loop
 fold-branches-arm-in-requires t c κs = let a = (c .before .before .before .before .before .before .before .before) in let l = (c .before .before .loop) in first-over (l .inv .4) _ _ _ (a .pre .1 .0) (a .pre .1 .2) (l .v) (omega (arith, l .inv .0, (c .before .loop-test)))
@@ -393,8 +390,7 @@ pub +branch-ends+fold-branches+rest-ends-spec : {M : Type 1} → statement M
     fold-branches.Post
     fold-branches-Inv-loop
     fold-branches-μ-loop
-    (fold-branches-add-head-word t)
-    (fold-branches-head-word-requires t)
+    (fold-branches-size-word-requires t)
     (fold-branches-wide-requires t)
     (fold-branches-loop-holds t)
     (fold-branches-arm-in-requires t)

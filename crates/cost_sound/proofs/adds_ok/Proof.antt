@@ -30,17 +30,14 @@ record-word-requires c κs = let p = (c .before .before .before) .pre in (omega 
 wide-requires : tie.Need-wide-requires Inv-loop μ-loop
 wide-requires c κs = search needs
 
-add-head-word : tie.Need-add-head-word Inv-loop μ-loop
-add-head-word c = search needs
-
-head-word-requires : tie.Need-head-word-requires Inv-loop μ-loop
-head-word-requires c κs = let p = (c .before .before .before .before .before) .pre in omega (arith, p .0 .room, p .0 .few)
+size-word-requires : tie.Need-size-word-requires Inv-loop μ-loop
+size-word-requires c κs = let p = (c .before .before .before .before .before) .pre in omega (arith, p .0 .room, p .0 .few)
 
 wide-requires-2 : tie.Need-wide-requires-2 Inv-loop μ-loop
 wide-requires-2 c κs = search needs
 
 loop-holds : tie.Need-loop-holds Inv-loop μ-loop
-loop-holds c = (sym ((c .before .before .before .before .before .adds-at) .ensures) ∙ (c .before .before .before .before .if1) .left, (c .wide2) .ensures .0 ∙ (c .before .head-word) .ensures ∙ ap (size ((c .before .before .before .before .before .before .before) .args .t .now)) ((c .before .before .wide) .ensures .0 ∙ (c .before .before .before .record-word) .ensures), omega arith, λ x h. absurd (omega arith))
+loop-holds c = (sym ((c .before .before .before .before .before .adds-at) .ensures) ∙ (c .before .before .before .before .if1) .left, (c .wide2) .ensures .0 ∙ (c .before .size-word) .ensures ∙ ap (size ((c .before .before .before .before .before .before .before) .args .t .now)) ((c .before .before .wide) .ensures .0 ∙ (c .before .before .before .record-word) .ensures), omega arith, λ x h. absurd (omega arith))
 
 adds-at-requires-2 : tie.Need-adds-at-requires-2 Inv-loop μ-loop
 adds-at-requires-2 c κs = let p = (c .before .before .before .before .before .before .before .before .before) .pre in let f = p .0 .fit .large _ (p .2) .1 in let l = (c .before .loop) .inv in (omega (arith, p .0 .room, p .0 .within), omega (arith, p .0 .most, p .0 .within), omega arith)
@@ -79,8 +76,7 @@ adds-ok-spec =
     returns
     record-word-requires
     wide-requires
-    add-head-word
-    head-word-requires
+    size-word-requires
     wide-requires-2
     loop-holds
     adds-at-requires-2

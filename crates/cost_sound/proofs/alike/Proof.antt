@@ -22,11 +22,8 @@ record-word-requires c κs = let p = (c .before) .pre in (omega (arith, p .0 .ro
 wide-requires : tie.Need-wide-requires Inv-loop μ-loop
 wide-requires c κs = search needs
 
-add-head-word : tie.Need-add-head-word Inv-loop μ-loop
-add-head-word c = search needs
-
-head-word-requires : tie.Need-head-word-requires Inv-loop μ-loop
-head-word-requires c κs = let p = (c .before .before .before) .pre in omega (arith, p .0 .room, p .0 .few)
+size-word-requires : tie.Need-size-word-requires Inv-loop μ-loop
+size-word-requires c κs = let p = (c .before .before .before) .pre in omega (arith, p .0 .room, p .0 .few)
 
 wide-requires-2 : tie.Need-wide-requires-2 Inv-loop μ-loop
 wide-requires-2 c κs = search needs
@@ -35,7 +32,7 @@ goes-to-requires : tie.Need-goes-to-requires Inv-loop μ-loop
 goes-to-requires c κs = let p = (c .before .before .before .before .before) .pre in (omega (arith, p .0 .room, p .0 .within), omega (arith, p .0 .most, p .0 .within), omega arith)
 
 loop-holds : tie.Need-loop-holds Inv-loop μ-loop
-loop-holds c = ((c .before .wide2) .ensures .0 ∙ (c .before .before .head-word) .ensures ∙ ap (size ((c .before .before .before .before .before .before) .args .t .now)) ((c .before .before .before .wide) .ensures .0 ∙ (c .before .before .before .before .record-word) .ensures), omega arith, (c .goes-to) .ensures, (λ x h. absurd (omega arith)), λ x h. absurd (omega arith))
+loop-holds c = ((c .before .wide2) .ensures .0 ∙ (c .before .before .size-word) .ensures ∙ ap (size ((c .before .before .before .before .before .before) .args .t .now)) ((c .before .before .before .wide) .ensures .0 ∙ (c .before .before .before .before .record-word) .ensures), omega arith, (c .goes-to) .ensures, (λ x h. absurd (omega arith)), λ x h. absurd (omega arith))
 
 goes-to-requires-2 : tie.Need-goes-to-requires-2 Inv-loop μ-loop
 goes-to-requires-2 c κs = let p = (c .before .before .before .before .before .before .before .before) .pre in let f = p .0 .fit .large _ (p .2) .1 in let l = (c .before .loop) .inv in (omega (arith, p .0 .room, p .0 .within), omega (arith, p .0 .most, p .0 .within), omega arith)
@@ -75,8 +72,7 @@ alike-spec =
     μ-loop
     record-word-requires
     wide-requires
-    add-head-word
-    head-word-requires
+    size-word-requires
     wide-requires-2
     goes-to-requires
     loop-holds

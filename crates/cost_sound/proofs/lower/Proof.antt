@@ -23,17 +23,14 @@ record-word-requires c κs = let p = (c .before) .pre in (omega (arith, p .0 .ro
 wide-requires : tie.Need-wide-requires Inv-loop μ-loop
 wide-requires c κs = search needs
 
-add-head-word : tie.Need-add-head-word Inv-loop μ-loop
-add-head-word c = search needs
-
-head-word-requires : tie.Need-head-word-requires Inv-loop μ-loop
-head-word-requires c κs = let p = (c .before .before .before) .pre in omega (arith, p .0 .room, p .0 .few)
+size-word-requires : tie.Need-size-word-requires Inv-loop μ-loop
+size-word-requires c κs = let p = (c .before .before .before) .pre in omega (arith, p .0 .room, p .0 .few)
 
 wide-requires-2 : tie.Need-wide-requires-2 Inv-loop μ-loop
 wide-requires-2 c κs = search needs
 
 loop-holds : tie.Need-loop-holds Inv-loop μ-loop
-loop-holds c = let e = (c .before .before .wide) .ensures .0 ∙ (c .before .before .before .record-word) .ensures in (e, (c .wide2) .ensures .0 ∙ (c .before .head-word) .ensures ∙ ap (size ((c .before .before .before .before .before) .args .t .now)) e, omega arith, λ x h. absurd (omega arith))
+loop-holds c = let e = (c .before .before .wide) .ensures .0 ∙ (c .before .before .before .record-word) .ensures in (e, (c .wide2) .ensures .0 ∙ (c .before .size-word) .ensures ∙ ap (size ((c .before .before .before .before .before) .args .t .now)) e, omega arith, λ x h. absurd (omega arith))
 
 add-sits : tie.Need-add-sits Inv-loop μ-loop
 add-sits c = search needs
@@ -73,8 +70,7 @@ lower-spec =
     μ-loop
     record-word-requires
     wide-requires
-    add-head-word
-    head-word-requires
+    size-word-requires
     wide-requires-2
     loop-holds
     add-sits

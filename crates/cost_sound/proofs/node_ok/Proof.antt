@@ -15,8 +15,8 @@ record-word-requires c κs = search needs
 wide-requires : tie.Need-wide-requires
 wide-requires c κs = search needs
 
-head-word-requires : tie.Need-head-word-requires
-head-word-requires c κs = search needs
+features-word-requires : tie.Need-features-word-requires
+features-word-requires c κs = search needs
 
 wide-requires-2 : tie.Need-wide-requires-2
 wide-requires-2 c κs = search needs
@@ -42,11 +42,8 @@ alike-requires c κs = let p = (c .before .before .before .before .before .befor
 returns-4 : tie.Need-returns-4
 returns-4 c = λ z. z .differ (sure ((c .if4) .taken) ((c .before .alike) .ensures))
 
-add-head-word : tie.Need-add-head-word
-add-head-word c = search needs
-
-head-word-requires-2 : tie.Need-head-word-requires-2
-head-word-requires-2 c κs = search needs
+size-word-requires : tie.Need-size-word-requires
+size-word-requires c κs = search needs
 
 wide-requires-3 : tie.Need-wide-requires-3
 wide-requires-3 c κs = search needs
@@ -56,11 +53,11 @@ padded-ok-requires c κs = let p = (c .before .before .before .before .before .b
 
 returns-5 : tie.Need-returns-5
 returns-5 c = let a = (c .before .before .before .before .before .before .before .before .before .before .before .before .before .before .before) .args in
-    let e : (c .before .wide3) .result ≡ size (a .t .now) (feature (a .t .now) (a .i)) = (c .before .wide3) .ensures .0 ∙ (c .before .before .head-word2) .ensures ∙ ap (size (a .t .now)) ((c .before .before .before .before .before .before .before .before .before .before .before .before .wide) .ensures .0 ∙ (c .before .before .before .before .before .before .before .before .before .before .before .before .before .record-word) .ensures) in
+    let e : (c .before .wide3) .result ≡ size (a .t .now) (feature (a .t .now) (a .i)) = (c .before .wide3) .ensures .0 ∙ (c .before .before .size-word) .ensures ∙ ap (size (a .t .now)) ((c .before .before .before .before .before .before .before .before .before .before .before .before .wide) .ensures .0 ∙ (c .before .before .before .before .before .before .before .before .before .before .before .before .before .record-word) .ensures) in
     retell ((c .padded-ok) .result)
     (λ q.
     record {
-      known = omega (arith, (c .before .before .before .before .before .before .before .before .before .if1), (c .before .before .before .before .before .before .before .before .before .before .before .before .wide) .ensures, (c .before .before .before .before .before .before .before .before .before .before .before .before .before .record-word) .ensures, (c .before .before .before .before .before .before .before .before .before .before .wide2) .ensures, (c .before .before .before .before .before .before .before .before .before .before .before .head-word) .ensures);
+      known = omega (arith, (c .before .before .before .before .before .before .before .before .before .if1), (c .before .before .before .before .before .before .before .before .before .before .before .before .wide) .ensures, (c .before .before .before .before .before .before .before .before .before .before .before .before .before .record-word) .ensures, (c .before .before .before .before .before .before .before .before .before .before .wide2) .ensures, (c .before .before .before .before .before .before .before .before .before .before .before .features-word) .ensures);
       lower = granted ((c .before .before .before .before .before .before .before .before .lower) .result) ((c .before .before .before .before .before .before .before .if2) .left) ((c .before .before .before .before .before .before .before .before .lower) .ensures);
       adds = granted ((c .before .before .before .before .before .before .adds-ok) .result) ((c .before .before .before .before .before .if3) .left) ((c .before .before .before .before .before .before .adds-ok) .ensures);
       differ = sure-not ((c .before .before .before .if4) .left) ((c .before .before .before .before .alike) .ensures);
@@ -75,7 +72,7 @@ node-ok-spec =
     (tie.spec
     record-word-requires
     wide-requires
-    head-word-requires
+    features-word-requires
     wide-requires-2
     returns
     lower-requires
@@ -84,8 +81,7 @@ node-ok-spec =
     returns-3
     alike-requires
     returns-4
-    add-head-word
-    head-word-requires-2
+    size-word-requires
     wide-requires-3
     padded-ok-requires
     returns-5)

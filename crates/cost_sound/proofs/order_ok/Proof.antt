@@ -40,14 +40,14 @@ loop-again : tie.Need-loop-again Inv-loop μ-loop
 loop-again c = let q = (c .before .before .before .before .before .before) .pre in let l = (c .before .before .before .before .loop) in
     (omega arith, walk-more ((c .before .visit) .result) (l .inv .1) (says-root (q .1) (l .p) (omega arith) ((c .before .before .root-word) .ensures) ((c .before .visit) .ensures)) (omega (arith, q .0 .header .within, q .0 .header .most)) (omega arith))
 
-head-word-requires : tie.Need-head-word-requires Inv-loop μ-loop
-head-word-requires c κs = omega (arith, (c .before .before .before) .pre .0 .header .room)
+count-word-requires : tie.Need-count-word-requires Inv-loop μ-loop
+count-word-requires c κs = omega (arith, (c .before .before .before) .pre .0 .header .room)
 
 wide-requires : tie.Need-wide-requires Inv-loop μ-loop
 wide-requires c κs = search needs
 
 returns-2 : tie.Need-returns-2 Inv-loop μ-loop
-returns-2 c = let l = (c .before .before .before .loop) in order-tells _ _ 16 _ _ (l .d) ((c .wide) .result) (l .p) (roots-are _) (omega arith) (l .inv .1) ((c .wide) .ensures .0 ∙ (c .before .head-word) .ensures)
+returns-2 c = let l = (c .before .before .before .loop) in order-tells _ _ 16 _ _ (l .d) ((c .wide) .result) (l .p) (roots-are _) (omega arith) (l .inv .1) ((c .wide) .ensures .0 ∙ (c .before .count-word) .ensures)
 
 pub order-ok-spec : {M : Type 1} → statement M
 order-ok-spec =
@@ -62,6 +62,6 @@ order-ok-spec =
     add-p
     loop-less
     loop-again
-    head-word-requires
+    count-word-requires
     wide-requires
     returns-2)

@@ -34,7 +34,8 @@ use Rattle.engine.proofs.operands.operands_at.Reads as operands-at-read
 use Rattle.rule_operators.proofs.combine.Reads as combine-reads
 use Rattle.engine.proofs.shortcuts.shortcut.Reads as shortcut-reads
 use Rattle.rule_notes.proofs.make_in.Reads as make-in-reads
-use Rattle.words.proofs.head_word.Reads as head-word-reads
+use Rattle.words.proofs.features_word.Reads as features-word-reads
+use Rattle.words.proofs.size_word.Reads as size-word-reads
 use Rattle.words.proofs.wide.Reads as wide-reads
 use Rattle.engine.proofs.+fill_branches+rest_result.{statement}
 use Rattle.engine.proofs.+fill_branches+rest_result.Tie.{close}
@@ -73,23 +74,20 @@ abbrev fill-branches-μ-loop : fill-branches-lts.MeasureT-loop
 fill-branches-μ-loop t₀ s₀ o f n k ops m list₀ v₀ t s list v = m - v
 
 abbrev fill-branches-claims : ℕ → fill-branches-lts.Claims
-fill-branches-claims t = (head-word-reads.Asked, head-word-reads.Learnt, wide-reads.Asked, wide-reads.Learnt, operands-at-reads.Asked, operands-at-reads.Learnt, rest-result-below t, rest-result.Post)
+fill-branches-claims t = (size-word-reads.Asked, size-word-reads.Learnt, wide-reads.Asked, wide-reads.Learnt, operands-at-reads.Asked, operands-at-reads.Learnt, rest-result-below t, rest-result.Post)
 
 abbrev rest-result-claims : ℕ → rest-result-lts.Claims
-rest-result-claims t = (shortcut-reads.Asked, shortcut-reads.Learnt, combine-reads.Asked, combine-reads.Learnt, lowest-reads.Asked, lowest-reads.Learnt, head-word-reads.Asked, head-word-reads.Learnt, wide-reads.Asked, wide-reads.Learnt, rest-result-below t, rest-result.Post, operands-at-reads.Asked, operands-at-reads.Learnt, recall-in-reads.Asked, recall-in-reads.Learnt, fill-branches-below t, fill-branches.Post, make-in-reads.Asked, make-in-reads.Learnt, remember-in-reads.Asked, remember-in-reads.Learnt)
+rest-result-claims t = (shortcut-reads.Asked, shortcut-reads.Learnt, combine-reads.Asked, combine-reads.Learnt, lowest-reads.Asked, lowest-reads.Learnt, features-word-reads.Asked, features-word-reads.Learnt, wide-reads.Asked, wide-reads.Learnt, rest-result-below t, rest-result.Post, operands-at-reads.Asked, operands-at-reads.Learnt, recall-in-reads.Asked, recall-in-reads.Learnt, fill-branches-below t, fill-branches.Post, make-in-reads.Asked, make-in-reads.Learnt, remember-in-reads.Asked, remember-in-reads.Learnt)
 
-fill-branches-add-head-word : (t : ℕ) → fill-branches-lts.Need-add-head-word (fill-branches-claims t) (fill-branches-at t) fill-branches.Post fill-branches-Inv-loop fill-branches-μ-loop
-fill-branches-add-head-word t c = let a = (c .before .before .before) in omega (arith, a .pre .1 .0 .holds .laid .laid .few, a .pre .1 .2)
-
-fill-branches-head-word-requires : (t : ℕ) → fill-branches-lts.Need-head-word-requires (fill-branches-claims t) (fill-branches-at t) fill-branches.Post fill-branches-Inv-loop fill-branches-μ-loop
-fill-branches-head-word-requires t c κs = let a = (c .before .before .before) in omega (arith, a .pre .1 .0 .holds .laid .laid .few, a .pre .1 .2, a .pre .1 .0 .holds .laid .laid .room, length-plain (a .args .t .now))
+fill-branches-size-word-requires : (t : ℕ) → fill-branches-lts.Need-size-word-requires (fill-branches-claims t) (fill-branches-at t) fill-branches.Post fill-branches-Inv-loop fill-branches-μ-loop
+fill-branches-size-word-requires t c κs = let a = (c .before .before .before) in omega (arith, a .pre .1 .0 .holds .laid .laid .few, a .pre .1 .2, a .pre .1 .0 .holds .laid .laid .room, length-plain (a .args .t .now))
 
 fill-branches-wide-requires : (t : ℕ) → fill-branches-lts.Need-wide-requires (fill-branches-claims t) (fill-branches-at t) fill-branches.Post fill-branches-Inv-loop fill-branches-μ-loop
 fill-branches-wide-requires t c κs = search needs
 
 fill-branches-loop-holds : (t : ℕ) → fill-branches-lts.Need-loop-holds (fill-branches-claims t) (fill-branches-at t) fill-branches.Post fill-branches-Inv-loop fill-branches-μ-loop
 fill-branches-loop-holds t c = let a = (c .before .before .before .before .before) in
-    let e : (c .wide) .result ≡ size (plain (a .args .t .now)) (a .args .k) = (c .wide) .ensures .0 ∙ (c .before .head-word) .ensures ∙ sym (plain-head (a .args .t .now) (3 + a .args .k) (omega (arith, a .pre .1 .0 .holds .laid .laid .few, a .pre .1 .2))) in
+    let e : (c .wide) .result ≡ size (plain (a .args .t .now)) (a .args .k) = (c .wide) .ensures .0 ∙ (c .before .size-word) .ensures ∙ sym (plain-head (a .args .t .now) (3 + a .args .k) (omega (arith, a .pre .1 .0 .holds .laid .laid .few, a .pre .1 .2))) in
     (e, omega arith, fill-start _ (a .args .k) _ (a .pre .1 .0 .holds) (a .pre .1 .2) _ refl (λ u h. getD-replicate 12 u 0 0 h), a .pre .1 .1, refl, refl)
 
 fill-branches-operands-at-requires : (t : ℕ) → fill-branches-lts.Need-operands-at-requires (fill-branches-claims t) (fill-branches-at t) fill-branches.Post fill-branches-Inv-loop fill-branches-μ-loop
@@ -193,8 +191,8 @@ rest-result-returns t c = let a = (c .before .before .before .before .before) in
 rest-result-lowest-requires : (t : ℕ) → rest-result-lts.Need-lowest-requires (rest-result-claims t) (rest-result-at t) rest-result.Post
 rest-result-lowest-requires t c κs = let a = (c .before .before .before .before .before) in (a .pre .1 .0 .holds .laid .laid, a .pre .1 .0 .nine, λ j h. good-small _ _ _ (a .pre .1 .0 .each j h))
 
-rest-result-head-word-requires : (t : ℕ) → rest-result-lts.Need-head-word-requires (rest-result-claims t) (rest-result-at t) rest-result.Post
-rest-result-head-word-requires t c κs = let a = (c .before .before .before .before .before .before .before) in omega (arith, a .pre .1 .0 .holds .laid .laid .room, length-plain (a .args .t .now))
+rest-result-features-word-requires : (t : ℕ) → rest-result-lts.Need-features-word-requires (rest-result-claims t) (rest-result-at t) rest-result.Post
+rest-result-features-word-requires t c κs = let a = (c .before .before .before .before .before .before .before) in omega (arith, a .pre .1 .0 .holds .laid .laid .room, length-plain (a .args .t .now))
 
 rest-result-wide-requires : (t : ℕ) → rest-result-lts.Need-wide-requires (rest-result-claims t) (rest-result-at t) rest-result.Post
 rest-result-wide-requires t c κs = search needs
@@ -208,7 +206,7 @@ rest-result-same-length t c = search needs
 
 rest-result-returns-2 : (t : ℕ) → rest-result-lts.Need-returns-2 (rest-result-claims t) (rest-result-at t) rest-result.Post
 rest-result-returns-2 t c = let a = (c .before .before .before .before .before .before .before .before .before .before .before) in
-    let e : (c .before .before .wide) .result ≡ features (plain (a .args .t .now)) = (c .before .before .wide) .ensures .0 ∙ (c .before .before .before .head-word) .ensures ∙ plain-features (a .args .t .now) in
+    let e : (c .before .before .wide) .result ≡ features (plain (a .args .t .now)) = (c .before .before .wide) .ensures .0 ∙ (c .before .before .before .features-word) .ensures ∙ plain-features (a .args .t .now) in
     (joint-phrases _ _ _ _ (a .args .k) ((c .before .before .before .before .before .lowest) .result) _ (a .args .t7) (a .pre .1 .0) ((c .before .before .before .before .before .lowest) .ensures) (omega arith) ((c .combine2) .ensures), a .pre .1 .1)
 
 rest-result-add-rest-result : (t : ℕ) → rest-result-lts.Need-add-rest-result (rest-result-claims t) (rest-result-at t) rest-result.Post
@@ -231,7 +229,7 @@ rest-result-returns-3 t c = let a = (c .before .before .before .before .before .
 
 rest-result-operands-at-requires : (t : ℕ) → rest-result-lts.Need-operands-at-requires (rest-result-claims t) (rest-result-at t) rest-result.Post
 rest-result-operands-at-requires t c κs = let a = (c .before .before .before .before .before .before .before .before .before .before .before .before .before) in
-    let hk = still-left (plain (a .args .t .now)) (a .args .f) (a .args .n) (a .args .k) ((c .before .before .before .before .before .before .before .lowest) .result) _ (a .args .t7) (a .pre .1 .0) ((c .before .before .before .before .before .before .before .lowest) .ensures) ((c .before .before .before .before .wide) .ensures .0 ∙ (c .before .before .before .before .before .head-word) .ensures ∙ plain-features (a .args .t .now)) ((c .before .before .before .if2) .left) in
+    let hk = still-left (plain (a .args .t .now)) (a .args .f) (a .args .n) (a .args .k) ((c .before .before .before .before .before .before .before .lowest) .result) _ (a .args .t7) (a .pre .1 .0) ((c .before .before .before .before .before .before .before .lowest) .ensures) ((c .before .before .before .before .wide) .ensures .0 ∙ (c .before .before .before .before .before .features-word) .ensures ∙ plain-features (a .args .t .now)) ((c .before .before .before .if2) .left) in
     (a .pre .1 .0, hk, omega (arith, a .pre .1 .0 .holds .laid .laid .large (a .args .k) hk))
 
 rest-result-add-rest-result-2 : (t : ℕ) → rest-result-lts.Need-add-rest-result-2 (rest-result-claims t) (rest-result-at t) rest-result.Post
@@ -239,7 +237,7 @@ rest-result-add-rest-result-2 t c = search needs
 
 rest-result-rest-result-requires-2 : (t : ℕ) → rest-result-lts.Need-rest-result-requires-2 (rest-result-claims t) (rest-result-at t) rest-result.Post
 rest-result-rest-result-requires-2 t c κs = let a = (c .before .before .before .before .before .before .before .before .before .before .before .before .before .before .before .before) in
-    let hk = still-left (plain (a .args .t .now)) (a .args .f) (a .args .n) (a .args .k) ((c .before .before .before .before .before .before .before .before .before .before .lowest) .result) _ (a .args .t7) (a .pre .1 .0) ((c .before .before .before .before .before .before .before .before .before .before .lowest) .ensures) ((c .before .before .before .before .before .before .before .wide) .ensures .0 ∙ (c .before .before .before .before .before .before .before .before .head-word) .ensures ∙ plain-features (a .args .t .now)) ((c .before .before .before .before .before .before .if2) .left) in
+    let hk = still-left (plain (a .args .t .now)) (a .args .f) (a .args .n) (a .args .k) ((c .before .before .before .before .before .before .before .before .before .before .lowest) .result) _ (a .args .t7) (a .pre .1 .0) ((c .before .before .before .before .before .before .before .before .before .before .lowest) .ensures) ((c .before .before .before .before .before .before .before .wide) .ensures .0 ∙ (c .before .before .before .before .before .before .before .before .features-word) .ensures ∙ plain-features (a .args .t .now)) ((c .before .before .before .before .before .before .if2) .left) in
     (omega arith, (operands-next _ _ _ (a .args .k) 0 (a .args .t7) _ (a .pre .1 .0) hk ((c .before .before .operands-at) .ensures), a .pre .1 .1))
 
 rest-result-same-length-4 : (t : ℕ) → rest-result-lts.Need-same-length-4 (rest-result-claims t) (rest-result-at t) rest-result.Post
@@ -250,12 +248,12 @@ rest-result-same-length-5 t c = search needs
 
 rest-result-returns-4 : (t : ℕ) → rest-result-lts.Need-returns-4 (rest-result-claims t) (rest-result-at t) rest-result.Post
 rest-result-returns-4 t c = let a = (c .before .before .before .before .before .before .before .before .before .before .before .before .before .before .before .before .before .before .before .before .before) in
-    let hk = still-left (plain (a .args .t .now)) (a .args .f) (a .args .n) (a .args .k) ((c .before .before .before .before .before .before .before .before .before .before .before .before .before .before .before .lowest) .result) _ (a .args .t7) (a .pre .1 .0) ((c .before .before .before .before .before .before .before .before .before .before .before .before .before .before .before .lowest) .ensures) ((c .before .before .before .before .before .before .before .before .before .before .before .before .wide) .ensures .0 ∙ (c .before .before .before .before .before .before .before .before .before .before .before .before .before .head-word) .ensures ∙ plain-features (a .args .t .now)) ((c .before .before .before .before .before .before .before .before .before .before .before .if2) .left) in
+    let hk = still-left (plain (a .args .t .now)) (a .args .f) (a .args .n) (a .args .k) ((c .before .before .before .before .before .before .before .before .before .before .before .before .before .before .before .lowest) .result) _ (a .args .t7) (a .pre .1 .0) ((c .before .before .before .before .before .before .before .before .before .before .before .before .before .before .before .lowest) .ensures) ((c .before .before .before .before .before .before .before .before .before .before .before .before .wide) .ensures .0 ∙ (c .before .before .before .before .before .before .before .before .before .before .before .before .before .features-word) .ensures ∙ plain-features (a .args .t .now)) ((c .before .before .before .before .before .before .before .before .before .before .before .if2) .left) in
     (joint-forget _ _ _ _ _ (a .args .k) (a .args .t7) _ _ (a .pre .1 .0) ((c .before .before .before .before .before .before .before .before .before .if4) .taken) hk ((c .before .before .before .before .before .before .before .operands-at) .ensures) ((c .before .before .before .before .rest-result2) .ensures .0), (c .before .before .before .before .rest-result2) .ensures .1)
 
 rest-result-recall-in-requires : (t : ℕ) → rest-result-lts.Need-recall-in-requires (rest-result-claims t) (rest-result-at t) rest-result.Post
 rest-result-recall-in-requires t c κs = let a = (c .before .before .before .before .before .before .before .before .before .before .before .before .before .before) in
-    let hk = still-left (plain (a .args .t .now)) (a .args .f) (a .args .n) (a .args .k) ((c .before .before .before .before .before .before .before .before .lowest) .result) _ (a .args .t7) (a .pre .1 .0) ((c .before .before .before .before .before .before .before .before .lowest) .ensures) ((c .before .before .before .before .before .wide) .ensures .0 ∙ (c .before .before .before .before .before .before .head-word) .ensures ∙ plain-features (a .args .t .now)) ((c .before .before .before .before .if2) .left) in
+    let hk = still-left (plain (a .args .t .now)) (a .args .f) (a .args .n) (a .args .k) ((c .before .before .before .before .before .before .before .before .lowest) .result) _ (a .args .t7) (a .pre .1 .0) ((c .before .before .before .before .before .before .before .before .lowest) .ensures) ((c .before .before .before .before .before .wide) .ensures .0 ∙ (c .before .before .before .before .before .before .features-word) .ensures ∙ plain-features (a .args .t .now)) ((c .before .before .before .before .if2) .left) in
     (a .pre .1 .1 .room, a .pre .1 .0 .nine, omega (arith, a .pre .1 .0 .holds .laid .laid .few))
 
 rest-result-enum-known-memo : (t : ℕ) → rest-result-lts.Need-enum-known-memo (rest-result-claims t) (rest-result-at t) rest-result.Post
@@ -276,12 +274,12 @@ rest-result-enum-told t c = search needs
 
 rest-result-fill-branches-requires : (t : ℕ) → rest-result-lts.Need-fill-branches-requires (rest-result-claims t) (rest-result-at t) rest-result.Post
 rest-result-fill-branches-requires t c κs = let a = (c .before .before .before .before .before .before .before .before .before .before .before .before .before .before .before .before .before .before .before) in
-    let hk = still-left (plain (a .args .t .now)) (a .args .f) (a .args .n) (a .args .k) ((c .before .before .before .before .before .before .before .before .before .before .before .before .before .lowest) .result) _ (a .args .t7) (a .pre .1 .0) ((c .before .before .before .before .before .before .before .before .before .before .before .before .before .lowest) .ensures) ((c .before .before .before .before .before .before .before .before .before .before .wide) .ensures .0 ∙ (c .before .before .before .before .before .before .before .before .before .before .before .head-word) .ensures ∙ plain-features (a .args .t .now)) ((c .before .before .before .before .before .before .before .before .before .if2) .left) in
+    let hk = still-left (plain (a .args .t .now)) (a .args .f) (a .args .n) (a .args .k) ((c .before .before .before .before .before .before .before .before .before .before .before .before .before .lowest) .result) _ (a .args .t7) (a .pre .1 .0) ((c .before .before .before .before .before .before .before .before .before .before .before .before .before .lowest) .ensures) ((c .before .before .before .before .before .before .before .before .before .before .wide) .ensures .0 ∙ (c .before .before .before .before .before .before .before .before .before .before .before .features-word) .ensures ∙ plain-features (a .args .t .now)) ((c .before .before .before .before .before .before .before .before .before .if2) .left) in
     (omega arith, (a .pre .1 .0, a .pre .1 .1, hk))
 
 rest-result-make-in-requires : (t : ℕ) → rest-result-lts.Need-make-in-requires (rest-result-claims t) (rest-result-at t) rest-result.Post
 rest-result-make-in-requires t c κs = let a = (c .before .before .before .before .before .before .before .before .before .before .before .before .before .before .before .before .before .before .before .before .before .before .before .before .before .before .before) in
-    let hk = still-left (plain (a .args .t .now)) (a .args .f) (a .args .n) (a .args .k) ((c .before .before .before .before .before .before .before .before .before .before .before .before .before .before .before .before .before .before .before .before .before .lowest) .result) _ (a .args .t7) (a .pre .1 .0) ((c .before .before .before .before .before .before .before .before .before .before .before .before .before .before .before .before .before .before .before .before .before .lowest) .ensures) ((c .before .before .before .before .before .before .before .before .before .before .before .before .before .before .before .before .before .before .wide) .ensures .0 ∙ (c .before .before .before .before .before .before .before .before .before .before .before .before .before .before .before .before .before .before .before .head-word) .ensures ∙ plain-features (a .args .t .now)) ((c .before .before .before .before .before .before .before .before .before .before .before .before .before .before .before .before .before .if2) .left) in
+    let hk = still-left (plain (a .args .t .now)) (a .args .f) (a .args .n) (a .args .k) ((c .before .before .before .before .before .before .before .before .before .before .before .before .before .before .before .before .before .before .before .before .before .lowest) .result) _ (a .args .t7) (a .pre .1 .0) ((c .before .before .before .before .before .before .before .before .before .before .before .before .before .before .before .before .before .before .before .before .before .lowest) .ensures) ((c .before .before .before .before .before .before .before .before .before .before .before .before .before .before .before .before .before .before .wide) .ensures .0 ∙ (c .before .before .before .before .before .before .before .before .before .before .before .before .before .before .before .before .before .before .before .features-word) .ensures ∙ plain-features (a .args .t .now)) ((c .before .before .before .before .before .before .before .before .before .before .before .before .before .before .before .before .before .if2) .left) in
     let fl = filled (plain (a .args .t .now)) _ (a .args .k) (joint (plain (a .args .t .now)) (a .args .o) (a .args .f) (a .args .n) (a .args .k) (a .args .t7)) _ _ ((c .before .before .if5) .taken) ((c .before .before .before .before .before .before .before .fill-branches) .ensures .0) in
     (still-if _ _ _ _ _ _ ((c .before .before .if5) .taken) ((c .before .before .before .before .before .before .before .fill-branches) .ensures .1) .room, fl .filled .grown .well, omega (arith, kept-features _ _ (fl .filled .grown .kept)), fill-listed (plain (a .args .t .now)) (a .args .k) (joint (plain (a .args .t .now)) (a .args .o) (a .args .f) (a .args .n) (a .args .k) (a .args .t7)) (a .pre .1 .0 .holds) hk _ _ fl)
 
@@ -299,13 +297,13 @@ rest-result-same-length-9 t c = search needs
 
 rest-result-returns-6 : (t : ℕ) → rest-result-lts.Need-returns-6 (rest-result-claims t) (rest-result-at t) rest-result.Post
 rest-result-returns-6 t c = let a = (c .before .before .before .before .before .before .before .before .before .before .before .before .before .before .before .before .before .before .before .before .before .before .before .before .before .before .before .before .before .before .before .before) in
-    let hk = still-left (plain (a .args .t .now)) (a .args .f) (a .args .n) (a .args .k) ((c .before .before .before .before .before .before .before .before .before .before .before .before .before .before .before .before .before .before .before .before .before .before .before .before .before .before .lowest) .result) _ (a .args .t7) (a .pre .1 .0) ((c .before .before .before .before .before .before .before .before .before .before .before .before .before .before .before .before .before .before .before .before .before .before .before .before .before .before .lowest) .ensures) ((c .before .before .before .before .before .before .before .before .before .before .before .before .before .before .before .before .before .before .before .before .before .before .before .wide) .ensures .0 ∙ (c .before .before .before .before .before .before .before .before .before .before .before .before .before .before .before .before .before .before .before .before .before .before .before .before .head-word) .ensures ∙ plain-features (a .args .t .now)) ((c .before .before .before .before .before .before .before .before .before .before .before .before .before .before .before .before .before .before .before .before .before .before .if2) .left) in
+    let hk = still-left (plain (a .args .t .now)) (a .args .f) (a .args .n) (a .args .k) ((c .before .before .before .before .before .before .before .before .before .before .before .before .before .before .before .before .before .before .before .before .before .before .before .before .before .before .lowest) .result) _ (a .args .t7) (a .pre .1 .0) ((c .before .before .before .before .before .before .before .before .before .before .before .before .before .before .before .before .before .before .before .before .before .before .before .before .before .before .lowest) .ensures) ((c .before .before .before .before .before .before .before .before .before .before .before .before .before .before .before .before .before .before .before .before .before .before .before .wide) .ensures .0 ∙ (c .before .before .before .before .before .before .before .before .before .before .before .before .before .before .before .before .before .before .before .before .before .before .before .before .features-word) .ensures ∙ plain-features (a .args .t .now)) ((c .before .before .before .before .before .before .before .before .before .before .before .before .before .before .before .before .before .before .before .before .before .before .if2) .left) in
     let fl = filled (plain (a .args .t .now)) _ (a .args .k) (joint (plain (a .args .t .now)) (a .args .o) (a .args .f) (a .args .n) (a .args .k) (a .args .t7)) _ _ ((c .before .before .before .before .before .before .before .if5) .taken) ((c .before .before .before .before .before .before .before .before .before .before .before .before .fill-branches) .ensures .0) in
     (gives-none ((c .enum-told2) .given .1) (fill-make (plain (a .args .t .now)) (a .args .k) (joint (plain (a .args .t .now)) (a .args .o) (a .args .f) (a .args .n) (a .args .k) (a .args .t7)) (a .pre .1 .0 .holds) hk _ _ _ _ fl ((c .before .before .before .before .make-in) .ensures .0)), tt)
 
 rest-result-remember-in-requires : (t : ℕ) → rest-result-lts.Need-remember-in-requires (rest-result-claims t) (rest-result-at t) rest-result.Post
 rest-result-remember-in-requires t c κs = let a = (c .before .before .before .before .before .before .before .before .before .before .before .before .before .before .before .before .before .before .before .before .before .before .before .before .before .before .before .before .before .before .before .before .before .before .before) in
-    let hk = still-left (plain (a .args .t .now)) (a .args .f) (a .args .n) (a .args .k) ((c .before .before .before .before .before .before .before .before .before .before .before .before .before .before .before .before .before .before .before .before .before .before .before .before .before .before .before .before .before .lowest) .result) _ (a .args .t7) (a .pre .1 .0) ((c .before .before .before .before .before .before .before .before .before .before .before .before .before .before .before .before .before .before .before .before .before .before .before .before .before .before .before .before .before .lowest) .ensures) ((c .before .before .before .before .before .before .before .before .before .before .before .before .before .before .before .before .before .before .before .before .before .before .before .before .before .before .wide) .ensures .0 ∙ (c .before .before .before .before .before .before .before .before .before .before .before .before .before .before .before .before .before .before .before .before .before .before .before .before .before .before .before .head-word) .ensures ∙ plain-features (a .args .t .now)) ((c .before .before .before .before .before .before .before .before .before .before .before .before .before .before .before .before .before .before .before .before .before .before .before .before .before .if2) .left) in
+    let hk = still-left (plain (a .args .t .now)) (a .args .f) (a .args .n) (a .args .k) ((c .before .before .before .before .before .before .before .before .before .before .before .before .before .before .before .before .before .before .before .before .before .before .before .before .before .before .before .before .before .lowest) .result) _ (a .args .t7) (a .pre .1 .0) ((c .before .before .before .before .before .before .before .before .before .before .before .before .before .before .before .before .before .before .before .before .before .before .before .before .before .before .before .before .before .lowest) .ensures) ((c .before .before .before .before .before .before .before .before .before .before .before .before .before .before .before .before .before .before .before .before .before .before .before .before .before .before .wide) .ensures .0 ∙ (c .before .before .before .before .before .before .before .before .before .before .before .before .before .before .before .before .before .before .before .before .before .before .before .before .before .before .before .features-word) .ensures ∙ plain-features (a .args .t .now)) ((c .before .before .before .before .before .before .before .before .before .before .before .before .before .before .before .before .before .before .before .before .before .before .before .before .before .if2) .left) in
     let fb = (c .before .before .before .before .before .before .before .before .before .before .before .before .before .before .before .fill-branches) in
     let fl = filled (plain (a .args .t .now)) _ (a .args .k) (joint (plain (a .args .t .now)) (a .args .o) (a .args .f) (a .args .n) (a .args .k) (a .args .t7)) _ _ ((c .before .before .before .before .before .before .before .before .before .before .if5) .taken) (fb .ensures .0) in
     (noted-made _ _ (a .args .k) (fb .result .list) _ ((c .before .before .before .x) .given .0 .0) (a .args .o) (a .args .f) (a .args .n) _ (fl .filled .grown .well) ((c .before .before .before .before .before .before .before .make-in) .ensures) ((c .before .before .before .x) .given .1) (still-if _ _ _ _ _ _ ((c .before .before .before .before .before .before .before .before .before .before .if5) .taken) (fb .ensures .1)) .room, a .pre .1 .0 .nine, omega (arith, a .pre .1 .0 .holds .laid .laid .few))
@@ -318,7 +316,7 @@ rest-result-same-length-11 t c = search needs
 
 rest-result-returns-7 : (t : ℕ) → rest-result-lts.Need-returns-7 (rest-result-claims t) (rest-result-at t) rest-result.Post
 rest-result-returns-7 t c = let a = (c .before .before .before .before .before .before .before .before .before .before .before .before .before .before .before .before .before .before .before .before .before .before .before .before .before .before .before .before .before .before .before .before .before .before .before .before .before .before .before .before) in
-    let hk = still-left (plain (a .args .t .now)) (a .args .f) (a .args .n) (a .args .k) ((c .before .before .before .before .before .before .before .before .before .before .before .before .before .before .before .before .before .before .before .before .before .before .before .before .before .before .before .before .before .before .before .before .before .before .lowest) .result) _ (a .args .t7) (a .pre .1 .0) ((c .before .before .before .before .before .before .before .before .before .before .before .before .before .before .before .before .before .before .before .before .before .before .before .before .before .before .before .before .before .before .before .before .before .before .lowest) .ensures) ((c .before .before .before .before .before .before .before .before .before .before .before .before .before .before .before .before .before .before .before .before .before .before .before .before .before .before .before .before .before .before .before .wide) .ensures .0 ∙ (c .before .before .before .before .before .before .before .before .before .before .before .before .before .before .before .before .before .before .before .before .before .before .before .before .before .before .before .before .before .before .before .before .head-word) .ensures ∙ plain-features (a .args .t .now)) ((c .before .before .before .before .before .before .before .before .before .before .before .before .before .before .before .before .before .before .before .before .before .before .before .before .before .before .before .before .before .before .if2) .left) in
+    let hk = still-left (plain (a .args .t .now)) (a .args .f) (a .args .n) (a .args .k) ((c .before .before .before .before .before .before .before .before .before .before .before .before .before .before .before .before .before .before .before .before .before .before .before .before .before .before .before .before .before .before .before .before .before .before .lowest) .result) _ (a .args .t7) (a .pre .1 .0) ((c .before .before .before .before .before .before .before .before .before .before .before .before .before .before .before .before .before .before .before .before .before .before .before .before .before .before .before .before .before .before .before .before .before .before .lowest) .ensures) ((c .before .before .before .before .before .before .before .before .before .before .before .before .before .before .before .before .before .before .before .before .before .before .before .before .before .before .before .before .before .before .before .wide) .ensures .0 ∙ (c .before .before .before .before .before .before .before .before .before .before .before .before .before .before .before .before .before .before .before .before .before .before .before .before .before .before .before .before .before .before .before .before .features-word) .ensures ∙ plain-features (a .args .t .now)) ((c .before .before .before .before .before .before .before .before .before .before .before .before .before .before .before .before .before .before .before .before .before .before .before .before .before .before .before .before .before .before .if2) .left) in
     let fb = (c .before .before .before .before .before .before .before .before .before .before .before .before .before .before .before .before .before .before .before .before .fill-branches) in
     let w = plain (a .args .t .now) in
     let fl = filled (plain (a .args .t .now)) _ (a .args .k) (joint (plain (a .args .t .now)) (a .args .o) (a .args .f) (a .args .n) (a .args .k) (a .args .t7)) _ _ ((c .before .before .before .before .before .before .before .before .before .before .before .before .before .before .before .if5) .taken) (fb .ensures .0) in
@@ -337,7 +335,7 @@ rest-result-same-length-13 t c = search needs
 
 rest-result-returns-8 : (t : ℕ) → rest-result-lts.Need-returns-8 (rest-result-claims t) (rest-result-at t) rest-result.Post
 rest-result-returns-8 t c = let a = (c .before .before .before .before .before .before .before .before .before .before .before .before .before .before .before .before .before .before .before .before .before .before .before .before .before) in
-    let hk = still-left (plain (a .args .t .now)) (a .args .f) (a .args .n) (a .args .k) ((c .before .before .before .before .before .before .before .before .before .before .before .before .before .before .before .before .before .before .before .lowest) .result) _ (a .args .t7) (a .pre .1 .0) ((c .before .before .before .before .before .before .before .before .before .before .before .before .before .before .before .before .before .before .before .lowest) .ensures) ((c .before .before .before .before .before .before .before .before .before .before .before .before .before .before .before .before .wide) .ensures .0 ∙ (c .before .before .before .before .before .before .before .before .before .before .before .before .before .before .before .before .before .head-word) .ensures ∙ plain-features (a .args .t .now)) ((c .before .before .before .before .before .before .before .before .before .before .before .before .before .before .before .if2) .left) in
+    let hk = still-left (plain (a .args .t .now)) (a .args .f) (a .args .n) (a .args .k) ((c .before .before .before .before .before .before .before .before .before .before .before .before .before .before .before .before .before .before .before .lowest) .result) _ (a .args .t7) (a .pre .1 .0) ((c .before .before .before .before .before .before .before .before .before .before .before .before .before .before .before .before .before .before .before .lowest) .ensures) ((c .before .before .before .before .before .before .before .before .before .before .before .before .before .before .before .before .wide) .ensures .0 ∙ (c .before .before .before .before .before .before .before .before .before .before .before .before .before .before .before .before .before .features-word) .ensures ∙ plain-features (a .args .t .now)) ((c .before .before .before .before .before .before .before .before .before .before .before .before .before .before .before .if2) .left) in
     (stop-result (plain (a .args .t .now)) (a .args .k) (joint (plain (a .args .t .now)) (a .args .o) (a .args .f) (a .args .n) (a .args .k) (a .args .t7)) (a .pre .1 .0 .holds) hk _ (not-filled (plain (a .args .t .now)) _ (a .args .k) (joint (plain (a .args .t .now)) (a .args .o) (a .args .f) (a .args .n) (a .args .k) (a .args .t7)) _ _ ((c .if5) .left) ((c .before .before .before .before .before .fill-branches) .ensures .0)), tt)
 
 pub +fill-branches+rest-result-spec : {M : Type 1} → statement M
@@ -346,8 +344,7 @@ pub +fill-branches+rest-result-spec : {M : Type 1} → statement M
     fill-branches.Post
     fill-branches-Inv-loop
     fill-branches-μ-loop
-    (fill-branches-add-head-word t)
-    (fill-branches-head-word-requires t)
+    (fill-branches-size-word-requires t)
     (fill-branches-wide-requires t)
     (fill-branches-loop-holds t)
     (fill-branches-operands-at-requires t)
@@ -375,7 +372,7 @@ pub +fill-branches+rest-result-spec : {M : Type 1} → statement M
     (rest-result-combine-requires t)
     (rest-result-returns t)
     (rest-result-lowest-requires t)
-    (rest-result-head-word-requires t)
+    (rest-result-features-word-requires t)
     (rest-result-wide-requires t)
     (rest-result-combine-requires-2 t)
     (rest-result-same-length t)

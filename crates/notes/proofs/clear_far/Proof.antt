@@ -8,8 +8,8 @@ use Rattle.notes.proofs.clear_far.Statement.{statement}
 use Rattle.notes.proofs.clear_far.Tie as tie
 use Rattle.promises.specs.Words.{capacity}
 
-head-word-requires : tie.Need-head-word-requires
-head-word-requires c κs = search needs
+capacity-word-requires : tie.Need-capacity-word-requires
+capacity-word-requires c κs = search needs
 
 wide-requires : tie.Need-wide-requires
 wide-requires c κs = search needs
@@ -44,14 +44,14 @@ same-length c = search needs
 returns : tie.Need-returns
 returns c = let a = (c .before .before .before .before .before .before .before .before) in
     let n : ℕ = 16 * (c .before .before .before .before .wide) .result in
-    let e : n ≡ 16 * capacity (a .args .t .now) = ap (λ (x : ℕ). 16 * x) ((c .before .before .before .before .wide) .ensures .0 ∙ (c .before .before .before .before .before .head-word) .ensures) in
+    let e : n ≡ 16 * capacity (a .args .t .now) = ap (λ (x : ℕ). 16 * x) ((c .before .before .before .before .wide) .ensures .0 ∙ (c .before .before .before .before .before .capacity-word) .ensures) in
     cleared-far (a .args .t .now) ((c .before .before .clear) .last .0) n (8192 + n) (8192 + n + n - (8192 + n)) (a .pre) e refl (omega arith) (search needs) ((c .before .before .clear) .ensures)
 
 pub clear-far-spec : {M : Type 1} → statement M
 clear-far-spec =
     tie.close
     (tie.spec
-    head-word-requires
+    capacity-word-requires
     wide-requires
     mul-n
     add-from

@@ -19,11 +19,8 @@ abbrev μ-loop : tie.MeasureT-loop
 hash-of-requires : tie.Need-hash-of-requires Inv-loop μ-loop
 hash-of-requires c κs = search needs
 
-add-head-word : tie.Need-add-head-word Inv-loop μ-loop
-add-head-word c = search needs
-
-head-word-requires : tie.Need-head-word-requires Inv-loop μ-loop
-head-word-requires c κs = search needs
+bucket-word-requires : tie.Need-bucket-word-requires Inv-loop μ-loop
+bucket-word-requires c κs = search needs
 
 wide-requires : tie.Need-wide-requires Inv-loop μ-loop
 wide-requires c κs = search needs
@@ -31,7 +28,7 @@ wide-requires c κs = search needs
 loop-holds : tie.Need-loop-holds Inv-loop μ-loop
 loop-holds c = let a = (c .before .before .before .before) in
     let b : (c .wide) .result ≡ bucket (a .args .t .now) (hashOf (a .args .k) (listed (a .args .list))) =
-    (c .wide) .ensures .0 ∙ (c .before .head-word) .ensures ∙ ap (bucket (a .args .t .now)) ((c .before .before .hash-of) .ensures .0) in
+    (c .wide) .ensures .0 ∙ (c .before .bucket-word) .ensures ∙ ap (bucket (a .args .t .now)) ((c .before .before .hash-of) .ensures .0) in
     rw b (search-start (a .args .t .now) (a .args .k) (a .args .list) (a .pre .0))
 
 sub-i : tie.Need-sub-i Inv-loop μ-loop
@@ -68,8 +65,7 @@ find-record-spec =
     Inv-loop
     μ-loop
     hash-of-requires
-    add-head-word
-    head-word-requires
+    bucket-word-requires
     wide-requires
     loop-holds
     sub-i

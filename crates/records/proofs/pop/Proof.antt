@@ -20,8 +20,8 @@ Inv-loop t₀ i h next base v₀ t v =
 abbrev μ-loop : tie.MeasureT-loop
 μ-loop t₀ i h next base v₀ t v = 16 - v
 
-head-word-requires : tie.Need-head-word-requires Inv-loop μ-loop
-head-word-requires c κs = search needs
+count-word-requires : tie.Need-count-word-requires Inv-loop μ-loop
+count-word-requires c κs = search needs
 
 wide-requires : tie.Need-wide-requires Inv-loop μ-loop
 wide-requires c κs = search needs
@@ -88,7 +88,7 @@ same-length c = simp length-set (simp length-set at ((c .before .before .loop) .
 
 returns : tie.Need-returns Inv-loop μ-loop
 returns c = let l = (c .before .before .loop) in let a = (c .before .before .before .before .before .before .before .before .before .before .before) in
-    let e : (c .before .before .before .before .before .before .before .wide) .result - 1 ≡ count (a .args .t .now) - 1 = ap (λ (x : ℕ). x - 1) ((c .before .before .before .before .before .before .before .wide) .ensures .0 ∙ (c .before .before .before .before .before .before .before .before .head-word) .ensures) in
+    let e : (c .before .before .before .before .before .before .before .wide) .result - 1 ≡ count (a .args .t .now) - 1 = ap (λ (x : ℕ). x - 1) ((c .before .before .before .before .before .before .before .wide) .ensures .0 ∙ (c .before .before .before .before .before .before .before .before .count-word) .ensures) in
     rw (← e)
     (popped (a .args .t .now) (l .t) _ _ _ _ ((c .narrow) .ensures) ((c .before .before .before .before .before .hash-at) .ensures .0) ((c .before .before .before .before .before .hash-at) .ensures .1) ((c .before .before .before .record-word) .ensures) (omega arith)
     (l .inv .0) (l .inv .2) (λ j p q. l .inv .3 j p (omega arith)) (λ j h. l .inv .4 j (omega arith)))
@@ -99,7 +99,7 @@ pop-spec =
     (tie.spec
     Inv-loop
     μ-loop
-    head-word-requires
+    count-word-requires
     wide-requires
     sub-i
     hash-at-requires

@@ -20,8 +20,8 @@ Inv-loop t₀ k x y list i h next more base v₀ t v =
 abbrev μ-loop : tie.MeasureT-loop
 μ-loop t₀ k x y list i h next more base v₀ t v = 12 - v
 
-head-word-requires : tie.Need-head-word-requires Inv-loop μ-loop
-head-word-requires c κs = search needs
+count-word-requires : tie.Need-count-word-requires Inv-loop μ-loop
+count-word-requires c κs = search needs
 
 wide-requires : tie.Need-wide-requires Inv-loop μ-loop
 wide-requires c κs = search needs
@@ -29,11 +29,8 @@ wide-requires c κs = search needs
 hash-of-requires : tie.Need-hash-of-requires Inv-loop μ-loop
 hash-of-requires c κs = search needs
 
-add-head-word : tie.Need-add-head-word Inv-loop μ-loop
-add-head-word c = search needs
-
-head-word-requires-2 : tie.Need-head-word-requires-2 Inv-loop μ-loop
-head-word-requires-2 c κs = search needs
+bucket-word-requires : tie.Need-bucket-word-requires Inv-loop μ-loop
+bucket-word-requires c κs = search needs
 
 add-narrow : tie.Need-add-narrow Inv-loop μ-loop
 add-narrow c = search needs
@@ -136,10 +133,10 @@ same-length c = simp length-set (simp length-set at ((c .before .loop) .inv .0))
 
 returns : tie.Need-returns Inv-loop μ-loop
 returns c = let l = (c .before .loop) in let a = (c .before .before .before .before .before .before .before .before .before .before .before) in
-    let e : (c .before .before .before .before .before .before .before .wide) .result ≡ count (a .args .t .now) = (c .before .before .before .before .before .before .before .wide) .ensures .0 ∙ (c .before .before .before .before .before .before .before .before .head-word) .ensures in (
+    let e : (c .before .before .before .before .before .before .before .wide) .result ≡ count (a .args .t .now) = (c .before .before .before .before .before .before .before .wide) .ensures .0 ∙ (c .before .before .before .before .before .before .before .before .count-word) .ensures in (
       e,
       pushed (a .args .t .now) (l .t) (a .args .t3) _ _ _ _ _ _ _ _ e ((c .before .before .before .narrow) .ensures) ((c .before .before .narrow2) .ensures)
-          ((c .before .before .before .before .before .before .hash-of) .ensures .0) ((c .before .before .before .before .before .before .hash-of) .ensures .1) ((c .before .before .before .before .head-word2) .ensures) (omega arith) (l .inv .0) (l .inv .2) (λ j h. l .inv .4 j (omega arith)) (λ u h. l .inv .3 u (omega arith)),
+          ((c .before .before .before .before .before .before .hash-of) .ensures .0) ((c .before .before .before .before .before .before .hash-of) .ensures .1) ((c .before .before .before .before .bucket-word) .ensures) (omega arith) (l .inv .0) (l .inv .2) (λ j h. l .inv .4 j (omega arith)) (λ u h. l .inv .3 u (omega arith)),
     )
 
 pub push-spec : {M : Type 1} → statement M
@@ -148,11 +145,10 @@ push-spec =
     (tie.spec
     Inv-loop
     μ-loop
-    head-word-requires
+    count-word-requires
     wide-requires
     hash-of-requires
-    add-head-word
-    head-word-requires-2
+    bucket-word-requires
     add-narrow
     narrow-requires
     mul-base

@@ -15,14 +15,14 @@ Inv-loop t₀ n m₀ t m = (n ≤ m) × (Rolled t₀ t m)
 abbrev μ-loop : tie.MeasureT-loop
 μ-loop t₀ n m₀ t m = m
 
-head-word-requires : tie.Need-head-word-requires Inv-loop μ-loop
-head-word-requires c κs = search needs
+count-word-requires : tie.Need-count-word-requires Inv-loop μ-loop
+count-word-requires c κs = search needs
 
 wide-requires : tie.Need-wide-requires Inv-loop μ-loop
 wide-requires c κs = search needs
 
 loop-holds : tie.Need-loop-holds Inv-loop μ-loop
-loop-holds c = let e : (c .wide) .result ≡ count ((c .before .before .before .before) .args .t .now) = (c .wide) .ensures .0 ∙ (c .before .head-word) .ensures in (omega arith, roll-none _ _ ((c .before .before .before .before) .pre .0) e)
+loop-holds c = let e : (c .wide) .result ≡ count ((c .before .before .before .before) .args .t .now) = (c .wide) .ensures .0 ∙ (c .before .count-word) .ensures in (omega arith, roll-none _ _ ((c .before .before .before .before) .pre .0) e)
 
 pop-requires : tie.Need-pop-requires Inv-loop μ-loop
 pop-requires c κs = search needs
@@ -48,7 +48,7 @@ roll-back-spec =
     (tie.spec
     Inv-loop
     μ-loop
-    head-word-requires
+    count-word-requires
     wide-requires
     loop-holds
     pop-requires

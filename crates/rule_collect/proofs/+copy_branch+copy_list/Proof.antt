@@ -20,7 +20,8 @@ use Rattle.rule_collect.proofs.copy_list.Reads as copy-list
 use Rattle.rule_collect.proofs.copy_list.Kinds as copy-list-kinds
 use Rattle.rule_collect.proofs.+copy_branch+copy_list.Lts-copy_list as copy-list-lts
 use Rattle.sweep.proofs.add_copy.Reads as add-copy-reads
-use Rattle.words.proofs.head_word.Reads as head-word-reads
+use Rattle.words.proofs.size_word.Reads as size-word-reads
+use Rattle.words.proofs.bucket_word.Reads as bucket-word-reads
 use Rattle.words.proofs.narrow.Reads as narrow-reads
 use Rattle.words.proofs.record_word.Reads as record-word-reads
 use Rattle.words.proofs.wide.Reads as wide-reads
@@ -50,10 +51,10 @@ copy-list-below t =
     and 1 copy-list-kinds.ps (falls 1 copy-list-kinds.ps _<_ μ-copy-list t) copy-list.Pre
 
 abbrev copy-branch-claims : ℕ → copy-branch-lts.Claims
-copy-branch-claims t = (wide-reads.Asked, wide-reads.Learnt, head-word-reads.Asked, head-word-reads.Learnt, copy-list-below t, copy-list.Post, add-copy-reads.Asked, add-copy-reads.Learnt, narrow-reads.Asked, narrow-reads.Learnt)
+copy-branch-claims t = (wide-reads.Asked, wide-reads.Learnt, bucket-word-reads.Asked, bucket-word-reads.Learnt, copy-list-below t, copy-list.Post, add-copy-reads.Asked, add-copy-reads.Learnt, narrow-reads.Asked, narrow-reads.Learnt)
 
 abbrev copy-list-claims : ℕ → copy-list-lts.Claims
-copy-list-claims t = (record-word-reads.Asked, record-word-reads.Learnt, wide-reads.Asked, wide-reads.Learnt, head-word-reads.Asked, head-word-reads.Learnt, copy-branch-below t, copy-branch.Post)
+copy-list-claims t = (record-word-reads.Asked, record-word-reads.Learnt, wide-reads.Asked, wide-reads.Learnt, size-word-reads.Asked, size-word-reads.Learnt, copy-branch-below t, copy-branch.Post)
 
 copy-branch-returns : (t : ℕ) → copy-branch-lts.Need-returns (copy-branch-claims t) (copy-branch-at t) copy-branch.Post
 copy-branch-returns t c = moved-phrase ((c .before .before) .pre .1 .0) ((c .if1) .taken)
@@ -61,18 +62,15 @@ copy-branch-returns t c = moved-phrase ((c .before .before) .pre .1 .0) ((c .if1
 copy-branch-wide-requires : (t : ℕ) → copy-branch-lts.Need-wide-requires (copy-branch-claims t) (copy-branch-at t) copy-branch.Post
 copy-branch-wide-requires t c κs = search needs
 
-copy-branch-add-head-word : (t : ℕ) → copy-branch-lts.Need-add-head-word (copy-branch-claims t) (copy-branch-at t) copy-branch.Post
-copy-branch-add-head-word t c = search needs
-
-copy-branch-head-word-requires : (t : ℕ) → copy-branch-lts.Need-head-word-requires (copy-branch-claims t) (copy-branch-at t) copy-branch.Post
-copy-branch-head-word-requires t c κs = let a = (c .before .before .before .before) in
+copy-branch-bucket-word-requires : (t : ℕ) → copy-branch-lts.Need-bucket-word-requires (copy-branch-claims t) (copy-branch-at t) copy-branch.Post
+copy-branch-bucket-word-requires t c κs = let a = (c .before .before .before .before) in
     let g = good-below (a .args .t .now) (a .args .b) (a .pre .1 .1) in
     omega (arith, a .pre .1 .0 .framed .room, a .pre .1 .0 .framed .within, a .pre .1 .0 .framed .most)
 
 copy-branch-add-result : (t : ℕ) → copy-branch-lts.Need-add-result (copy-branch-claims t) (copy-branch-at t) copy-branch.Post
 copy-branch-add-result t c = let a = (c .before .before .before .before .before .before) in
     let g = good-below (a .args .t .now) (a .args .b) (a .pre .1 .1) in
-    omega (arith, marked-small (a .pre .1 .0) ((c .before .before .before .wide) .result) ((c .before .head-word) .result) (omega arith) ((c .before .head-word) .ensures), done-small (a .pre .1 .0), a .pre .1 .0 .framed .within, a .pre .1 .0 .framed .most)
+    omega (arith, marked-small (a .pre .1 .0) ((c .before .before .before .wide) .result) ((c .before .bucket-word) .result) (omega arith) ((c .before .bucket-word) .ensures), done-small (a .pre .1 .0), a .pre .1 .0 .framed .within, a .pre .1 .0 .framed .most)
 
 copy-branch-same-length : (t : ℕ) → copy-branch-lts.Need-same-length (copy-branch-claims t) (copy-branch-at t) copy-branch.Post
 copy-branch-same-length t c = search needs
@@ -80,7 +78,7 @@ copy-branch-same-length t c = search needs
 copy-branch-returns-2 : (t : ℕ) → copy-branch-lts.Need-returns-2 (copy-branch-claims t) (copy-branch-at t) copy-branch.Post
 copy-branch-returns-2 t c = let a = (c .before .before .before .before .before .before) in
     let g = good-below (a .args .t .now) (a .args .b) (a .pre .1 .1) in
-    moved-index _ _ ((c .before .before .before .wide) .result) ((c .before .head-word) .result - 1) (omega arith) (omega arith) (moved-marked ((c .before .before .before .wide) .result) ((c .before .head-word) .result - 1) (a .pre .1 .0) (omega arith) (omega (arith, (c .before .head-word) .ensures)))
+    moved-index _ _ ((c .before .before .before .wide) .result) ((c .before .bucket-word) .result - 1) (omega arith) (omega arith) (moved-marked ((c .before .before .before .wide) .result) ((c .before .bucket-word) .result - 1) (a .pre .1 .0) (omega arith) (omega (arith, (c .before .bucket-word) .ensures)))
 
 copy-branch-copy-list-requires : (t : ℕ) → copy-branch-lts.Need-copy-list-requires (copy-branch-claims t) (copy-branch-at t) copy-branch.Post
 copy-branch-copy-list-requires t c κs = let a = (c .before .before .before .before .before .before .before) in
@@ -90,21 +88,21 @@ copy-branch-copy-list-requires t c κs = let a = (c .before .before .before .bef
 copy-branch-add-copy-requires : (t : ℕ) → copy-branch-lts.Need-add-copy-requires (copy-branch-claims t) (copy-branch-at t) copy-branch.Post
 copy-branch-add-copy-requires t c κs = let a = (c .before .before .before .before .before .before .before .before .before .before .before) in
     let g = good-below (a .args .t .now) (a .args .b) (a .pre .1 .1) in
-    let z : (c .before .before .before .before .before .before .head-word) .result ≡ 0 = omega arith in
-    spare-for faithful (a .pre .1 .0) (omega arith) (sym ((c .before .before .before .before .before .before .head-word) .ensures) ∙ z) ((c .before .before .before .copy-list) .ensures)
+    let z : (c .before .before .before .before .before .before .bucket-word) .result ≡ 0 = omega arith in
+    spare-for faithful (a .pre .1 .0) (omega arith) (sym ((c .before .before .before .before .before .before .bucket-word) .ensures) ∙ z) ((c .before .before .before .copy-list) .ensures)
 
 copy-branch-narrow-requires : (t : ℕ) → copy-branch-lts.Need-narrow-requires (copy-branch-claims t) (copy-branch-at t) copy-branch.Post
 copy-branch-narrow-requires t c κs = let a = (c .before .before .before .before .before .before .before .before .before .before .before .before .before .before) in
     let g = good-below (a .args .t .now) (a .args .b) (a .pre .1 .1) in
-    let z : (c .before .before .before .before .before .before .before .before .before .head-word) .result ≡ 0 = omega arith in
-    let s = spare-for faithful (a .pre .1 .0) (omega arith) (sym ((c .before .before .before .before .before .before .before .before .before .head-word) .ensures) ∙ z) ((c .before .before .before .before .before .before .copy-list) .ensures) in
+    let z : (c .before .before .before .before .before .before .before .before .before .bucket-word) .result ≡ 0 = omega arith in
+    let s = spare-for faithful (a .pre .1 .0) (omega arith) (sym ((c .before .before .before .before .before .before .before .before .before .bucket-word) .ensures) ∙ z) ((c .before .before .before .before .before .before .copy-list) .ensures) in
     omega (arith, s .free, s .most, (c .before .before .add-copy) .ensures .0)
 
 copy-branch-add-result-2 : (t : ℕ) → copy-branch-lts.Need-add-result-2 (copy-branch-claims t) (copy-branch-at t) copy-branch.Post
 copy-branch-add-result-2 t c = let a = (c .before .before .before .before .before .before .before .before .before .before .before .before .before .before .before) in
     let g = good-below (a .args .t .now) (a .args .b) (a .pre .1 .1) in
-    let z : (c .before .before .before .before .before .before .before .before .before .before .head-word) .result ≡ 0 = omega arith in
-    let s = spare-for faithful (a .pre .1 .0) (omega arith) (sym ((c .before .before .before .before .before .before .before .before .before .before .head-word) .ensures) ∙ z) ((c .before .before .before .before .before .before .before .copy-list) .ensures) in
+    let z : (c .before .before .before .before .before .before .before .before .before .before .bucket-word) .result ≡ 0 = omega arith in
+    let s = spare-for faithful (a .pre .1 .0) (omega arith) (sym ((c .before .before .before .before .before .before .before .before .before .before .bucket-word) .ensures) ∙ z) ((c .before .before .before .before .before .before .before .copy-list) .ensures) in
     omega (arith, s .free, s .most, (c .before .before .before .add-copy) .ensures .0, (c .narrow) .ensures)
 
 copy-branch-same-length-2 : (t : ℕ) → copy-branch-lts.Need-same-length-2 (copy-branch-claims t) (copy-branch-at t) copy-branch.Post
@@ -113,9 +111,9 @@ copy-branch-same-length-2 t c = search needs
 copy-branch-returns-3 : (t : ℕ) → copy-branch-lts.Need-returns-3 (copy-branch-claims t) (copy-branch-at t) copy-branch.Post
 copy-branch-returns-3 t c = let a = (c .before .before .before .before .before .before .before .before .before .before .before .before .before .before .before) in
     let g = good-below (a .args .t .now) (a .args .b) (a .pre .1 .1) in
-    let z : (c .before .before .before .before .before .before .before .before .before .before .head-word) .result ≡ 0 = omega arith in
+    let z : (c .before .before .before .before .before .before .before .before .before .before .bucket-word) .result ≡ 0 = omega arith in
     moved-index _ _ _ _ (omega arith) (ap (λ (n : ℕ). 65536 + n) ((c .narrow) .ensures ∙ (c .before .before .before .add-copy) .ensures .0))
-    (moved-new faithful (a .pre .1 .0) (omega arith) (sym ((c .before .before .before .before .before .before .before .before .before .before .head-word) .ensures) ∙ z) ((c .before .before .before .before .before .before .before .copy-list) .ensures) ((c .before .before .before .add-copy) .ensures .1))
+    (moved-new faithful (a .pre .1 .0) (omega arith) (sym ((c .before .before .before .before .before .before .before .before .before .before .bucket-word) .ensures) ∙ z) ((c .before .before .before .before .before .before .before .copy-list) .ensures) ((c .before .before .before .add-copy) .ensures .1))
 
 abbrev copy-list-Inv-loop : copy-list-lts.InvT-loop
 copy-list-Inv-loop t₀ i m list₀ v₀ t list v = (m ≡ size t₀ (feature t₀ i)) × (v ≤ m) × Moving code t₀ t i v list × (length list ≡ 12)
@@ -129,18 +127,15 @@ copy-list-record-word-requires t c κs = let r = (c .before .before) .pre .1 .0 
 copy-list-wide-requires : (t : ℕ) → copy-list-lts.Need-wide-requires (copy-list-claims t) (copy-list-at t) copy-list.Post copy-list-Inv-loop copy-list-μ-loop
 copy-list-wide-requires t c κs = search needs
 
-copy-list-add-head-word : (t : ℕ) → copy-list-lts.Need-add-head-word (copy-list-claims t) (copy-list-at t) copy-list.Post copy-list-Inv-loop copy-list-μ-loop
-copy-list-add-head-word t c = let a = (c .before .before .before .before) in let k = known (a .pre .1 .0 .framed) (a .args .i) (a .pre .1 .1) in omega (arith, few (a .pre .1 .0 .framed))
-
-copy-list-head-word-requires : (t : ℕ) → copy-list-lts.Need-head-word-requires (copy-list-claims t) (copy-list-at t) copy-list.Post copy-list-Inv-loop copy-list-μ-loop
-copy-list-head-word-requires t c κs = let a = (c .before .before .before .before) in let k = known (a .pre .1 .0 .framed) (a .args .i) (a .pre .1 .1) in omega (arith, few (a .pre .1 .0 .framed), a .pre .1 .0 .framed .room)
+copy-list-size-word-requires : (t : ℕ) → copy-list-lts.Need-size-word-requires (copy-list-claims t) (copy-list-at t) copy-list.Post copy-list-Inv-loop copy-list-μ-loop
+copy-list-size-word-requires t c κs = let a = (c .before .before .before .before) in let k = known (a .pre .1 .0 .framed) (a .args .i) (a .pre .1 .1) in omega (arith, few (a .pre .1 .0 .framed), a .pre .1 .0 .framed .room)
 
 copy-list-wide-requires-2 : (t : ℕ) → copy-list-lts.Need-wide-requires-2 (copy-list-claims t) (copy-list-at t) copy-list.Post copy-list-Inv-loop copy-list-μ-loop
 copy-list-wide-requires-2 t c κs = search needs
 
 copy-list-loop-holds : (t : ℕ) → copy-list-lts.Need-loop-holds (copy-list-claims t) (copy-list-at t) copy-list.Post copy-list-Inv-loop copy-list-μ-loop
 copy-list-loop-holds t c = let a = (c .before .before .before .before .before .before) in (
-  (c .wide2) .ensures .0 ∙ (c .before .head-word) .ensures ∙ ap (size (a .args .t .now)) ((c .before .before .wide) .ensures .0 ∙ (c .before .before .before .record-word) .ensures),
+  (c .wide2) .ensures .0 ∙ (c .before .size-word) .ensures ∙ ap (size (a .args .t .now)) ((c .before .before .wide) .ensures .0 ∙ (c .before .before .before .record-word) .ensures),
   search needs,
   moving-none _ _ (a .pre .1 .0) (λ u h. getD-replicate 12 u 0 0 h),
   search needs,
@@ -199,8 +194,7 @@ pub +copy-branch+copy-list-spec : {M : Type 1} → statement M
     copy-branch.Post
     (copy-branch-returns t)
     (copy-branch-wide-requires t)
-    (copy-branch-add-head-word t)
-    (copy-branch-head-word-requires t)
+    (copy-branch-bucket-word-requires t)
     (copy-branch-add-result t)
     (copy-branch-same-length t)
     (copy-branch-returns-2 t)
@@ -217,8 +211,7 @@ pub +copy-branch+copy-list-spec : {M : Type 1} → statement M
     copy-list-μ-loop
     (copy-list-record-word-requires t)
     (copy-list-wide-requires t)
-    (copy-list-add-head-word t)
-    (copy-list-head-word-requires t)
+    (copy-list-size-word-requires t)
     (copy-list-wide-requires-2 t)
     (copy-list-loop-holds t)
     (copy-list-add-record-word t)

@@ -33,7 +33,7 @@ use Rattle.cost_words.proofs.sum_word.Reads as sum-word-reads
 use Rattle.rule_less.proofs.above_zero.Reads as above-zero-reads
 use Rattle.rule_lending.proofs.branch_of.Reads as branch-of-reads
 use Rattle.rule_lending.proofs.make.Reads as make-reads
-use Rattle.words.proofs.head_word.Reads as head-word-reads
+use Rattle.words.proofs.size_word.Reads as size-word-reads
 use Rattle.words.proofs.narrow.Reads as narrow-reads
 use Rattle.words.proofs.wide.Reads as wide-reads
 use Rattle.rule_less.proofs.+fill_branches+rest_result.{statement}
@@ -74,23 +74,20 @@ abbrev fill-branches-μ-loop : fill-branches-lts.MeasureT-loop
 fill-branches-μ-loop c t₀ s₀ k x y d m list₀ v₀ t s list v = m - v
 
 abbrev fill-branches-claims : ℕ → fill-branches-lts.Claims
-fill-branches-claims t = (head-word-reads.Asked, head-word-reads.Learnt, wide-reads.Asked, wide-reads.Learnt, arm-at-reads.Asked, arm-at-reads.Learnt, sum-word-reads.Asked, sum-word-reads.Learnt, difference-word-reads.Asked, difference-word-reads.Learnt, rest-result-below t, rest-result.Post)
+fill-branches-claims t = (size-word-reads.Asked, size-word-reads.Learnt, wide-reads.Asked, wide-reads.Learnt, arm-at-reads.Asked, arm-at-reads.Learnt, sum-word-reads.Asked, sum-word-reads.Learnt, difference-word-reads.Asked, difference-word-reads.Learnt, rest-result-below t, rest-result.Post)
 
 abbrev rest-result-claims : ℕ → rest-result-lts.Claims
 rest-result-claims t = (above-zero-reads.Asked, above-zero-reads.Learnt, branch-of-reads.Asked, branch-of-reads.Learnt, top-of-reads.Asked, top-of-reads.Learnt, rest-result-below t, rest-result.Post, narrow-reads.Asked, narrow-reads.Learnt, recall-reads.Asked, recall-reads.Learnt, fill-branches-below t, fill-branches.Post, make-reads.Asked, make-reads.Learnt, remember-reads.Asked, remember-reads.Learnt)
 
-fill-branches-add-head-word : (t : ℕ) → fill-branches-lts.Need-add-head-word (fill-branches-claims t) (fill-branches-at t) fill-branches.Post fill-branches-Inv-loop fill-branches-μ-loop
-fill-branches-add-head-word t c = search needs
-
-fill-branches-head-word-requires : (t : ℕ) → fill-branches-lts.Need-head-word-requires (fill-branches-claims t) (fill-branches-at t) fill-branches.Post fill-branches-Inv-loop fill-branches-μ-loop
-fill-branches-head-word-requires t c κs = search needs
+fill-branches-size-word-requires : (t : ℕ) → fill-branches-lts.Need-size-word-requires (fill-branches-claims t) (fill-branches-at t) fill-branches.Post fill-branches-Inv-loop fill-branches-μ-loop
+fill-branches-size-word-requires t c κs = search needs
 
 fill-branches-wide-requires : (t : ℕ) → fill-branches-lts.Need-wide-requires (fill-branches-claims t) (fill-branches-at t) fill-branches.Post fill-branches-Inv-loop fill-branches-μ-loop
 fill-branches-wide-requires t c κs = search needs
 
 fill-branches-loop-holds : (t : ℕ) → fill-branches-lts.Need-loop-holds (fill-branches-claims t) (fill-branches-at t) fill-branches.Post fill-branches-Inv-loop fill-branches-μ-loop
 fill-branches-loop-holds t c = let a = (c .before .before .before .before .before) in
-    let e : (c .wide) .result ≡ size (a .args .c .now) (a .args .k) = (c .wide) .ensures .0 ∙ (c .before .head-word) .ensures in
+    let e : (c .wide) .result ≡ size (a .args .c .now) (a .args .k) = (c .wide) .ensures .0 ∙ (c .before .size-word) .ensures in
     let n = as-long _ _ (a .pre .1 .1 .same) in
     (omega (arith, as-large _ _ (a .pre .1 .1 .same) (a .args .k) (omega (arith, n, a .pre .1 .3)) (a .pre .1 .3)), e, omega arith, fill-start (a .pre .1 .1 .ready) (omega (arith, n, a .pre .1 .3)) _ refl (λ u h. getD-replicate 12 u 0 0 h), a .pre .1 .2, refl, refl)
 
@@ -324,8 +321,7 @@ pub +fill-branches+rest-result-spec : {M : Type 1} → statement M
     fill-branches.Post
     fill-branches-Inv-loop
     fill-branches-μ-loop
-    (fill-branches-add-head-word t)
-    (fill-branches-head-word-requires t)
+    (fill-branches-size-word-requires t)
     (fill-branches-wide-requires t)
     (fill-branches-loop-holds t)
     (fill-branches-arm-at-requires t)

@@ -12,7 +12,7 @@ use Rattle.rule_next.proofs.complete.Kinds as complete-kinds
 use Rattle.rule_next.proofs.+complete.Lts-complete as complete-lts
 use Rattle.rule_next.proofs.child.Reads as child-reads
 use Rattle.rule_next.proofs.smallest.Reads as smallest-reads
-use Rattle.words.proofs.head_word.Reads as head-word-reads
+use Rattle.words.proofs.features_word.Reads as features-word-reads
 use Rattle.words.proofs.wide.Reads as wide-reads
 use Rattle.rule_next.proofs.+complete.{statement}
 use Rattle.rule_next.proofs.+complete.Tie.{close}
@@ -29,10 +29,10 @@ complete-below t =
     and 2 complete-kinds.ps (falls 2 complete-kinds.ps _<_ μ-complete t) complete.Pre
 
 abbrev complete-claims : ℕ → complete-lts.Claims
-complete-claims t = (head-word-reads.Asked, head-word-reads.Learnt, wide-reads.Asked, wide-reads.Learnt, smallest-reads.Asked, smallest-reads.Learnt, child-reads.Asked, child-reads.Learnt, complete-below t, complete.Post)
+complete-claims t = (features-word-reads.Asked, features-word-reads.Learnt, wide-reads.Asked, wide-reads.Learnt, smallest-reads.Asked, smallest-reads.Learnt, child-reads.Asked, child-reads.Learnt, complete-below t, complete.Post)
 
-complete-head-word-requires : (t : ℕ) → complete-lts.Need-head-word-requires (complete-claims t) (complete-at t) complete.Post
-complete-head-word-requires t c κs = omega (arith, (c .before .before) .pre .1 .0 .sound .header .room)
+complete-features-word-requires : (t : ℕ) → complete-lts.Need-features-word-requires (complete-claims t) (complete-at t) complete.Post
+complete-features-word-requires t c κs = omega (arith, (c .before .before) .pre .1 .0 .sound .header .room)
 
 complete-wide-requires : (t : ℕ) → complete-lts.Need-wide-requires (complete-claims t) (complete-at t) complete.Post
 complete-wide-requires t c κs = search needs
@@ -70,7 +70,7 @@ pub +complete-spec : {M : Type 1} → statement M
 +complete-spec = close μ-complete λ t. complete-lts.spec (complete-claims t)
     (complete-at t)
     complete.Post
-    (complete-head-word-requires t)
+    (complete-features-word-requires t)
     (complete-wide-requires t)
     (complete-returns t)
     (complete-smallest-requires t)

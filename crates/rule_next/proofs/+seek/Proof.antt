@@ -14,7 +14,8 @@ use Rattle.rule_next.proofs.child.Reads as child-reads
 use Rattle.rule_next.proofs.complete.Reads as complete-reads
 use Rattle.rule_next.proofs.smallest.Reads as smallest-reads
 use Rattle.rule_next.proofs.value_of.Reads as value-of-reads
-use Rattle.words.proofs.head_word.Reads as head-word-reads
+use Rattle.words.proofs.features_word.Reads as features-word-reads
+use Rattle.words.proofs.size_word.Reads as size-word-reads
 use Rattle.words.proofs.wide.Reads as wide-reads
 use Rattle.rule_next.proofs.+seek.{statement}
 use Rattle.rule_next.proofs.+seek.Tie.{close}
@@ -30,10 +31,10 @@ abbrev seek-below : ℕ → In 2 seek-kinds.ps
 seek-below t = and 2 seek-kinds.ps (falls 2 seek-kinds.ps _<_ μ-seek t) seek.Pre
 
 abbrev seek-claims : ℕ → seek-lts.Claims
-seek-claims t = (head-word-reads.Asked, head-word-reads.Learnt, wide-reads.Asked, wide-reads.Learnt, value-of-reads.Asked, value-of-reads.Learnt, child-reads.Asked, child-reads.Learnt, seek-below t, seek.Post, smallest-reads.Asked, smallest-reads.Learnt, complete-reads.Asked, complete-reads.Learnt)
+seek-claims t = (features-word-reads.Asked, features-word-reads.Learnt, wide-reads.Asked, wide-reads.Learnt, value-of-reads.Asked, value-of-reads.Learnt, child-reads.Asked, child-reads.Learnt, seek-below t, seek.Post, smallest-reads.Asked, smallest-reads.Learnt, size-word-reads.Asked, size-word-reads.Learnt, complete-reads.Asked, complete-reads.Learnt)
 
-seek-head-word-requires : (t : ℕ) → seek-lts.Need-head-word-requires (seek-claims t) (seek-at t) seek.Post
-seek-head-word-requires t c κs = omega (arith, (c .before .before) .pre .1 .0 .sound .header .room)
+seek-features-word-requires : (t : ℕ) → seek-lts.Need-features-word-requires (seek-claims t) (seek-at t) seek.Post
+seek-features-word-requires t c κs = omega (arith, (c .before .before) .pre .1 .0 .sound .header .room)
 
 seek-wide-requires : (t : ℕ) → seek-lts.Need-wide-requires (seek-claims t) (seek-at t) seek.Post
 seek-wide-requires t c κs = search needs
@@ -68,11 +69,8 @@ seek-smallest-requires : (t : ℕ) → seek-lts.Need-smallest-requires (seek-cla
 seek-smallest-requires t c κs = let a = (c .before .before .before .before .before .before .before .before .before) .args in let p = (c .before .before .before .before .before .before .before .before .before) .pre .1 in let l : a .k < features (a .t .now) = omega arith in
     (p .0, l, omega (arith, (c .before .before .before .value-of) .ensures .0, seek-valid (p .0) (a .number) (a .t6) l (omega (arith, (c .before .before .before .before .before .before .before .before .before) .good .1 .1 .1 .1 .1 .0 .1)) (p .2) .0), p .1)
 
-seek-add-head-word : (t : ℕ) → seek-lts.Need-add-head-word (seek-claims t) (seek-at t) seek.Post
-seek-add-head-word t c = let p = (c .before .before .before .before .before .before .before .before .before .before) .pre .1 in omega (arith, p .0 .sound .header .few)
-
-seek-head-word-requires-2 : (t : ℕ) → seek-lts.Need-head-word-requires-2 (seek-claims t) (seek-at t) seek.Post
-seek-head-word-requires-2 t c κs = let h = (c .before .before .before .before .before .before .before .before .before .before) .pre .1 .0 .sound .header in omega (arith, h .few, h .room)
+seek-size-word-requires : (t : ℕ) → seek-lts.Need-size-word-requires (seek-claims t) (seek-at t) seek.Post
+seek-size-word-requires t c κs = let h = (c .before .before .before .before .before .before .before .before .before .before) .pre .1 .0 .sound .header in omega (arith, h .few, h .room)
 
 seek-wide-requires-2 : (t : ℕ) → seek-lts.Need-wide-requires-2 (seek-claims t) (seek-at t) seek.Post
 seek-wide-requires-2 t c κs = search needs
@@ -80,7 +78,7 @@ seek-wide-requires-2 t c κs = search needs
 seek-returns-3 : (t : ℕ) → seek-lts.Need-returns-3 (seek-claims t) (seek-at t) seek.Post
 seek-returns-3 t c = let a = (c .before .before .before .before .before .before .before .before .before .before .before .before .before) .args in let p = (c .before .before .before .before .before .before .before .before .before .before .before .before .before) .pre .1 in
     seek-none (p .0) (a .number) (a .t6) (omega arith) (omega (arith, (c .before .before .before .before .before .before .before .before .before .before .before .before .before) .good .1 .1 .1 .1 .1 .0 .1)) ((c .before .before .before .before .before .before .before .value-of) .result) ((c .before .before .before .before .before .before .child) .result) ((c .before .before .before .before .before .before .before .value-of) .ensures .0) ((c .before .before .before .before .before .before .child) .ensures) (p .2) ((c .before .before .before .before .before .seek) .result .found) ((c .before .before .before .before .before .seek) .result .values) ((c .before .before .before .smallest) .result) ((c .before .before .before .before .if2) .left) ((c .before .before .before .before .before .seek) .ensures) ((c .before .before .before .smallest) .ensures)
-    (omega (arith, (c .before .wide2) .ensures .0, (c .before .before .head-word2) .ensures))
+    (omega (arith, (c .before .wide2) .ensures .0, (c .before .before .size-word) .ensures))
 
 seek-cast-to : (t : ℕ) → seek-lts.Need-cast-to (seek-claims t) (seek-at t) seek.Post
 seek-cast-to t c = let a = (c .before .before .before .before .before .before .before .before .before .before .before .before .before) .args in let p = (c .before .before .before .before .before .before .before .before .before .before .before .before .before) .pre .1 in omega (arith, (c .before .before .before .smallest) .ensures .most, p .0 .sound .header .fit .large (a .k) (omega arith) .1)
@@ -92,23 +90,23 @@ seek-add-complete : (t : ℕ) → seek-lts.Need-add-complete (seek-claims t) (se
 seek-add-complete t c = let p = (c .before .before .before .before .before .before .before .before .before .before .before .before .before) .pre .1 in omega (arith, p .0 .sound .header .few)
 
 seek-child-requires-2 : (t : ℕ) → seek-lts.Need-child-requires-2 (seek-claims t) (seek-at t) seek.Post
-seek-child-requires-2 t c κs = ((c .before .before .before .before .before .before .before .before .before .before .before .before .before) .pre .1 .0, omega (arith, (c .before .wide2) .ensures .0, (c .before .before .head-word2) .ensures))
+seek-child-requires-2 t c κs = ((c .before .before .before .before .before .before .before .before .before .before .before .before .before) .pre .1 .0, omega (arith, (c .before .wide2) .ensures .0, (c .before .before .size-word) .ensures))
 
 seek-complete-requires : (t : ℕ) → seek-lts.Need-complete-requires (seek-claims t) (seek-at t) seek.Post
 seek-complete-requires t c κs = let a = (c .before .before .before .before .before .before .before .before .before .before .before .before .before .before) .args in let p = (c .before .before .before .before .before .before .before .before .before .before .before .before .before .before) .pre .1 in let l : a .k < features (a .t .now) = omega arith in
-    (spot-next (p .0) ((c .before .before .before .before .smallest) .result) ((c .child2) .result) ((c .child2) .ensures) l, p .1, leads-next (p .0) l (a .number) ((c .before .before .before .before .smallest) .result) ((c .child2) .result) ((c .child2) .ensures) ((c .before .before .before .before .smallest) .ensures .leads (omega (arith, (c .before .before .wide2) .ensures .0, (c .before .before .before .head-word2) .ensures))))
+    (spot-next (p .0) ((c .before .before .before .before .smallest) .result) ((c .child2) .result) ((c .child2) .ensures) l, p .1, leads-next (p .0) l (a .number) ((c .before .before .before .before .smallest) .result) ((c .child2) .result) ((c .child2) .ensures) ((c .before .before .before .before .smallest) .ensures .leads (omega (arith, (c .before .before .wide2) .ensures .0, (c .before .before .before .size-word) .ensures))))
 
 seek-returns-4 : (t : ℕ) → seek-lts.Need-returns-4 (seek-claims t) (seek-at t) seek.Post
 seek-returns-4 t c = let a = (c .before .before .before .before .before .before .before .before .before .before .before .before .before .before .before) .args in let p = (c .before .before .before .before .before .before .before .before .before .before .before .before .before .before .before) .pre .1 in
     seek-greater (p .0) (a .number) (a .t6) (omega arith) (omega (arith, (c .before .before .before .before .before .before .before .before .before .before .before .before .before .before .before) .good .1 .1 .1 .1 .1 .0 .1)) ((c .before .before .before .before .before .before .before .before .before .value-of) .result) ((c .before .before .before .before .before .before .before .before .child) .result) ((c .before .before .before .before .before .before .before .before .before .value-of) .ensures .0) ((c .before .before .before .before .before .before .before .before .child) .ensures) (p .2) ((c .before .before .before .before .before .before .before .seek) .result .found) ((c .before .before .before .before .before .before .before .seek) .result .values) ((c .before .before .before .before .before .smallest) .result) ((c .before .before .before .before .before .before .if2) .left) ((c .before .before .before .before .before .before .before .seek) .ensures) ((c .before .before .before .before .before .smallest) .ensures)
-    (omega (arith, (c .before .before .before .wide2) .ensures .0, (c .before .before .before .before .head-word2) .ensures))
+    (omega (arith, (c .before .before .before .wide2) .ensures .0, (c .before .before .before .before .size-word) .ensures))
     ((c .before .child2) .result) ((c .complete) .result) ((c .before .child2) .ensures) ((c .complete) .ensures)
 
 pub +seek-spec : {M : Type 1} → statement M
 +seek-spec = close μ-seek λ t. seek-lts.spec (seek-claims t)
     (seek-at t)
     seek.Post
-    (seek-head-word-requires t)
+    (seek-features-word-requires t)
     (seek-wide-requires t)
     (seek-returns t)
     (seek-array-read-value-of t)
@@ -119,8 +117,7 @@ pub +seek-spec : {M : Type 1} → statement M
     (seek-returns-2 t)
     (seek-add-smallest t)
     (seek-smallest-requires t)
-    (seek-add-head-word t)
-    (seek-head-word-requires-2 t)
+    (seek-size-word-requires t)
     (seek-wide-requires-2 t)
     (seek-returns-3 t)
     (seek-cast-to t)

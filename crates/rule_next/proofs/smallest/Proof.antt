@@ -16,17 +16,14 @@ Inv-loop t has number k b from s v₀ v = (s ≡ size t k) × (v ≤ s) × Passe
 abbrev μ-loop : tie.MeasureT-loop
 μ-loop t has number k b from s v₀ v = s - v
 
-add-head-word : tie.Need-add-head-word Inv-loop μ-loop
-add-head-word c = let p = (c .before .before) .pre in let h = p .0 .sound .header in omega (arith, h .few)
-
-head-word-requires : tie.Need-head-word-requires Inv-loop μ-loop
-head-word-requires c κs = let p = (c .before .before) .pre in let h = p .0 .sound .header in omega (arith, h .few, h .room)
+size-word-requires : tie.Need-size-word-requires Inv-loop μ-loop
+size-word-requires c κs = let p = (c .before .before) .pre in let h = p .0 .sound .header in omega (arith, h .few, h .room)
 
 wide-requires : tie.Need-wide-requires Inv-loop μ-loop
 wide-requires c κs = search needs
 
 loop-holds : tie.Need-loop-holds Inv-loop μ-loop
-loop-holds c = ((c .wide) .ensures .0 ∙ (c .before .head-word) .ensures, omega (arith, (c .before .before .before .before) .pre .2), passed-none _ _ _ _ _)
+loop-holds c = ((c .wide) .ensures .0 ∙ (c .before .size-word) .ensures, omega (arith, (c .before .before .before .before) .pre .2), passed-none _ _ _ _ _)
 
 child-requires : tie.Need-child-requires Inv-loop μ-loop
 child-requires c κs = ((c .before .before .before .before .before .before) .pre .0, omega arith)
@@ -65,8 +62,7 @@ smallest-spec =
     (tie.spec
     Inv-loop
     μ-loop
-    add-head-word
-    head-word-requires
+    size-word-requires
     wide-requires
     loop-holds
     child-requires

@@ -1,12 +1,10 @@
 -- `rule_nodes::make` meets its contract: what was found is there; what is missing becomes the last node, where there is room. Assumes nothing.
 use Rattle.rule_nodes.proofs.Making.{found-at, found-missing, made-new, made-none, made-there}
 use native.Mathlib.Omega.{arith}
-use Prim.Native.Nat.{ℕ, _+_}
-use mathlib.Core.Path.{_≡_, ap, _∙_}
+use mathlib.Core.Path.{_∙_}
 use borrow.Author.Needs.{needs}
 use Rattle.rule_nodes.proofs.make.Statement.{statement}
 use Rattle.rule_nodes.proofs.make.Tie as tie
-use Rattle.promises.specs.Words.{count}
 
 find-requires : tie.Need-find-requires
 find-requires c κs = search needs
@@ -17,11 +15,11 @@ enum-known-b c = search needs
 enum-told : tie.Need-enum-told
 enum-told c = search needs
 
-head-word-requires : tie.Need-head-word-requires
-head-word-requires c κs = search needs
+count-word-requires : tie.Need-count-word-requires
+count-word-requires c κs = search needs
 
-head-word-requires-2 : tie.Need-head-word-requires-2
-head-word-requires-2 c κs = search needs
+capacity-word-requires : tie.Need-capacity-word-requires
+capacity-word-requires c κs = search needs
 
 push-requires : tie.Need-push-requires
 push-requires c κs = search needs
@@ -39,8 +37,7 @@ returns : tie.Need-returns
 returns c = let a = (c .before .before .before .before .before .before .before .before .before .before .before .before .before .before .before .before) in
     let w = a .args .t .now in
     let ab = found-missing w (a .args .k) (a .args .list) _ ((c .before .before .before .before .before .before .before .before .before .before .before .enum-told) .given .1) ((c .before .before .before .before .before .before .before .before .before .before .before .before .before .find) .ensures) in
-    let e : (c .branch-word) .result ≡ 65536 + count w = (c .branch-word) .ensures ∙ ap (λ (i : ℕ). 65536 + i) ((c .before .narrow) .ensures ∙ (c .before .before .before .before .push) .ensures .0) in
-    made-new w (a .args .k) (a .args .list) (a .pre .0) (a .pre .1) (a .pre .2) _ _ ab (omega arith) e ((c .before .before .before .before .push) .ensures .1)
+    made-new w (a .args .k) (a .args .list) (a .pre .0) (a .pre .1) (a .pre .2) _ _ ((c .before .narrow) .result) ab (omega arith) ((c .branch-word) .ensures) ((c .before .narrow) .ensures ∙ (c .before .before .before .before .push) .ensures .0) ((c .before .before .before .before .push) .ensures .1)
 
 same-length-2 : tie.Need-same-length-2
 same-length-2 c = search needs
@@ -60,8 +57,7 @@ same-length-3 c = search needs
 returns-3 : tie.Need-returns-3
 returns-3 c = let a = (c .before .before .before .before .before .before .before) in
     let w = a .args .t .now in
-    rw ((c .branch-word2) .ensures)
-    (made-there w (a .args .k) (a .args .list) (a .pre .0) (a .pre .1) (a .pre .2) _ (found-at w (a .args .k) (a .args .list) _ ((c .before .before .b) .given .0 .0) ((c .before .before .b) .given .1) ((c .before .before .before .before .find) .ensures) .0))
+    made-there w (a .args .k) (a .args .list) (a .pre .0) (a .pre .1) (a .pre .2) _ ((c .before .before .b) .given .0 .0) ((c .branch-word2) .ensures) (found-at w (a .args .k) (a .args .list) _ ((c .before .before .b) .given .0 .0) ((c .before .before .b) .given .1) ((c .before .before .before .before .find) .ensures) .0)
 
 pub make-spec : {M : Type 1} → statement M
 make-spec =
@@ -70,8 +66,8 @@ make-spec =
     find-requires
     enum-known-b
     enum-told
-    head-word-requires
-    head-word-requires-2
+    count-word-requires
+    capacity-word-requires
     push-requires
     narrow-requires
     branch-word-requires

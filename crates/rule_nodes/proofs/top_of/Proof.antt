@@ -5,8 +5,8 @@ use borrow.Author.Needs.{needs}
 use Rattle.rule_nodes.proofs.top_of.Statement.{statement}
 use Rattle.rule_nodes.proofs.top_of.Tie as tie
 
-head-word-requires : tie.Need-head-word-requires
-head-word-requires c κs = search needs
+features-word-requires : tie.Need-features-word-requires
+features-word-requires c κs = search needs
 
 wide-requires : tie.Need-wide-requires
 wide-requires c κs = search needs
@@ -30,7 +30,7 @@ pub top-of-spec : {M : Type 1} → statement M
 top-of-spec =
     tie.close
     (tie.spec
-    head-word-requires
+    features-word-requires
     wide-requires
     wide-requires-2
     record-word-requires

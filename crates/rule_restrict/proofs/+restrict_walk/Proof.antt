@@ -18,7 +18,7 @@ use Rattle.rule_nodes.proofs.make.Reads as make-reads
 use Rattle.rule_nodes.proofs.top_of.Reads as top-of-reads
 use Rattle.rule_restrict.proofs.note_of.Reads as note-of-reads
 use Rattle.rule_restrict.proofs.put_note.Reads as put-note-reads
-use Rattle.words.proofs.head_word.Reads as head-word-reads
+use Rattle.words.proofs.size_word.Reads as size-word-reads
 use Rattle.words.proofs.wide.Reads as wide-reads
 use Rattle.rule_restrict.proofs.+restrict_walk.{statement}
 use Rattle.rule_restrict.proofs.+restrict_walk.Tie.{close}
@@ -46,7 +46,7 @@ abbrev restrict-walk-μ-loop : restrict-walk-lts.MeasureT-loop
 restrict-walk-μ-loop t₀ b f x k i known m list₀ v₀ t list v = m - v
 
 abbrev restrict-walk-claims : ℕ → restrict-walk-lts.Claims
-restrict-walk-claims t = (top-of-reads.Asked, top-of-reads.Learnt, child-of-reads.Asked, child-of-reads.Learnt, wide-reads.Asked, wide-reads.Learnt, note-of-reads.Asked, note-of-reads.Learnt, head-word-reads.Asked, head-word-reads.Learnt, restrict-walk-below t, restrict-walk.Post, make-reads.Asked, make-reads.Learnt, put-note-reads.Asked, put-note-reads.Learnt)
+restrict-walk-claims t = (top-of-reads.Asked, top-of-reads.Learnt, child-of-reads.Asked, child-of-reads.Learnt, wide-reads.Asked, wide-reads.Learnt, note-of-reads.Asked, note-of-reads.Learnt, size-word-reads.Asked, size-word-reads.Learnt, restrict-walk-below t, restrict-walk.Post, make-reads.Asked, make-reads.Learnt, put-note-reads.Asked, put-note-reads.Learnt)
 
 restrict-walk-top-of-requires : (t : ℕ) → restrict-walk-lts.Need-top-of-requires (restrict-walk-claims t) (restrict-walk-at t) restrict-walk.Post restrict-walk-Inv-loop restrict-walk-μ-loop
 restrict-walk-top-of-requires t c κs = let a = (c .before .before) in (walk-holds _ _ _ _ (a .pre .1) .laid .laid, walk-small _ _ _ _ (a .pre .1))
@@ -81,11 +81,8 @@ restrict-walk-returns-2 : (t : ℕ) → restrict-walk-lts.Need-returns-2 (restri
 restrict-walk-returns-2 t c = let a = (c .before .before .before .before .before .before .before .before) in
     walked-known _ _ _ _ (a .pre .1) ((c .before .before .before .before .before .top-of) .result) ((c .before .before .before .wide) .result) ((c .before .before .before .before .before .top-of) .ensures) (omega arith) (omega arith) _ ((c .before .note-of) .ensures) (omega arith)
 
-restrict-walk-add-head-word : (t : ℕ) → restrict-walk-lts.Need-add-head-word (restrict-walk-claims t) (restrict-walk-at t) restrict-walk.Post restrict-walk-Inv-loop restrict-walk-μ-loop
-restrict-walk-add-head-word t c = let a = (c .before .before .before .before .before .before .before .before .before) in omega (arith, walk-known _ _ _ _ (a .pre .1), walk-holds _ _ _ _ (a .pre .1) .laid .laid .few)
-
-restrict-walk-head-word-requires : (t : ℕ) → restrict-walk-lts.Need-head-word-requires (restrict-walk-claims t) (restrict-walk-at t) restrict-walk.Post restrict-walk-Inv-loop restrict-walk-μ-loop
-restrict-walk-head-word-requires t c κs = let a = (c .before .before .before .before .before .before .before .before .before) in omega (arith, walk-known _ _ _ _ (a .pre .1), walk-holds _ _ _ _ (a .pre .1) .laid .laid .few, a .pre .1 .room .room)
+restrict-walk-size-word-requires : (t : ℕ) → restrict-walk-lts.Need-size-word-requires (restrict-walk-claims t) (restrict-walk-at t) restrict-walk.Post restrict-walk-Inv-loop restrict-walk-μ-loop
+restrict-walk-size-word-requires t c κs = let a = (c .before .before .before .before .before .before .before .before .before) in omega (arith, walk-known _ _ _ _ (a .pre .1), walk-holds _ _ _ _ (a .pre .1) .laid .laid .few, a .pre .1 .room .room)
 
 restrict-walk-wide-requires-2 : (t : ℕ) → restrict-walk-lts.Need-wide-requires-2 (restrict-walk-claims t) (restrict-walk-at t) restrict-walk.Post restrict-walk-Inv-loop restrict-walk-μ-loop
 restrict-walk-wide-requires-2 t c κs = search needs
@@ -239,8 +236,7 @@ pub +restrict-walk-spec : {M : Type 1} → statement M
     (restrict-walk-sub-t23 t)
     (restrict-walk-same-length-2 t)
     (restrict-walk-returns-2 t)
-    (restrict-walk-add-head-word t)
-    (restrict-walk-head-word-requires t)
+    (restrict-walk-size-word-requires t)
     (restrict-walk-wide-requires-2 t)
     (restrict-walk-loop-holds t)
     (restrict-walk-child-of-requires-2 t)

@@ -16,8 +16,8 @@ Inv-loop t₀ n i₀ t i = (n ≡ count t₀) × (i ≤ n) × Clearing t₀ t i 
 abbrev μ-loop : tie.MeasureT-loop
 μ-loop t₀ n i₀ t i = n - i
 
-head-word-requires : tie.Need-head-word-requires Inv-loop μ-loop
-head-word-requires c κs = search needs
+count-word-requires : tie.Need-count-word-requires Inv-loop μ-loop
+count-word-requires c κs = search needs
 
 wide-requires : tie.Need-wide-requires Inv-loop μ-loop
 wide-requires c κs = search needs
@@ -55,7 +55,7 @@ clear-notes-spec =
     (tie.spec
     Inv-loop
     μ-loop
-    head-word-requires
+    count-word-requires
     wide-requires
     loop-holds
     put-note-requires

@@ -8,8 +8,8 @@ use borrow.Author.Needs.{needs}
 use Rattle.rule_restrict.proofs.note_of.Statement.{statement}
 use Rattle.rule_restrict.proofs.note_of.Tie as tie
 
-head-word-requires : tie.Need-head-word-requires
-head-word-requires c κs = search needs
+capacity-word-requires : tie.Need-capacity-word-requires
+capacity-word-requires c κs = search needs
 
 wide-requires : tie.Need-wide-requires
 wide-requires c κs = search needs
@@ -36,7 +36,7 @@ pub note-of-spec : {M : Type 1} → statement M
 note-of-spec =
     tie.close
     (tie.spec
-    head-word-requires
+    capacity-word-requires
     wide-requires
     add-far
     mul-result

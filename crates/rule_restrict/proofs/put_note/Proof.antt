@@ -8,8 +8,8 @@ use borrow.Author.Needs.{needs}
 use Rattle.rule_restrict.proofs.put_note.Statement.{statement}
 use Rattle.rule_restrict.proofs.put_note.Tie as tie
 
-head-word-requires : tie.Need-head-word-requires
-head-word-requires c κs = search needs
+capacity-word-requires : tie.Need-capacity-word-requires
+capacity-word-requires c κs = search needs
 
 wide-requires : tie.Need-wide-requires
 wide-requires c κs = search needs
@@ -39,7 +39,7 @@ pub put-note-spec : {M : Type 1} → statement M
 put-note-spec =
     tie.close
     (tie.spec
-    head-word-requires
+    capacity-word-requires
     wide-requires
     add-far
     mul-t

@@ -16,7 +16,7 @@ use Rattle.rule_sound.proofs.+visit+visit_list.Lts-visit as visit-lts
 use Rattle.rule_sound.proofs.visit_list.Reads as visit-list
 use Rattle.rule_sound.proofs.visit_list.Kinds as visit-list-kinds
 use Rattle.rule_sound.proofs.+visit+visit_list.Lts-visit_list as visit-list-lts
-use Rattle.words.proofs.head_word.Reads as head-word-reads
+use Rattle.words.proofs.size_word.Reads as size-word-reads
 use Rattle.words.proofs.record_word.Reads as record-word-reads
 use Rattle.words.proofs.wide.Reads as wide-reads
 use Rattle.rule_sound.proofs.+visit+visit_list.{statement}
@@ -47,7 +47,7 @@ abbrev visit-claims : ℕ → visit-lts.Claims
 visit-claims t = (wide-reads.Asked, wide-reads.Learnt, visit-list-below t, visit-list.Post)
 
 abbrev visit-list-claims : ℕ → visit-list-lts.Claims
-visit-list-claims t = (record-word-reads.Asked, record-word-reads.Learnt, wide-reads.Asked, wide-reads.Learnt, head-word-reads.Asked, head-word-reads.Learnt, visit-below t, visit.Post)
+visit-list-claims t = (record-word-reads.Asked, record-word-reads.Learnt, wide-reads.Asked, wide-reads.Learnt, size-word-reads.Asked, size-word-reads.Learnt, visit-below t, visit.Post)
 
 visit-returns : (t : ℕ) → visit-lts.Need-returns (visit-claims t) (visit-at t) visit.Post
 visit-returns t c = visits-end goes _ ((c .if1) .taken) ((c .before .before) .pre .1 .2)
@@ -82,17 +82,14 @@ visit-list-record-word-requires t c κs = let p = (c .before) .pre .1 in let h =
 visit-list-wide-requires : (t : ℕ) → visit-list-lts.Need-wide-requires (visit-list-claims t) (visit-list-at t) visit-list.Post visit-list-Inv-loop visit-list-μ-loop
 visit-list-wide-requires t c κs = search needs
 
-visit-list-add-head-word : (t : ℕ) → visit-list-lts.Need-add-head-word (visit-list-claims t) (visit-list-at t) visit-list.Post visit-list-Inv-loop visit-list-μ-loop
-visit-list-add-head-word t c = let p = (c .before .before .before) .pre .1 in let k = p .0 .nodes-ok .each _ (p .1) .known in omega (arith, p .0 .header .few)
-
-visit-list-head-word-requires : (t : ℕ) → visit-list-lts.Need-head-word-requires (visit-list-claims t) (visit-list-at t) visit-list.Post visit-list-Inv-loop visit-list-μ-loop
-visit-list-head-word-requires t c κs = let p = (c .before .before .before) .pre .1 in let k = p .0 .nodes-ok .each _ (p .1) .known in omega (arith, p .0 .header .few, p .0 .header .room)
+visit-list-size-word-requires : (t : ℕ) → visit-list-lts.Need-size-word-requires (visit-list-claims t) (visit-list-at t) visit-list.Post visit-list-Inv-loop visit-list-μ-loop
+visit-list-size-word-requires t c κs = let p = (c .before .before .before) .pre .1 in let k = p .0 .nodes-ok .each _ (p .1) .known in omega (arith, p .0 .header .few, p .0 .header .room)
 
 visit-list-wide-requires-2 : (t : ℕ) → visit-list-lts.Need-wide-requires-2 (visit-list-claims t) (visit-list-at t) visit-list.Post visit-list-Inv-loop visit-list-μ-loop
 visit-list-wide-requires-2 t c κs = search needs
 
 visit-list-loop-holds : (t : ℕ) → visit-list-lts.Need-loop-holds (visit-list-claims t) (visit-list-at t) visit-list.Post visit-list-Inv-loop visit-list-μ-loop
-visit-list-loop-holds t c = let a = (c .before .before .before .before .before) in ((c .wide2) .ensures .0 ∙ (c .before .head-word) .ensures ∙ ap (size (a .args .t .now)) ((c .before .before .wide) .ensures .0 ∙ (c .before .before .before .record-word) .ensures), omega arith, walk-none _ _ _ _ (a .pre .1 .2))
+visit-list-loop-holds t c = let a = (c .before .before .before .before .before) in ((c .wide2) .ensures .0 ∙ (c .before .size-word) .ensures ∙ ap (size (a .args .t .now)) ((c .before .before .wide) .ensures .0 ∙ (c .before .before .before .record-word) .ensures), omega arith, walk-none _ _ _ _ (a .pre .1 .2))
 
 visit-list-add-record-word : (t : ℕ) → visit-list-lts.Need-add-record-word (visit-list-claims t) (visit-list-at t) visit-list.Post visit-list-Inv-loop visit-list-μ-loop
 visit-list-add-record-word t c = search needs
@@ -141,8 +138,7 @@ pub +visit+visit-list-spec : {M : Type 1} → statement M
     visit-list-μ-loop
     (visit-list-record-word-requires t)
     (visit-list-wide-requires t)
-    (visit-list-add-head-word t)
-    (visit-list-head-word-requires t)
+    (visit-list-size-word-requires t)
     (visit-list-wide-requires-2 t)
     (visit-list-loop-holds t)
     (visit-list-add-record-word t)

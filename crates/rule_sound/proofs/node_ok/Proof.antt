@@ -13,8 +13,8 @@ record-word-requires c κs = let p = (c .before) .pre in (omega (arith, p .0 .ro
 wide-requires : tie.Need-wide-requires
 wide-requires c κs = search needs
 
-head-word-requires : tie.Need-head-word-requires
-head-word-requires c κs = let p = (c .before .before .before) .pre in omega (arith, p .0 .room)
+features-word-requires : tie.Need-features-word-requires
+features-word-requires c κs = let p = (c .before .before .before) .pre in omega (arith, p .0 .room)
 
 wide-requires-2 : tie.Need-wide-requires-2
 wide-requires-2 c κs = search needs
@@ -34,11 +34,8 @@ alike-requires c κs = let p = (c .before .before .before .before .before .befor
 returns-3 : tie.Need-returns-3
 returns-3 c = λ z. z .differ (sure ((c .if3) .taken) ((c .before .alike) .ensures))
 
-add-head-word : tie.Need-add-head-word
-add-head-word c = search needs
-
-head-word-requires-2 : tie.Need-head-word-requires-2
-head-word-requires-2 c κs = let p = (c .before .before .before .before .before .before .before .before .before .before) .pre in omega (arith, p .0 .room, p .0 .few)
+size-word-requires : tie.Need-size-word-requires
+size-word-requires c κs = let p = (c .before .before .before .before .before .before .before .before .before .before) .pre in omega (arith, p .0 .room, p .0 .few)
 
 wide-requires-3 : tie.Need-wide-requires-3
 wide-requires-3 c κs = search needs
@@ -63,7 +60,7 @@ zeros-requires c κs = let p = (c .before .before .before .before .before .befor
 
 returns-4 : tie.Need-returns-4
 returns-4 c = let a = (c .before .before .before .before .before .before .before .before .before .before .before .before .before .before) .args in
-    let e : (c .before .before .wide3) .result ≡ size (a .t .now) (feature (a .t .now) (a .i)) = (c .before .before .wide3) .ensures .0 ∙ (c .before .before .before .head-word2) .ensures ∙ ap (size (a .t .now)) ((c .before .before .before .before .before .before .before .before .before .before .before .wide) .ensures .0 ∙ (c .before .before .before .before .before .before .before .before .before .before .before .before .record-word) .ensures) in
+    let e : (c .before .before .wide3) .result ≡ size (a .t .now) (feature (a .t .now) (a .i)) = (c .before .before .wide3) .ensures .0 ∙ (c .before .before .before .size-word) .ensures ∙ ap (size (a .t .now)) ((c .before .before .before .before .before .before .before .before .before .before .before .wide) .ensures .0 ∙ (c .before .before .before .before .before .before .before .before .before .before .before .before .record-word) .ensures) in
     λ z. denied ((c .before .zeros) .result) ((c .if4) .taken) ((c .before .zeros) .ensures) (record { zeros = λ j h g. z .padded .zeros j (omega arith) (omega arith) })
 
 add-zeros-4 : tie.Need-add-zeros-4
@@ -77,11 +74,11 @@ zeros-requires-2 c κs = let p = (c .before .before .before .before .before .bef
 
 returns-5 : tie.Need-returns-5
 returns-5 c = let a = (c .before .before .before .before .before .before .before .before .before .before .before .before .before .before .before) .args in
-    let e : (c .before .before .before .wide3) .result ≡ size (a .t .now) (feature (a .t .now) (a .i)) = (c .before .before .before .wide3) .ensures .0 ∙ (c .before .before .before .before .head-word2) .ensures ∙ ap (size (a .t .now)) ((c .before .before .before .before .before .before .before .before .before .before .before .before .wide) .ensures .0 ∙ (c .before .before .before .before .before .before .before .before .before .before .before .before .before .record-word) .ensures) in
+    let e : (c .before .before .before .wide3) .result ≡ size (a .t .now) (feature (a .t .now) (a .i)) = (c .before .before .before .wide3) .ensures .0 ∙ (c .before .before .before .before .size-word) .ensures ∙ ap (size (a .t .now)) ((c .before .before .before .before .before .before .before .before .before .before .before .before .wide) .ensures .0 ∙ (c .before .before .before .before .before .before .before .before .before .before .before .before .before .record-word) .ensures) in
     retell ((c .zeros2) .result)
     (λ q.
     record {
-      known = omega (arith, (c .before .before .before .before .before .before .before .before .before .if1), (c .before .before .before .before .before .before .before .before .before .before .before .before .wide) .ensures, (c .before .before .before .before .before .before .before .before .before .before .before .before .before .record-word) .ensures, (c .before .before .before .before .before .before .before .before .before .before .wide2) .ensures, (c .before .before .before .before .before .before .before .before .before .before .before .head-word) .ensures);
+      known = omega (arith, (c .before .before .before .before .before .before .before .before .before .if1), (c .before .before .before .before .before .before .before .before .before .before .before .before .wide) .ensures, (c .before .before .before .before .before .before .before .before .before .before .before .before .before .record-word) .ensures, (c .before .before .before .before .before .before .before .before .before .before .wide2) .ensures, (c .before .before .before .before .before .before .before .before .before .before .before .features-word) .ensures);
       lower = granted ((c .before .before .before .before .before .before .before .before .lower) .result) ((c .before .before .before .before .before .before .before .if2) .left) ((c .before .before .before .before .before .before .before .before .lower) .ensures);
       differ = sure-not ((c .before .before .before .before .before .if3) .left) ((c .before .before .before .before .before .before .alike) .ensures);
       padded = record { zeros = λ j h g. granted ((c .before .before .zeros) .result) ((c .before .if4) .left) ((c .before .before .zeros) .ensures) .zeros j (omega arith) (omega arith) };
@@ -96,15 +93,14 @@ node-ok-spec =
     (tie.spec
     record-word-requires
     wide-requires
-    head-word-requires
+    features-word-requires
     wide-requires-2
     returns
     lower-requires
     returns-2
     alike-requires
     returns-3
-    add-head-word
-    head-word-requires-2
+    size-word-requires
     wide-requires-3
     mul-base
     add-base

@@ -24,8 +24,8 @@ head-word-requires c κs = search needs
 wide-requires : tie.Need-wide-requires Inv-loop μ-loop
 wide-requires c κs = search needs
 
-head-word-requires-2 : tie.Need-head-word-requires-2 Inv-loop μ-loop
-head-word-requires-2 c κs = search needs
+capacity-word-requires : tie.Need-capacity-word-requires Inv-loop μ-loop
+capacity-word-requires c κs = search needs
 
 wide-requires-2 : tie.Need-wide-requires-2 Inv-loop μ-loop
 wide-requires-2 c κs = search needs
@@ -150,7 +150,7 @@ add-copy-spec =
     μ-loop
     head-word-requires
     wide-requires
-    head-word-requires-2
+    capacity-word-requires
     wide-requires-2
     add-base
     mul-base

@@ -17,8 +17,8 @@ abbrev μ-loop : tie.MeasureT-loop
 head-word-requires : tie.Need-head-word-requires Inv-loop μ-loop
 head-word-requires c κs = search needs
 
-head-word-requires-2 : tie.Need-head-word-requires-2 Inv-loop μ-loop
-head-word-requires-2 c κs = search needs
+capacity-word-requires : tie.Need-capacity-word-requires Inv-loop μ-loop
+capacity-word-requires c κs = search needs
 
 wide-requires : tie.Need-wide-requires Inv-loop μ-loop
 wide-requires c κs = search needs
@@ -29,8 +29,8 @@ mul-far c = search needs
 add-far : tie.Need-add-far Inv-loop μ-loop
 add-far c = search needs
 
-head-word-requires-3 : tie.Need-head-word-requires-3 Inv-loop μ-loop
-head-word-requires-3 c κs = search needs
+count-word-requires : tie.Need-count-word-requires Inv-loop μ-loop
+count-word-requires c κs = search needs
 
 wide-requires-2 : tie.Need-wide-requires-2 Inv-loop μ-loop
 wide-requires-2 c κs = search needs
@@ -101,11 +101,11 @@ bring-back-spec =
     Inv-loop
     μ-loop
     head-word-requires
-    head-word-requires-2
+    capacity-word-requires
     wide-requires
     mul-far
     add-far
-    head-word-requires-3
+    count-word-requires
     wide-requires-2
     mul-end
     loop-holds

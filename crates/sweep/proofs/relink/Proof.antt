@@ -15,8 +15,8 @@ Inv-loop t₀ n i₀ t i = (n ≡ count t₀) × (i ≤ n) × Relinking t₀ t i
 abbrev μ-loop : tie.MeasureT-loop
 μ-loop t₀ n i₀ t i = n - i
 
-head-word-requires : tie.Need-head-word-requires Inv-loop μ-loop
-head-word-requires c κs = omega (arith, (c .before .before) .pre .room)
+count-word-requires : tie.Need-count-word-requires Inv-loop μ-loop
+count-word-requires c κs = omega (arith, (c .before .before) .pre .room)
 
 wide-requires : tie.Need-wide-requires Inv-loop μ-loop
 wide-requires c κs = search needs
@@ -89,7 +89,7 @@ relink-spec =
     (tie.spec
     Inv-loop
     μ-loop
-    head-word-requires
+    count-word-requires
     wide-requires
     loop-holds
     hash-at-requires

@@ -11,8 +11,8 @@ use borrow.Author.Needs.{needs}
 use Rattle.both_tables.proofs.call_choose.put_choice.Statement.{statement}
 use Rattle.both_tables.proofs.call_choose.put_choice.Tie as tie
 
-head-word-requires : tie.Need-head-word-requires
-head-word-requires c κs = omega (arith, sound-long ((c .before .before .before .before) .pre .1))
+count-word-requires : tie.Need-count-word-requires
+count-word-requires c κs = omega (arith, sound-long ((c .before .before .before .before) .pre .1))
 
 wide-requires : tie.Need-wide-requires
 wide-requires c κs = search needs
@@ -31,7 +31,7 @@ choose-costs-requires c κs = let a = (c .before .before .before .before .before
 
 settle-requires : tie.Need-settle-requires
 settle-requires c κs = let a = (c .before .before .before .before .before .before .before .before .before .before .before .before .before .before .before .before .before .before .before) in
-    settle-asks (chosen (ruleOf (a .args .rules .now) (a .args .rule)) (costOf (a .args .t .now) (a .args .a)) (costOf (a .args .t .now) (a .args .b))) ((c .before .before .before .before .before .choose-costs) .result) (a .pre .1) (choice-made _ _ _ _ _ ((c .before .before .before .before .before .before .root-of) .ensures) ((c .before .before .before .before .before .before .before .before .before .before .before .arm-of) .ensures) ((c .before .before .before .before .before .before .before .before .before .arm-of2) .ensures) ((c .before .before .before .before .before .choose-costs) .result) ((c .before .before .before .before .before .choose-costs) .ensures)) (a .pre .3) ((c .before .before .before .before .before .before .before .before .before .before .before .before .before .wide) .ensures .0 ∙ (c .before .before .before .before .before .before .before .before .before .before .before .before .before .before .head-word) .ensures)
+    settle-asks (chosen (ruleOf (a .args .rules .now) (a .args .rule)) (costOf (a .args .t .now) (a .args .a)) (costOf (a .args .t .now) (a .args .b))) ((c .before .before .before .before .before .choose-costs) .result) (a .pre .1) (choice-made _ _ _ _ _ ((c .before .before .before .before .before .before .root-of) .ensures) ((c .before .before .before .before .before .before .before .before .before .before .before .arm-of) .ensures) ((c .before .before .before .before .before .before .before .before .before .arm-of2) .ensures) ((c .before .before .before .before .before .choose-costs) .result) ((c .before .before .before .before .before .choose-costs) .ensures)) (a .pre .3) ((c .before .before .before .before .before .before .before .before .before .before .before .before .before .wide) .ensures .0 ∙ (c .before .before .before .before .before .before .before .before .before .before .before .before .before .before .count-word) .ensures)
     (choice-in (a .args .rules .now) (a .args .rule) (a .args .a) (a .args .b) (a .pre .1) (a .pre .5) (a .pre .6))
 
 same-length : tie.Need-same-length
@@ -42,13 +42,13 @@ same-length-2 c = search needs
 
 returns : tie.Need-returns
 returns c = let a = (c .before .before .before .before .before .before .before .before .before .before .before .before .before .before .before .before .before .before .before .before .before .before) in
-    settles (chosen (ruleOf (a .args .rules .now) (a .args .rule)) (costOf (a .args .t .now) (a .args .a)) (costOf (a .args .t .now) (a .args .b))) ((c .before .before .before .before .before .before .before .before .choose-costs) .result) (a .pre .1) (choice-made _ _ _ _ _ ((c .before .before .before .before .before .before .before .before .before .root-of) .ensures) ((c .before .before .before .before .before .before .before .before .before .before .before .before .before .before .arm-of) .ensures) ((c .before .before .before .before .before .before .before .before .before .before .before .before .arm-of2) .ensures) ((c .before .before .before .before .before .before .before .before .choose-costs) .result) ((c .before .before .before .before .before .before .before .before .choose-costs) .ensures)) (a .pre .3) ((c .before .before .before .before .before .before .before .before .before .before .before .before .before .before .before .before .wide) .ensures .0 ∙ (c .before .before .before .before .before .before .before .before .before .before .before .before .before .before .before .before .before .head-word) .ensures) ((c .before .before .settle) .ensures)
+    settles (chosen (ruleOf (a .args .rules .now) (a .args .rule)) (costOf (a .args .t .now) (a .args .a)) (costOf (a .args .t .now) (a .args .b))) ((c .before .before .before .before .before .before .before .before .choose-costs) .result) (a .pre .1) (choice-made _ _ _ _ _ ((c .before .before .before .before .before .before .before .before .before .root-of) .ensures) ((c .before .before .before .before .before .before .before .before .before .before .before .before .before .before .arm-of) .ensures) ((c .before .before .before .before .before .before .before .before .before .before .before .before .arm-of2) .ensures) ((c .before .before .before .before .before .before .before .before .choose-costs) .result) ((c .before .before .before .before .before .before .before .before .choose-costs) .ensures)) (a .pre .3) ((c .before .before .before .before .before .before .before .before .before .before .before .before .before .before .before .before .wide) .ensures .0 ∙ (c .before .before .before .before .before .before .before .before .before .before .before .before .before .before .before .before .before .count-word) .ensures) ((c .before .before .settle) .ensures)
 
 pub put-choice-spec : {M : Type 1} → statement M
 put-choice-spec =
     tie.close
     (tie.spec
-    head-word-requires
+    count-word-requires
     wide-requires
     arm-of-requires
     arm-of-requires-2

@@ -17,23 +17,20 @@ Inv-loop t setting n k₀ k = (n ≡ features t) × (length setting ≡ n) × (k
 abbrev μ-loop : tie.MeasureT-loop
 μ-loop t setting n k₀ k = n - k
 
-head-word-requires : tie.Need-head-word-requires Inv-loop μ-loop
-head-word-requires c κs = omega (arith, (c .before .before) .pre .0)
+features-word-requires : tie.Need-features-word-requires Inv-loop μ-loop
+features-word-requires c κs = omega (arith, (c .before .before) .pre .0)
 
 wide-requires : tie.Need-wide-requires Inv-loop μ-loop
 wide-requires c κs = search needs
 
 returns : tie.Need-returns Inv-loop μ-loop
-returns c = λ v. (c .if1) .taken (valid-length (sizes ((c .before .before .before .before .before) .args .t .now)) ((c .before .before .before .before .before) .args .setting .now) v ∙ length-sizes ((c .before .before .before .before .before) .args .t .now) ∙ sym ((c .before .wide) .ensures .0 ∙ (c .before .before .head-word) .ensures))
+returns c = λ v. (c .if1) .taken (valid-length (sizes ((c .before .before .before .before .before) .args .t .now)) ((c .before .before .before .before .before) .args .setting .now) v ∙ length-sizes ((c .before .before .before .before .before) .args .t .now) ∙ sym ((c .before .wide) .ensures .0 ∙ (c .before .before .features-word) .ensures))
 
 loop-holds : tie.Need-loop-holds Inv-loop μ-loop
-loop-holds c = ((c .before .wide) .ensures .0 ∙ (c .before .before .head-word) .ensures, (c .if1) .left, omega arith, (λ j h. absurd (omega arith)))
+loop-holds c = ((c .before .wide) .ensures .0 ∙ (c .before .before .features-word) .ensures, (c .if1) .left, omega arith, (λ j h. absurd (omega arith)))
 
-add-head-word : tie.Need-add-head-word Inv-loop μ-loop
-add-head-word c = search needs
-
-head-word-requires-2 : tie.Need-head-word-requires-2 Inv-loop μ-loop
-head-word-requires-2 c κs = omega (arith, (c .before .before .before .before .before .before .before) .pre .0, (c .before .before .before .before .before .before .before) .pre .1, (c .before .loop) .inv .0)
+size-word-requires : tie.Need-size-word-requires Inv-loop μ-loop
+size-word-requires c κs = omega (arith, (c .before .before .before .before .before .before .before) .pre .0, (c .before .before .before .before .before .before .before) .pre .1, (c .before .loop) .inv .0)
 
 shared-slice-read-small : tie.Need-shared-slice-read-small Inv-loop μ-loop
 shared-slice-read-small c = omega (arith, (c .before .before .before .loop) .inv .1)
@@ -44,7 +41,7 @@ small-requires c κs = search needs
 returns-2 : tie.Need-returns-2 Inv-loop μ-loop
 returns-2 c = λ v. let l = (c .before .before .before .before .before .loop) in
     let f : l .k < features ((c .before .before .before .before .before .before .before .before .before .before .before) .args .t .now) = omega (arith, l .inv .0) in
-    omega (arith, valid-at (sizes ((c .before .before .before .before .before .before .before .before .before .before .before) .args .t .now)) ((c .before .before .before .before .before .before .before .before .before .before .before) .args .setting .now) v (l .k) (omega (arith, length-sizes ((c .before .before .before .before .before .before .before .before .before .before .before) .args .t .now))), at-sizes ((c .before .before .before .before .before .before .before .before .before .before .before) .args .t .now) (l .k) f, (c .before .before .before .head-word2) .ensures, (c .before .small) .ensures .0)
+    omega (arith, valid-at (sizes ((c .before .before .before .before .before .before .before .before .before .before .before) .args .t .now)) ((c .before .before .before .before .before .before .before .before .before .before .before) .args .setting .now) v (l .k) (omega (arith, length-sizes ((c .before .before .before .before .before .before .before .before .before .before .before) .args .t .now))), at-sizes ((c .before .before .before .before .before .before .before .before .before .before .before) .args .t .now) (l .k) f, (c .before .before .before .size-word) .ensures, (c .before .small) .ensures .0)
 
 add-k : tie.Need-add-k Inv-loop μ-loop
 add-k c = search needs
@@ -57,7 +54,7 @@ loop-again c = let l = (c .before .before .before .before .before .loop) in (
   l .inv .0,
   l .inv .1,
   omega arith,
-  below-more _ _ (l .inv .3) (omega (arith, (c .before .before .before .head-word2) .ensures, (c .before .small) .ensures .0)),
+  below-more _ _ (l .inv .3) (omega (arith, (c .before .before .before .size-word) .ensures, (c .before .small) .ensures .0)),
 )
 
 returns-3 : tie.Need-returns-3 Inv-loop μ-loop
@@ -73,12 +70,11 @@ setting-fits-spec =
     (tie.spec
     Inv-loop
     μ-loop
-    head-word-requires
+    features-word-requires
     wide-requires
     returns
     loop-holds
-    add-head-word
-    head-word-requires-2
+    size-word-requires
     shared-slice-read-small
     small-requires
     returns-2

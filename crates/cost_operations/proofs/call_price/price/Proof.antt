@@ -33,8 +33,8 @@ returns c = refuses refl refl (turned-away ((c .before .before .before .door) .e
 enum-told : tie.Need-enum-told
 enum-told c = search needs
 
-head-word-requires : tie.Need-head-word-requires
-head-word-requires c κs = omega (arith, sound-long ((c .before .before .before .door) .ensures .sound ((c .before .enum-told) .given .1)))
+features-word-requires : tie.Need-features-word-requires
+features-word-requires c κs = omega (arith, sound-long ((c .before .before .before .door) .ensures .sound ((c .before .enum-told) .given .1)))
 
 wide-requires : tie.Need-wide-requires
 wide-requires c κs = search needs
@@ -44,13 +44,10 @@ same-length-2 c = search needs
 
 returns-2 : tie.Need-returns-2
 returns-2 c = let a = (c .before .before .before .before .before .before .before .before .before .before) in
-    refuses refl refl (let-in ((c .before .before .before .before .before .before .door) .ensures) ((c .before .before .before .before .enum-told) .given .1) (stop (no-feature (a .args .feature) (a .args .prices .now) (a .args .t .now) (omega (arith, (c .before .wide) .ensures .0, (c .before .before .head-word) .ensures)))))
+    refuses refl refl (let-in ((c .before .before .before .before .before .before .door) .ensures) ((c .before .before .before .before .enum-told) .given .1) (stop (no-feature (a .args .feature) (a .args .prices .now) (a .args .t .now) (omega (arith, (c .before .wide) .ensures .0, (c .before .before .features-word) .ensures)))))
 
-add-head-word : tie.Need-add-head-word
-add-head-word c = search needs
-
-head-word-requires-2 : tie.Need-head-word-requires-2
-head-word-requires-2 c κs = let s = (c .before .before .before .before .before .before .before .door) .ensures .sound ((c .before .before .before .before .before .enum-told) .given .1) in omega (arith, sound-long s, s .header .few, (c .before .before .wide) .ensures .0, (c .before .before .before .head-word) .ensures)
+size-word-requires : tie.Need-size-word-requires
+size-word-requires c κs = let s = (c .before .before .before .before .before .before .before .door) .ensures .sound ((c .before .before .before .before .before .enum-told) .given .1) in omega (arith, sound-long s, s .header .few, (c .before .before .wide) .ensures .0, (c .before .before .before .features-word) .ensures)
 
 wide-requires-2 : tie.Need-wide-requires-2
 wide-requires-2 c κs = search needs
@@ -60,7 +57,7 @@ same-length-3 c = search needs
 
 returns-3 : tie.Need-returns-3
 returns-3 c = let a = (c .before .before .before .before .before .before .before .before .before .before .before .before .before .before) in
-    refuses refl refl (let-in ((c .before .before .before .before .before .before .before .before .before .before .door) .ensures) ((c .before .before .before .before .before .before .before .before .enum-told) .given .1) (stop (other-length (a .args .feature) (a .args .prices .now) (a .args .t .now) (omega (arith, (c .before .before .before .before .before .wide) .ensures .0, (c .before .before .before .before .before .before .head-word) .ensures)) (λ e. (c .if2) .taken (e ∙ sym ((c .before .wide2) .ensures .0 ∙ (c .before .before .head-word2) .ensures))))))
+    refuses refl refl (let-in ((c .before .before .before .before .before .before .before .before .before .before .door) .ensures) ((c .before .before .before .before .before .before .before .before .enum-told) .given .1) (stop (other-length (a .args .feature) (a .args .prices .now) (a .args .t .now) (omega (arith, (c .before .before .before .before .before .wide) .ensures .0, (c .before .before .before .before .before .before .features-word) .ensures)) (λ e. (c .if2) .taken (e ∙ sym ((c .before .wide2) .ensures .0 ∙ (c .before .before .size-word) .ensures))))))
 
 prices-ok-requires : tie.Need-prices-ok-requires
 prices-ok-requires c κs = search needs
@@ -77,8 +74,8 @@ put-prices-requires c κs = let e = (c .before .before .before .before .before .
       e .sound t,
       e .there t .each 0 (omega arith),
       record {
-        known = omega (arith, (c .before .before .before .before .before .before .before .before .wide) .ensures .0, (c .before .before .before .before .before .before .before .before .before .head-word) .ensures);
-        long = (c .before .before .before .if2) .left ∙ (c .before .before .before .before .wide2) .ensures .0 ∙ (c .before .before .before .before .before .head-word2) .ensures;
+        known = omega (arith, (c .before .before .before .before .before .before .before .before .wide) .ensures .0, (c .before .before .before .before .before .before .before .before .before .features-word) .ensures);
+        long = (c .before .before .before .if2) .left ∙ (c .before .before .before .before .wide2) .ensures .0 ∙ (c .before .before .before .before .before .size-word) .ensures;
         priced = granted ((c .before .before .prices-ok) .result) ((c .before .if3) .left) ((c .before .before .prices-ok) .ensures);
       },
     )
@@ -89,8 +86,8 @@ same-length-5 c = search needs
 returns-5 : tie.Need-returns-5
 returns-5 c = let a = (c .before .before .before .before .before .before .before .before .before .before .before .before .before .before .before .before .before .before .before .before) in
     let d : Listed (a .args .feature) (a .args .prices .now) (a .args .t .now) = record {
-      known = omega (arith, (c .before .before .before .before .before .before .before .before .before .before .before .wide) .ensures .0, (c .before .before .before .before .before .before .before .before .before .before .before .before .head-word) .ensures);
-      long = (c .before .before .before .before .before .before .if2) .left ∙ (c .before .before .before .before .before .before .before .wide2) .ensures .0 ∙ (c .before .before .before .before .before .before .before .before .head-word2) .ensures;
+      known = omega (arith, (c .before .before .before .before .before .before .before .before .before .before .before .wide) .ensures .0, (c .before .before .before .before .before .before .before .before .before .before .before .before .features-word) .ensures);
+      long = (c .before .before .before .before .before .before .if2) .left ∙ (c .before .before .before .before .before .before .before .wide2) .ensures .0 ∙ (c .before .before .before .before .before .before .before .before .size-word) .ensures;
       priced = granted ((c .before .before .before .before .before .prices-ok) .result) ((c .before .before .before .before .if3) .left) ((c .before .before .before .before .before .prices-ok) .ensures);
     } in
     let g = priced (a .args .feature) (a .args .prices .now) in
@@ -108,12 +105,11 @@ price-spec =
     same-length
     returns
     enum-told
-    head-word-requires
+    features-word-requires
     wide-requires
     same-length-2
     returns-2
-    add-head-word
-    head-word-requires-2
+    size-word-requires
     wide-requires-2
     same-length-3
     returns-3

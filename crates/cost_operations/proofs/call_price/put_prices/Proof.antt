@@ -11,8 +11,8 @@ use Rattle.cost_operations.proofs.call_price.put_prices.Statement.{stat
 use Rattle.cost_operations.proofs.call_price.put_prices.Tie as tie
 use Rattle.promises.specs.CostOperations.{priced}
 
-head-word-requires : tie.Need-head-word-requires
-head-word-requires c κs = omega (arith, sound-long ((c .before .before) .pre .0))
+count-word-requires : tie.Need-count-word-requires
+count-word-requires c κs = omega (arith, sound-long ((c .before .before) .pre .0))
 
 wide-requires : tie.Need-wide-requires
 wide-requires c κs = search needs
@@ -28,7 +28,7 @@ settle-requires : tie.Need-settle-requires
 settle-requires c κs = let a = (c .before .before .before .before .before .before .before .before .before .before) in
     settle-asks (priced (a .args .feature) (a .args .prices .now)) ((c .before .before .before .make) .result) (a .pre .0)
     (price-made (a .args .t .now) (a .args .feature) (a .args .prices .now) ((c .before .before .before .before .before .words-of) .result) (sound-holds (a .pre .0)) (a .pre .2) ((c .before .before .before .before .before .words-of) .ensures) _ ((c .before .before .before .make) .result) ((c .before .before .before .make) .ensures))
-    (a .pre .1) ((c .before .before .before .before .before .before .wide) .ensures .0 ∙ (c .before .before .before .before .before .before .before .head-word) .ensures)
+    (a .pre .1) ((c .before .before .before .before .before .before .wide) .ensures .0 ∙ (c .before .before .before .before .before .before .before .count-word) .ensures)
     (priced-within (a .args .feature) (a .args .prices .now) (a .pre .2 .priced .each))
 
 same-length : tie.Need-same-length
@@ -38,13 +38,13 @@ returns : tie.Need-returns
 returns c = let a = (c .before .before .before .before .before .before .before .before .before .before .before .before .before) in
     settles (priced (a .args .feature) (a .args .prices .now)) ((c .before .before .before .before .before .before .make) .result) (a .pre .0)
     (price-made (a .args .t .now) (a .args .feature) (a .args .prices .now) ((c .before .before .before .before .before .before .before .before .words-of) .result) (sound-holds (a .pre .0)) (a .pre .2) ((c .before .before .before .before .before .before .before .before .words-of) .ensures) _ ((c .before .before .before .before .before .before .make) .result) ((c .before .before .before .before .before .before .make) .ensures))
-    (a .pre .1) ((c .before .before .before .before .before .before .before .before .before .wide) .ensures .0 ∙ (c .before .before .before .before .before .before .before .before .before .before .head-word) .ensures) ((c .before .before .settle) .ensures)
+    (a .pre .1) ((c .before .before .before .before .before .before .before .before .before .wide) .ensures .0 ∙ (c .before .before .before .before .before .before .before .before .before .before .count-word) .ensures) ((c .before .before .settle) .ensures)
 
 pub put-prices-spec : {M : Type 1} → statement M
 put-prices-spec =
     tie.close
     (tie.spec
-    head-word-requires
+    count-word-requires
     wide-requires
     words-of-requires
     make-requires

@@ -26,8 +26,8 @@ same-length-2 c = search needs
 returns : tie.Need-returns
 returns c = let a = (c .before .before .before .before .before .before .before .before .before .before) in let z = (c .before .before .before .before .before .in-range) in joins-range (a .pre .0) (z .ensures .0) (denied (z .result) ((c .if1) .taken) (z .ensures .1))
 
-head-word-requires : tie.Need-head-word-requires
-head-word-requires c κs = let a = (c .before .before .before .before .before .before .before .before .before .before .before) in let z = (c .before .before .before .before .before .before .in-range) in omega (arith, sound-long (a .pre .0), ap length (z .ensures .0))
+count-word-requires : tie.Need-count-word-requires
+count-word-requires c κs = let a = (c .before .before .before .before .before .before .before .before .before .before .before) in let z = (c .before .before .before .before .before .before .in-range) in omega (arith, sound-long (a .pre .0), ap length (z .ensures .0))
 
 wide-requires : tie.Need-wide-requires
 wide-requires c κs = search needs
@@ -37,7 +37,7 @@ join-costs-requires c κs = let a = (c .before .before .before .before .before .
 
 settle-requires : tie.Need-settle-requires
 settle-requires c κs = let a = (c .before .before .before .before .before .before .before .before .before .before .before .before .before .before .before .before .before .before .before .before .before) in let z = (c .before .before .before .before .before .before .before .before .before .before .before .before .before .before .before .before .in-range) in let j = (c .before .before .before .before .before .join-costs) in
-    settle-asks _ (j .result) (a .pre .0) (result-again (z .ensures .0) (a .args .o) _ _ _ (j .result) (j .ensures)) (a .pre .1) ((c .before .before .before .before .before .before .before .before .wide) .ensures .0 ∙ (c .before .before .before .before .before .before .before .before .before .head-word) .ensures ∙ ap (λ (w : List ℕ). count w) (z .ensures .0)) (granted (z .result) ((c .before .before .before .before .before .before .before .before .before .before .before .if1) .left) (z .ensures .1))
+    settle-asks _ (j .result) (a .pre .0) (result-again (z .ensures .0) (a .args .o) _ _ _ (j .result) (j .ensures)) (a .pre .1) ((c .before .before .before .before .before .before .before .before .wide) .ensures .0 ∙ (c .before .before .before .before .before .before .before .before .before .count-word) .ensures ∙ ap (λ (w : List ℕ). count w) (z .ensures .0)) (granted (z .result) ((c .before .before .before .before .before .before .before .before .before .before .before .if1) .left) (z .ensures .1))
 
 same-length-3 : tie.Need-same-length-3
 same-length-3 c = search needs
@@ -48,7 +48,7 @@ same-length-4 c = search needs
 returns-2 : tie.Need-returns-2
 returns-2 c = let a = (c .before .before .before .before .before .before .before .before .before .before .before .before .before .before .before .before .before .before .before .before .before .before .before .before) in let z = (c .before .before .before .before .before .before .before .before .before .before .before .before .before .before .before .before .before .before .before .in-range) in let j = (c .before .before .before .before .before .before .before .before .join-costs) in
     joins-put (a .pre .0) (granted (z .result) ((c .before .before .before .before .before .before .before .before .before .before .before .before .before .before .if1) .left) (z .ensures .1))
-    (settles _ (j .result) (a .pre .0) (result-again (z .ensures .0) (a .args .o) _ _ _ (j .result) (j .ensures)) (a .pre .1) ((c .before .before .before .before .before .before .before .before .before .before .before .wide) .ensures .0 ∙ (c .before .before .before .before .before .before .before .before .before .before .before .before .head-word) .ensures ∙ ap (λ (w : List ℕ). count w) (z .ensures .0)) ((c .before .before .settle) .ensures))
+    (settles _ (j .result) (a .pre .0) (result-again (z .ensures .0) (a .args .o) _ _ _ (j .result) (j .ensures)) (a .pre .1) ((c .before .before .before .before .before .before .before .before .before .before .before .wide) .ensures .0 ∙ (c .before .before .before .before .before .before .before .before .before .before .before .before .count-word) .ensures ∙ ap (λ (w : List ℕ). count w) (z .ensures .0)) ((c .before .before .settle) .ensures))
 
 pub put-joint-in-spec : {M : Type 1} → statement M
 put-joint-in-spec =
@@ -58,7 +58,7 @@ put-joint-in-spec =
     same-length
     same-length-2
     returns
-    head-word-requires
+    count-word-requires
     wide-requires
     join-costs-requires
     settle-requires

@@ -13,11 +13,8 @@ record-word-requires c κs = let p = (c .before) .pre in let h = p .0 .header in
 wide-requires : tie.Need-wide-requires
 wide-requires c κs = search needs
 
-add-head-word : tie.Need-add-head-word
-add-head-word c = let p = (c .before .before .before) .pre in let k = p .0 .nodes-ok .each _ (p .1) .known in omega (arith, p .0 .header .few)
-
-head-word-requires : tie.Need-head-word-requires
-head-word-requires c κs = let p = (c .before .before .before) .pre in let k = p .0 .nodes-ok .each _ (p .1) .known in omega (arith, p .0 .header .few, p .0 .header .room)
+size-word-requires : tie.Need-size-word-requires
+size-word-requires c κs = let p = (c .before .before .before) .pre in let k = p .0 .nodes-ok .each _ (p .1) .known in omega (arith, p .0 .header .few, p .0 .header .room)
 
 wide-requires-2 : tie.Need-wide-requires-2
 wide-requires-2 c κs = search needs
@@ -27,12 +24,12 @@ body-of-requires c κs = let p = (c .before .before .before .before .before) .pr
 
 sides-of-requires : tie.Need-sides-of-requires
 sides-of-requires c κs = let p = (c .before .before .before .before .before .before) .pre in let a = (c .before .before .before .before .before .before) .args in
-    let e : (c .before .wide2) .result ≡ size (a .t .now) (feature (a .t .now) (a .i)) = (c .before .wide2) .ensures .0 ∙ (c .before .before .head-word) .ensures ∙ ap (size (a .t .now)) ((c .before .before .before .wide) .ensures .0 ∙ (c .before .before .before .before .record-word) .ensures) in
+    let e : (c .before .wide2) .result ≡ size (a .t .now) (feature (a .t .now) (a .i)) = (c .before .wide2) .ensures .0 ∙ (c .before .before .size-word) .ensures ∙ ap (size (a .t .now)) ((c .before .before .before .wide) .ensures .0 ∙ (c .before .before .before .before .record-word) .ensures) in
     own-bodied (p .0) (a .i) _ _ (p .1) e ((c .body-of) .ensures)
 
 returns : tie.Need-returns
 returns c = let p = (c .before .before .before .before .before .before .before .before .before) .pre in let a = (c .before .before .before .before .before .before .before .before .before) .args in
-    let e : (c .before .before .before .before .wide2) .result ≡ size (a .t .now) (feature (a .t .now) (a .i)) = (c .before .before .before .before .wide2) .ensures .0 ∙ (c .before .before .before .before .before .head-word) .ensures ∙ ap (size (a .t .now)) ((c .before .before .before .before .before .before .wide) .ensures .0 ∙ (c .before .before .before .before .before .before .before .record-word) .ensures) in
+    let e : (c .before .before .before .before .wide2) .result ≡ size (a .t .now) (feature (a .t .now) (a .i)) = (c .before .before .before .before .wide2) .ensures .0 ∙ (c .before .before .before .before .before .size-word) .ensures ∙ ap (size (a .t .now)) ((c .before .before .before .before .before .before .wide) .ensures .0 ∙ (c .before .before .before .before .before .before .before .record-word) .ensures) in
     own-lost (p .0) (a .i) _ _ (p .1) e ((c .before .before .before .body-of) .ensures) _ _ ((c .before .before .sides-of) .ensures) ((c .if1) .taken)
 
 record-word-requires-2 : tie.Need-record-word-requires-2
@@ -40,7 +37,7 @@ record-word-requires-2 c κs = let p = (c .before .before .before .before .befor
 
 returns-2 : tie.Need-returns-2
 returns-2 c = let p = (c .before .before .before .before .before .before .before .before .before .before .before .before) .pre in let a = (c .before .before .before .before .before .before .before .before .before .before .before .before) .args in
-    let e : (c .before .before .before .before .before .before .before .wide2) .result ≡ size (a .t .now) (feature (a .t .now) (a .i)) = (c .before .before .before .before .before .before .before .wide2) .ensures .0 ∙ (c .before .before .before .before .before .before .before .before .head-word) .ensures ∙ ap (size (a .t .now)) ((c .before .before .before .before .before .before .before .before .before .wide) .ensures .0 ∙ (c .before .before .before .before .before .before .before .before .before .before .record-word) .ensures) in
+    let e : (c .before .before .before .before .before .before .before .wide2) .result ≡ size (a .t .now) (feature (a .t .now) (a .i)) = (c .before .before .before .before .before .before .before .wide2) .ensures .0 ∙ (c .before .before .before .before .before .before .before .before .size-word) .ensures ∙ ap (size (a .t .now)) ((c .before .before .before .before .before .before .before .before .before .wide) .ensures .0 ∙ (c .before .before .before .before .before .before .before .before .before .before .record-word) .ensures) in
     low-wrong (p .0) (a .i) _ _ (p .1) e ((c .before .before .before .before .before .before .body-of) .ensures) _ _ ((c .before .before .before .before .before .sides-of) .ensures) (omega (arith, (c .before .before .before .if1) .left)) _ ((c .before .before .record-word2) .ensures) (λ z. omega (arith, z, (c .if2) .taken))
 
 record-word-requires-3 : tie.Need-record-word-requires-3
@@ -48,12 +45,12 @@ record-word-requires-3 c κs = let p = (c .before .before .before .before .befor
 
 returns-3 : tie.Need-returns-3
 returns-3 c = let p = (c .before .before .before .before .before .before .before .before .before .before .before .before .before .before .before) .pre in let a = (c .before .before .before .before .before .before .before .before .before .before .before .before .before .before .before) .args in
-    let e : (c .before .before .before .before .before .before .before .before .before .before .wide2) .result ≡ size (a .t .now) (feature (a .t .now) (a .i)) = (c .before .before .before .before .before .before .before .before .before .before .wide2) .ensures .0 ∙ (c .before .before .before .before .before .before .before .before .before .before .before .head-word) .ensures ∙ ap (size (a .t .now)) ((c .before .before .before .before .before .before .before .before .before .before .before .before .wide) .ensures .0 ∙ (c .before .before .before .before .before .before .before .before .before .before .before .before .before .record-word) .ensures) in
+    let e : (c .before .before .before .before .before .before .before .before .before .before .wide2) .result ≡ size (a .t .now) (feature (a .t .now) (a .i)) = (c .before .before .before .before .before .before .before .before .before .before .wide2) .ensures .0 ∙ (c .before .before .before .before .before .before .before .before .before .before .before .size-word) .ensures ∙ ap (size (a .t .now)) ((c .before .before .before .before .before .before .before .before .before .before .before .before .wide) .ensures .0 ∙ (c .before .before .before .before .before .before .before .before .before .before .before .before .before .record-word) .ensures) in
     high-wrong (p .0) (a .i) _ _ (p .1) e ((c .before .before .before .before .before .before .before .before .before .body-of) .ensures) _ _ ((c .before .before .before .before .before .before .before .before .sides-of) .ensures) (omega (arith, (c .before .before .before .before .before .before .if1) .left)) _ ((c .before .before .record-word3) .ensures) (λ z. omega (arith, z, (c .if3) .taken))
 
 returns-4 : tie.Need-returns-4
 returns-4 c = let p = (c .before .before .before .before .before .before .before .before .before .before .before .before .before .before .before) .pre in let a = (c .before .before .before .before .before .before .before .before .before .before .before .before .before .before .before) .args in
-    let e : (c .before .before .before .before .before .before .before .before .before .before .wide2) .result ≡ size (a .t .now) (feature (a .t .now) (a .i)) = (c .before .before .before .before .before .before .before .before .before .before .wide2) .ensures .0 ∙ (c .before .before .before .before .before .before .before .before .before .before .before .head-word) .ensures ∙ ap (size (a .t .now)) ((c .before .before .before .before .before .before .before .before .before .before .before .before .wide) .ensures .0 ∙ (c .before .before .before .before .before .before .before .before .before .before .before .before .before .record-word) .ensures) in
+    let e : (c .before .before .before .before .before .before .before .before .before .before .wide2) .result ≡ size (a .t .now) (feature (a .t .now) (a .i)) = (c .before .before .before .before .before .before .before .before .before .before .wide2) .ensures .0 ∙ (c .before .before .before .before .before .before .before .before .before .before .before .size-word) .ensures ∙ ap (size (a .t .now)) ((c .before .before .before .before .before .before .before .before .before .before .before .before .wide) .ensures .0 ∙ (c .before .before .before .before .before .before .before .before .before .before .before .before .before .record-word) .ensures) in
     own-right (p .0) (a .i) _ _ (p .1) e ((c .before .before .before .before .before .before .before .before .before .body-of) .ensures) _ _ ((c .before .before .before .before .before .before .before .before .sides-of) .ensures) (omega (arith, (c .before .before .before .before .before .before .if1) .left)) _ _ ((c .before .before .before .before .before .record-word2) .ensures) ((c .before .before .record-word3) .ensures) (omega arith) (omega arith)
 
 pub own-ok-spec : {M : Type 1} → statement M
@@ -62,8 +59,7 @@ own-ok-spec =
     (tie.spec
     record-word-requires
     wide-requires
-    add-head-word
-    head-word-requires
+    size-word-requires
     wide-requires-2
     body-of-requires
     sides-of-requires

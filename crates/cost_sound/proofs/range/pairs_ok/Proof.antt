@@ -19,14 +19,14 @@ Inv-loop t n i₀ i = (n ≡ count t) × (i ≤ n) × ((up : Bool) → Passed (s
 abbrev μ-loop : tie.MeasureT-loop
 μ-loop t n i₀ i = n - i
 
-head-word-requires : tie.Need-head-word-requires Inv-loop μ-loop
-head-word-requires c κs = omega (arith, (c .before) .pre .header .room)
+count-word-requires : tie.Need-count-word-requires Inv-loop μ-loop
+count-word-requires c κs = omega (arith, (c .before) .pre .header .room)
 
 wide-requires : tie.Need-wide-requires Inv-loop μ-loop
 wide-requires c κs = search needs
 
 loop-holds : tie.Need-loop-holds Inv-loop μ-loop
-loop-holds c = ((c .wide) .ensures .0 ∙ (c .before .head-word) .ensures, omega arith, pairs-none ((c .before .before .before) .pre))
+loop-holds c = ((c .wide) .ensures .0 ∙ (c .before .count-word) .ensures, omega arith, pairs-none ((c .before .before .before) .pre))
 
 own-ok-requires : tie.Need-own-ok-requires Inv-loop μ-loop
 own-ok-requires c κs = ((c .before .before .before .before .before) .pre, omega (arith, (c .before .loop) .inv .0))
@@ -53,7 +53,7 @@ pairs-ok-spec =
     (tie.spec
     Inv-loop
     μ-loop
-    head-word-requires
+    count-word-requires
     wide-requires
     loop-holds
     own-ok-requires

@@ -8,8 +8,8 @@ use Rattle.engine.proofs.memory.remember_in.Statement.{statement}
 use Rattle.engine.proofs.memory.remember_in.Tie as tie
 use Rattle.promises.specs.Words.{capacity}
 
-head-word-requires : tie.Need-head-word-requires
-head-word-requires c κs = search needs
+capacity-word-requires : tie.Need-capacity-word-requires
+capacity-word-requires c κs = search needs
 
 wide-requires : tie.Need-wide-requires
 wide-requires c κs = search needs
@@ -44,7 +44,7 @@ same-length c = search needs
 returns : tie.Need-returns
 returns c = let a = (c .before .before .before .before .before .before .before .before .before .before) in
     let n : ℕ = 16 * (c .before .before .before .before .before .wide) .result in
-    let e : n ≡ 16 * capacity (a .args .t .now) = ap (λ (x : ℕ). 16 * x) ((c .before .before .before .before .before .wide) .ensures .0 ∙ (c .before .before .before .before .before .before .head-word) .ensures) in
+    let e : n ≡ 16 * capacity (a .args .t .now) = ap (λ (x : ℕ). 16 * x) ((c .before .before .before .before .before .wide) .ensures .0 ∙ (c .before .before .before .before .before .before .capacity-word) .ensures) in
     stored-far (a .args .t .now) (a .args .s .now) ((c .before .before .remember) .last .0) n (8192 + n) (8192 + n + n - (8192 + n)) _ _ _ (a .pre .0) e refl (omega arith) ((c .before .before .before .before .if1) .taken) ((c .before .before .remember) .ensures)
 
 remember-requires-2 : tie.Need-remember-requires-2
@@ -58,14 +58,14 @@ same-length-3 c = search needs
 
 returns-2 : tie.Need-returns-2
 returns-2 c = let a = (c .before .before .before .before .before .before .before .before .before .before) in
-    let e : (c .before .before .before .before .before .wide) .result ≡ capacity (a .args .t .now) = (c .before .before .before .before .before .wide) .ensures .0 ∙ (c .before .before .before .before .before .before .head-word) .ensures in
+    let e : (c .before .before .before .before .before .wide) .result ≡ capacity (a .args .t .now) = (c .before .before .before .before .before .wide) .ensures .0 ∙ (c .before .before .before .before .before .before .capacity-word) .ensures in
     (refl, stored-scratch (a .args .t .now) (a .args .s .now) ((c .before .before .remember2) .last .0) _ _ _ (omega (arith, e, (c .before .before .before .before .if1) .left)) ((c .before .before .remember2) .ensures))
 
 pub remember-in-spec : {M : Type 1} → statement M
 remember-in-spec =
     tie.close
     (tie.spec
-    head-word-requires
+    capacity-word-requires
     wide-requires
     mul-room
     add-from

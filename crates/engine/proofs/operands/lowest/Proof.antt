@@ -19,15 +19,15 @@ Inv-loop t n ops m₀ j₀ m j = (m ≤ features (plain t)) × (j ≤ n) × ((i 
 abbrev μ-loop : tie.MeasureT-loop
 μ-loop t n ops m₀ j₀ m j = n - j
 
-head-word-requires : tie.Need-head-word-requires Inv-loop μ-loop
-head-word-requires c κs = let a = (c .before) in omega (arith, a .pre .0 .room, length-plain (a .args .t .now))
+features-word-requires : tie.Need-features-word-requires Inv-loop μ-loop
+features-word-requires c κs = let a = (c .before) in omega (arith, a .pre .0 .room, length-plain (a .args .t .now))
 
 wide-requires : tie.Need-wide-requires Inv-loop μ-loop
 wide-requires c κs = search needs
 
 loop-holds : tie.Need-loop-holds Inv-loop μ-loop
 loop-holds c = let w = (c .before .before .before) .args .t .now in
-    let e : (c .wide) .result ≡ features (plain w) = (c .wide) .ensures .0 ∙ (c .before .head-word) .ensures ∙ sym (plain-head w 2 (omega arith)) in
+    let e : (c .wide) .result ≡ features (plain w) = (c .wide) .ensures .0 ∙ (c .before .features-word) .ensures ∙ sym (plain-head w 2 (omega arith)) in
     (omega arith, omega arith, (λ i h. absurd (omega arith)), λ z h k. omega arith)
 
 mul-top-in : tie.Need-mul-top-in Inv-loop μ-loop
@@ -65,7 +65,7 @@ lowest-spec =
     (tie.spec
     Inv-loop
     μ-loop
-    head-word-requires
+    features-word-requires
     wide-requires
     loop-holds
     mul-top-in

@@ -30,8 +30,8 @@ returns c = refuses refl refl (turned-away ((c .before .before .before .door) .e
 enum-told : tie.Need-enum-told
 enum-told c = search needs
 
-head-word-requires : tie.Need-head-word-requires
-head-word-requires c κs = omega (arith, sound-long ((c .before .before .before .door) .ensures .sound ((c .before .enum-told) .given .1)))
+features-word-requires : tie.Need-features-word-requires
+features-word-requires c κs = omega (arith, sound-long ((c .before .before .before .door) .ensures .sound ((c .before .enum-told) .given .1)))
 
 wide-requires : tie.Need-wide-requires
 wide-requires c κs = search needs
@@ -40,13 +40,10 @@ same-length-2 : tie.Need-same-length-2
 same-length-2 c = search needs
 
 returns-2 : tie.Need-returns-2
-returns-2 c = refuses refl refl (let-in ((c .before .before .before .before .before .before .door) .ensures) ((c .before .before .before .before .enum-told) .given .1) (stop (omega (arith, (c .before .wide) .ensures .0, (c .before .before .head-word) .ensures, length-sizes ((c .before .before .before .before .before .before .before .before .before .before .before) .args .t .now)))))
+returns-2 c = refuses refl refl (let-in ((c .before .before .before .before .before .before .door) .ensures) ((c .before .before .before .before .enum-told) .given .1) (stop (omega (arith, (c .before .wide) .ensures .0, (c .before .before .features-word) .ensures, length-sizes ((c .before .before .before .before .before .before .before .before .before .before .before) .args .t .now)))))
 
-add-head-word : tie.Need-add-head-word
-add-head-word c = search needs
-
-head-word-requires-2 : tie.Need-head-word-requires-2
-head-word-requires-2 c κs = let s = (c .before .before .before .before .before .before .before .door) .ensures .sound ((c .before .before .before .before .before .enum-told) .given .1) in omega (arith, sound-long s, s .header .few, (c .before .before .wide) .ensures .0, (c .before .before .before .head-word) .ensures)
+size-word-requires : tie.Need-size-word-requires
+size-word-requires c κs = let s = (c .before .before .before .before .before .before .before .door) .ensures .sound ((c .before .before .before .before .before .enum-told) .given .1) in omega (arith, sound-long s, s .header .few, (c .before .before .wide) .ensures .0, (c .before .before .before .features-word) .ensures)
 
 wide-requires-2 : tie.Need-wide-requires-2
 wide-requires-2 c κs = search needs
@@ -60,7 +57,7 @@ put-joint-requires c κs = let a = (c .before .before .before .before .before .b
     let t = (c .before .before .before .before .before .before .before .before .before .before .before .enum-told) .given .1 in (
       e .sound t,
       e .there t .each 0 (omega arith),
-      forget-operands (e .sound t) (a .from) (a .feature) ((c .before .before .before .before .wide2) .result) _ (omega (arith, (c .before .before .before .before .before .before .before .before .wide) .ensures .0, (c .before .before .before .before .before .before .before .before .before .head-word) .ensures)) ((c .before .before .before .before .wide2) .ensures .0 ∙ (c .before .before .before .before .before .head-word2) .ensures)
+      forget-operands (e .sound t) (a .from) (a .feature) ((c .before .before .before .before .wide2) .result) _ (omega (arith, (c .before .before .before .before .before .before .before .before .wide) .ensures .0, (c .before .before .before .before .before .before .before .before .before .features-word) .ensures)) ((c .before .before .before .before .wide2) .ensures .0 ∙ (c .before .before .before .before .before .size-word) .ensures)
           (λ j h. getD-replicate 9 j ((c .before .before .root-word) .result) 0 h ∙ (c .before .before .root-word) .ensures) (e .there t .each 1 (omega arith)),
     )
 
@@ -75,8 +72,8 @@ returns-3 c = let a = (c .before .before .before .before .before .before .before
     let e = (c .before .before .before .before .before .before .before .before .before .before .before .before .before .before .before .before .before .before .door) .ensures in
     let t = (c .before .before .before .before .before .before .before .before .before .before .before .before .before .before .before .before .enum-told) .given .1 in
     built-meets refl refl ((c .before .before .before .before .put-joint) .ensures)
-    (forget-agrees (e .sound t) (a .from) (a .feature) ((c .before .before .before .before .before .before .before .before .before .wide2) .result) _ (omega (arith, (c .before .before .before .before .before .before .before .before .before .before .before .before .before .wide) .ensures .0, (c .before .before .before .before .before .before .before .before .before .before .before .before .before .before .head-word) .ensures)) ((c .before .before .before .before .before .before .before .before .before .wide2) .ensures .0 ∙ (c .before .before .before .before .before .before .before .before .before .before .head-word2) .ensures) (λ j h. getD-replicate 9 j ((c .before .before .before .before .before .before .before .root-word) .result) 0 h ∙ (c .before .before .before .before .before .before .before .root-word) .ensures) (e .there t .each 1 (omega arith)))
-    (λ z. let-in e t (pass (λ h. omega (arith, h, (c .before .before .before .before .before .before .before .before .before .before .before .before .before .wide) .ensures .0, (c .before .before .before .before .before .before .before .before .before .before .before .before .before .before .head-word) .ensures, length-sizes (a .t .now))) z)) (λ k. tt) (λ y k. k)
+    (forget-agrees (e .sound t) (a .from) (a .feature) ((c .before .before .before .before .before .before .before .before .before .wide2) .result) _ (omega (arith, (c .before .before .before .before .before .before .before .before .before .before .before .before .before .wide) .ensures .0, (c .before .before .before .before .before .before .before .before .before .before .before .before .before .before .features-word) .ensures)) ((c .before .before .before .before .before .before .before .before .before .wide2) .ensures .0 ∙ (c .before .before .before .before .before .before .before .before .before .before .size-word) .ensures) (λ j h. getD-replicate 9 j ((c .before .before .before .before .before .before .before .root-word) .result) 0 h ∙ (c .before .before .before .before .before .before .before .root-word) .ensures) (e .there t .each 1 (omega arith)))
+    (λ z. let-in e t (pass (λ h. omega (arith, h, (c .before .before .before .before .before .before .before .before .before .before .before .before .before .wide) .ensures .0, (c .before .before .before .before .before .before .before .before .before .before .before .before .before .before .features-word) .ensures, length-sizes (a .t .now))) z)) (λ k. tt) (λ y k. k)
 
 pub forget-spec : {M : Type 1} → statement M
 forget-spec =
@@ -88,12 +85,11 @@ forget-spec =
     same-length
     returns
     enum-told
-    head-word-requires
+    features-word-requires
     wide-requires
     same-length-2
     returns-2
-    add-head-word
-    head-word-requires-2
+    size-word-requires
     wide-requires-2
     root-word-requires
     put-joint-requires

@@ -34,8 +34,8 @@ returns c = refuses ((c .sized) .ensures .outcome) (sized-refused ((c .sized) .e
 enum-told : tie.Need-enum-told
 enum-told c = search needs
 
-head-word-requires : tie.Need-head-word-requires
-head-word-requires c κs = omega (arith, sound-long ((c .before .before .before .door) .ensures .sound ((c .before .enum-told) .given .1)))
+features-word-requires : tie.Need-features-word-requires
+features-word-requires c κs = omega (arith, sound-long ((c .before .before .before .door) .ensures .sound ((c .before .enum-told) .given .1)))
 
 wide-requires : tie.Need-wide-requires
 wide-requires c κs = search needs
@@ -47,17 +47,14 @@ same-length-2 : tie.Need-same-length-2
 same-length-2 c = search needs
 
 returns-2 : tie.Need-returns-2
-returns-2 c = refuses ((c .sized2) .ensures .outcome) (sized-refused ((c .sized2) .ensures) _ refl) (let-in ((c .before .before .before .before .before .before .before .door) .ensures) ((c .before .before .before .before .before .enum-told) .given .1) (stop (inl (omega (arith, (c .before .before .wide) .ensures .0, (c .before .before .before .head-word) .ensures, length-sizes ((c .before .before .before .before .before .before .before .before .before .before .before) .args .t .now))))))
+returns-2 c = refuses ((c .sized2) .ensures .outcome) (sized-refused ((c .sized2) .ensures) _ refl) (let-in ((c .before .before .before .before .before .before .before .door) .ensures) ((c .before .before .before .before .before .enum-told) .given .1) (stop (inl (omega (arith, (c .before .before .wide) .ensures .0, (c .before .before .before .features-word) .ensures, length-sizes ((c .before .before .before .before .before .before .before .before .before .before .before) .args .t .now))))))
 
-add-head-word : tie.Need-add-head-word
-add-head-word c = search needs
-
-head-word-requires-2 : tie.Need-head-word-requires-2
-head-word-requires-2 c κs = let s = (c .before .before .before .before .before .before .before .door) .ensures .sound ((c .before .before .before .before .before .enum-told) .given .1) in omega (arith, sound-long s, s .header .few, (c .before .before .wide) .ensures .0, (c .before .before .before .head-word) .ensures)
+size-word-requires : tie.Need-size-word-requires
+size-word-requires c κs = let s = (c .before .before .before .before .before .before .before .door) .ensures .sound ((c .before .before .before .before .before .enum-told) .given .1) in omega (arith, sound-long s, s .header .few, (c .before .before .wide) .ensures .0, (c .before .before .before .features-word) .ensures)
 
 shr-if2 : tie.Need-shr-if2
 shr-if2 c = let s = (c .before .before .before .before .before .before .before .before .door) .ensures .sound ((c .before .before .before .before .before .before .enum-told) .given .1) in
-    omega (arith, (c .head-word2) .ensures, s .header .fit .large ((c .before .before .before .before .before .before .before .before .before .before .before .before) .args .feature) (omega (arith, (c .before .before .before .wide) .ensures .0, (c .before .before .before .before .head-word) .ensures)) .1)
+    omega (arith, (c .size-word) .ensures, s .header .fit .large ((c .before .before .before .before .before .before .before .before .before .before .before .before) .args .feature) (omega (arith, (c .before .before .before .wide) .ensures .0, (c .before .before .before .before .features-word) .ensures)) .1)
 
 sized-requires-3 : tie.Need-sized-requires-3
 sized-requires-3 c κs = search needs
@@ -67,11 +64,11 @@ same-length-3 c = search needs
 
 returns-3 : tie.Need-returns-3
 returns-3 c = let a = (c .before .before .before .before .before .before .before .before .before .before .before .before .before .before) .args in
-    let n = (c .before .before .head-word2) .ensures ∙ sym (at-sizes (a .t .now) (a .feature) (omega (arith, (c .before .before .before .before .before .wide) .ensures .0, (c .before .before .before .before .before .before .head-word) .ensures))) in
-    refuses ((c .sized3) .ensures .outcome) (sized-refused ((c .sized3) .ensures) _ refl) (let-in ((c .before .before .before .before .before .before .before .before .before .before .door) .ensures) ((c .before .before .before .before .before .before .before .before .enum-told) .given .1) (stop (inr (subst (λ (k : ℕ). 2 ^ k ≤ a .bits) n (shift-some (a .bits) ((c .before .before .head-word2) .result) ((c .before .if2) .taken))))))
+    let n = (c .before .before .size-word) .ensures ∙ sym (at-sizes (a .t .now) (a .feature) (omega (arith, (c .before .before .before .before .before .wide) .ensures .0, (c .before .before .before .before .before .before .features-word) .ensures))) in
+    refuses ((c .sized3) .ensures .outcome) (sized-refused ((c .sized3) .ensures) _ refl) (let-in ((c .before .before .before .before .before .before .before .before .before .before .door) .ensures) ((c .before .before .before .before .before .before .before .before .enum-told) .given .1) (stop (inr (subst (λ (k : ℕ). 2 ^ k ≤ a .bits) n (shift-some (a .bits) ((c .before .before .size-word) .result) ((c .before .if2) .taken))))))
 
 put-literal-requires : tie.Need-put-literal-requires
-put-literal-requires c κs = let e = (c .before .before .before .before .before .before .before .before .before .before .door) .ensures in let t = (c .before .before .before .before .before .before .before .before .enum-told) .given .1 in (e .sound t, e .there t .each 0 (omega arith), omega (arith, (c .before .before .before .before .before .wide) .ensures .0, (c .before .before .before .before .before .before .head-word) .ensures))
+put-literal-requires c κs = let e = (c .before .before .before .before .before .before .before .before .before .before .door) .ensures in let t = (c .before .before .before .before .before .before .before .before .enum-told) .given .1 in (e .sound t, e .there t .each 0 (omega arith), omega (arith, (c .before .before .before .before .before .wide) .ensures .0, (c .before .before .before .before .before .before .features-word) .ensures))
 
 sized-requires-4 : tie.Need-sized-requires-4
 sized-requires-4 c κs = search needs
@@ -83,10 +80,10 @@ returns-4 : tie.Need-returns-4
 returns-4 c = let a = (c .before .before .before .before .before .before .before .before .before .before .before .before .before .before .before .before .before .before) .args in
     let e = (c .before .before .before .before .before .before .before .before .before .before .before .before .before .before .door) .ensures in
     let t = (c .before .before .before .before .before .before .before .before .before .before .before .before .enum-told) .given .1 in
-    let n = (c .before .before .before .before .before .before .head-word2) .ensures ∙ sym (at-sizes (a .t .now) (a .feature) (omega (arith, (c .before .before .before .before .before .before .before .before .before .wide) .ensures .0, (c .before .before .before .before .before .before .before .before .before .before .head-word) .ensures))) in
-    let h = subst (λ (k : ℕ). a .bits < 2 ^ k) n (shift-none (a .bits) ((c .before .before .before .before .before .before .head-word2) .result) ((c .before .before .before .before .before .if2) .left)) in
+    let n = (c .before .before .before .before .before .before .size-word) .ensures ∙ sym (at-sizes (a .t .now) (a .feature) (omega (arith, (c .before .before .before .before .before .before .before .before .before .wide) .ensures .0, (c .before .before .before .before .before .before .before .before .before .before .features-word) .ensures))) in
+    let h = subst (λ (k : ℕ). a .bits < 2 ^ k) n (shift-none (a .bits) ((c .before .before .before .before .before .before .size-word) .result) ((c .before .before .before .before .before .if2) .left)) in
     built-meets ((c .sized4) .ensures .outcome) refl ((c .before .before .before .put-literal) .ensures) (λ s v. refl)
-    (λ z. let-in e t (pass (⊎-elim (λ q. omega (arith, q, (c .before .before .before .before .before .before .before .before .before .wide) .ensures .0, (c .before .before .before .before .before .before .before .before .before .before .head-word) .ensures, length-sizes (a .t .now))) (λ q. omega (arith, q, h))) z))
+    (λ z. let-in e t (pass (⊎-elim (λ q. omega (arith, q, (c .before .before .before .before .before .before .before .before .before .wide) .ensures .0, (c .before .before .before .before .before .before .before .before .before .before .features-word) .ensures, length-sizes (a .t .now))) (λ q. omega (arith, q, h))) z))
     (sized-taken ((c .sized4) .ensures) _ h) (sized-refused ((c .sized4) .ensures))
 
 pub literal-spec : {M : Type 1} → statement M
@@ -100,13 +97,12 @@ literal-spec =
     same-length
     returns
     enum-told
-    head-word-requires
+    features-word-requires
     wide-requires
     sized-requires-2
     same-length-2
     returns-2
-    add-head-word
-    head-word-requires-2
+    size-word-requires
     shr-if2
     sized-requires-3
     same-length-3

@@ -9,8 +9,8 @@ use borrow.Author.Needs.{needs}
 use Rattle.operations.proofs.call_restrict.put_restricted.Statement.{statement}
 use Rattle.operations.proofs.call_restrict.put_restricted.Tie as tie
 
-head-word-requires : tie.Need-head-word-requires
-head-word-requires c κs = omega (arith, sound-long ((c .before .before) .pre .0))
+count-word-requires : tie.Need-count-word-requires
+count-word-requires c κs = omega (arith, sound-long ((c .before .before) .pre .0))
 
 wide-requires : tie.Need-wide-requires
 wide-requires c κs = search needs
@@ -24,7 +24,7 @@ held-requires c κs = let a = (c .before .before .before .before .before .before
 
 settle-requires : tie.Need-settle-requires
 settle-requires c κs = let a = (c .before .before .before .before .before .before .before .before .before .before .before) in
-    settle-asks (restr (a .args .t .now) 0 ((c .before .before .before .before .before .root-word) .result) (a .args .feature) (a .args .value)) ((c .before .before .before .held) .result) (a .pre .0) ((c .before .before .before .held) .ensures) (a .pre .1) ((c .before .before .before .before .before .before .before .wide) .ensures .0 ∙ (c .before .before .before .before .before .before .before .before .head-word) .ensures)
+    settle-asks (restr (a .args .t .now) 0 ((c .before .before .before .before .before .root-word) .result) (a .args .feature) (a .args .value)) ((c .before .before .before .held) .result) (a .pre .0) ((c .before .before .before .held) .ensures) (a .pre .1) ((c .before .before .before .before .before .before .before .wide) .ensures .0 ∙ (c .before .before .before .before .before .before .before .before .count-word) .ensures)
 
 same-length : tie.Need-same-length
 same-length c = search needs
@@ -32,13 +32,13 @@ same-length c = search needs
 returns : tie.Need-returns
 returns c = let a = (c .before .before .before .before .before .before .before .before .before .before .before .before .before .before) in
     puts-agree (restrict-agrees (a .pre .0) (a .args .from) (a .args .feature) (a .args .value) ((c .before .before .before .before .before .before .before .before .root-word) .result) ((c .before .before .before .before .before .before .before .before .root-word) .ensures))
-    (settles (restr (a .args .t .now) 0 ((c .before .before .before .before .before .before .before .before .root-word) .result) (a .args .feature) (a .args .value)) ((c .before .before .before .before .before .before .held) .result) (a .pre .0) ((c .before .before .before .before .before .before .held) .ensures) (a .pre .1) ((c .before .before .before .before .before .before .before .before .before .before .wide) .ensures .0 ∙ (c .before .before .before .before .before .before .before .before .before .before .before .head-word) .ensures) ((c .before .before .settle) .ensures))
+    (settles (restr (a .args .t .now) 0 ((c .before .before .before .before .before .before .before .before .root-word) .result) (a .args .feature) (a .args .value)) ((c .before .before .before .before .before .before .held) .result) (a .pre .0) ((c .before .before .before .before .before .before .held) .ensures) (a .pre .1) ((c .before .before .before .before .before .before .before .before .before .before .wide) .ensures .0 ∙ (c .before .before .before .before .before .before .before .before .before .before .before .count-word) .ensures) ((c .before .before .settle) .ensures))
 
 pub put-restricted-spec : {M : Type 1} → statement M
 put-restricted-spec =
     tie.close
     (tie.spec
-    head-word-requires
+    count-word-requires
     wide-requires
     root-word-requires
     held-requires

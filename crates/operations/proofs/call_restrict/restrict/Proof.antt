@@ -30,8 +30,8 @@ returns c = refuses refl refl (turned-away ((c .before .before .before .door) .e
 enum-told : tie.Need-enum-told
 enum-told c = search needs
 
-head-word-requires : tie.Need-head-word-requires
-head-word-requires c κs = omega (arith, sound-long ((c .before .before .before .door) .ensures .sound ((c .before .enum-told) .given .1)))
+features-word-requires : tie.Need-features-word-requires
+features-word-requires c κs = omega (arith, sound-long ((c .before .before .before .door) .ensures .sound ((c .before .enum-told) .given .1)))
 
 wide-requires : tie.Need-wide-requires
 wide-requires c κs = search needs
@@ -40,13 +40,10 @@ same-length-2 : tie.Need-same-length-2
 same-length-2 c = search needs
 
 returns-2 : tie.Need-returns-2
-returns-2 c = refuses refl refl (let-in ((c .before .before .before .before .before .before .door) .ensures) ((c .before .before .before .before .enum-told) .given .1) (stop (inl (omega (arith, (c .before .wide) .ensures .0, (c .before .before .head-word) .ensures, length-sizes ((c .before .before .before .before .before .before .before .before .before .before) .args .t .now))))))
+returns-2 c = refuses refl refl (let-in ((c .before .before .before .before .before .before .door) .ensures) ((c .before .before .before .before .enum-told) .given .1) (stop (inl (omega (arith, (c .before .wide) .ensures .0, (c .before .before .features-word) .ensures, length-sizes ((c .before .before .before .before .before .before .before .before .before .before) .args .t .now))))))
 
-add-head-word : tie.Need-add-head-word
-add-head-word c = search needs
-
-head-word-requires-2 : tie.Need-head-word-requires-2
-head-word-requires-2 c κs = let s = (c .before .before .before .before .before .before .before .door) .ensures .sound ((c .before .before .before .before .before .enum-told) .given .1) in omega (arith, sound-long s, s .header .few, (c .before .before .wide) .ensures .0, (c .before .before .before .head-word) .ensures)
+size-word-requires : tie.Need-size-word-requires
+size-word-requires c κs = let s = (c .before .before .before .before .before .before .before .door) .ensures .sound ((c .before .before .before .before .before .enum-told) .given .1) in omega (arith, sound-long s, s .header .few, (c .before .before .wide) .ensures .0, (c .before .before .before .features-word) .ensures)
 
 wide-requires-2 : tie.Need-wide-requires-2
 wide-requires-2 c κs = search needs
@@ -56,13 +53,13 @@ same-length-3 c = search needs
 
 returns-3 : tie.Need-returns-3
 returns-3 c = let a = (c .before .before .before .before .before .before .before .before .before .before .before .before .before .before) .args in
-    let n = at-sizes (a .t .now) (a .feature) (omega (arith, (c .before .before .before .before .before .wide) .ensures .0, (c .before .before .before .before .before .before .head-word) .ensures)) in
-    refuses refl refl (let-in ((c .before .before .before .before .before .before .before .before .before .before .door) .ensures) ((c .before .before .before .before .before .before .before .before .enum-told) .given .1) (stop (inr (omega (arith, (c .before .wide2) .ensures .0, (c .before .before .head-word2) .ensures, n)))))
+    let n = at-sizes (a .t .now) (a .feature) (omega (arith, (c .before .before .before .before .before .wide) .ensures .0, (c .before .before .before .before .before .before .features-word) .ensures)) in
+    refuses refl refl (let-in ((c .before .before .before .before .before .before .before .before .before .before .door) .ensures) ((c .before .before .before .before .before .before .before .before .enum-told) .given .1) (stop (inr (omega (arith, (c .before .wide2) .ensures .0, (c .before .before .size-word) .ensures, n)))))
 
 put-restricted-requires : tie.Need-put-restricted-requires
 put-restricted-requires c κs = let e = (c .before .before .before .before .before .before .before .before .before .before .before .door) .ensures in
     let t = (c .before .before .before .before .before .before .before .before .before .enum-told) .given .1 in
-    (e .sound t, e .there t .each 0 (omega arith), e .there t .each 1 (omega arith), omega (arith, (c .before .before .before .before .before .before .wide) .ensures .0, (c .before .before .before .before .before .before .before .head-word) .ensures), omega (arith, (c .before .before .wide2) .ensures .0, (c .before .before .before .head-word2) .ensures))
+    (e .sound t, e .there t .each 0 (omega arith), e .there t .each 1 (omega arith), omega (arith, (c .before .before .before .before .before .before .wide) .ensures .0, (c .before .before .before .before .before .before .before .features-word) .ensures), omega (arith, (c .before .before .wide2) .ensures .0, (c .before .before .before .size-word) .ensures))
 
 same-length-4 : tie.Need-same-length-4
 same-length-4 c = search needs
@@ -71,9 +68,9 @@ returns-4 : tie.Need-returns-4
 returns-4 c = let a = (c .before .before .before .before .before .before .before .before .before .before .before .before .before .before .before .before .before .before) .args in
     let e = (c .before .before .before .before .before .before .before .before .before .before .before .before .before .before .door) .ensures in
     let t = (c .before .before .before .before .before .before .before .before .before .before .before .before .enum-told) .given .1 in
-    let n = at-sizes (a .t .now) (a .feature) (omega (arith, (c .before .before .before .before .before .before .before .before .before .wide) .ensures .0, (c .before .before .before .before .before .before .before .before .before .before .head-word) .ensures)) in
+    let n = at-sizes (a .t .now) (a .feature) (omega (arith, (c .before .before .before .before .before .before .before .before .before .wide) .ensures .0, (c .before .before .before .before .before .before .before .before .before .before .features-word) .ensures)) in
     built-meets refl refl ((c .before .before .put-restricted) .ensures) (restricted-on (a .t .now) (a .from) (a .feature) (a .value) (e .there t .each 1 (omega arith)))
-    (λ z. let-in e t (pass (⊎-elim (λ h. omega (arith, h, (c .before .before .before .before .before .before .before .before .before .wide) .ensures .0, (c .before .before .before .before .before .before .before .before .before .before .head-word) .ensures, length-sizes (a .t .now))) (λ h. omega (arith, h, (c .before .before .before .before .before .wide2) .ensures .0, (c .before .before .before .before .before .before .head-word2) .ensures, n))) z))
+    (λ z. let-in e t (pass (⊎-elim (λ h. omega (arith, h, (c .before .before .before .before .before .before .before .before .before .wide) .ensures .0, (c .before .before .before .before .before .before .before .before .before .before .features-word) .ensures, length-sizes (a .t .now))) (λ h. omega (arith, h, (c .before .before .before .before .before .wide2) .ensures .0, (c .before .before .before .before .before .before .size-word) .ensures, n))) z))
     (λ k. tt) (λ y k. k)
 
 pub restrict-spec : {M : Type 1} → statement M
@@ -86,12 +83,11 @@ restrict-spec =
     same-length
     returns
     enum-told
-    head-word-requires
+    features-word-requires
     wide-requires
     same-length-2
     returns-2
-    add-head-word
-    head-word-requires-2
+    size-word-requires
     wide-requires-2
     same-length-3
     returns-3

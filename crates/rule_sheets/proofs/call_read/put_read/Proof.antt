@@ -8,8 +8,8 @@ use Rattle.rule_sheets.proofs.call_read.put_read.Statement.{statement}
 use Rattle.rule_sheets.proofs.call_read.put_read.Tie as tie
 use Rattle.promises.specs.Sheet.{sheetRule}
 
-head-word-requires : tie.Need-head-word-requires
-head-word-requires c κs = omega (arith, sound-long ((c .before .before .before) .pre .0))
+count-word-requires : tie.Need-count-word-requires
+count-word-requires c κs = omega (arith, sound-long ((c .before .before .before) .pre .0))
 
 wide-requires : tie.Need-wide-requires
 wide-requires c κs = search needs
@@ -18,19 +18,19 @@ take-in-requires : tie.Need-take-in-requires
 take-in-requires c κs = (sound-holds ((c .before .before .before .before .before .before) .pre .0), (c .before .before .before .before .before .before) .pre .2, sym ((c .before .before .before .before .before .before) .pre .3))
 
 settle-requires : tie.Need-settle-requires
-settle-requires c κs = settle-asks (sheetRule ((c .before .before .before .before .before .before .before .before .before .before) .args .sheet .now)) ((c .before .before .before .take-in) .result) ((c .before .before .before .before .before .before .before .before .before .before) .pre .0) ((c .before .before .before .take-in) .ensures) ((c .before .before .before .before .before .before .before .before .before .before) .pre .1) ((c .before .before .before .before .before .wide) .ensures .0 ∙ (c .before .before .before .before .before .before .head-word) .ensures)
+settle-requires c κs = settle-asks (sheetRule ((c .before .before .before .before .before .before .before .before .before .before) .args .sheet .now)) ((c .before .before .before .take-in) .result) ((c .before .before .before .before .before .before .before .before .before .before) .pre .0) ((c .before .before .before .take-in) .ensures) ((c .before .before .before .before .before .before .before .before .before .before) .pre .1) ((c .before .before .before .before .before .wide) .ensures .0 ∙ (c .before .before .before .before .before .before .count-word) .ensures)
 
 same-length : tie.Need-same-length
 same-length c = search needs
 
 returns : tie.Need-returns
-returns c = settles (sheetRule ((c .before .before .before .before .before .before .before .before .before .before .before .before .before) .args .sheet .now)) ((c .before .before .before .before .before .before .take-in) .result) ((c .before .before .before .before .before .before .before .before .before .before .before .before .before) .pre .0) ((c .before .before .before .before .before .before .take-in) .ensures) ((c .before .before .before .before .before .before .before .before .before .before .before .before .before) .pre .1) ((c .before .before .before .before .before .before .before .before .wide) .ensures .0 ∙ (c .before .before .before .before .before .before .before .before .before .head-word) .ensures) ((c .before .before .settle) .ensures)
+returns c = settles (sheetRule ((c .before .before .before .before .before .before .before .before .before .before .before .before .before) .args .sheet .now)) ((c .before .before .before .before .before .before .take-in) .result) ((c .before .before .before .before .before .before .before .before .before .before .before .before .before) .pre .0) ((c .before .before .before .before .before .before .take-in) .ensures) ((c .before .before .before .before .before .before .before .before .before .before .before .before .before) .pre .1) ((c .before .before .before .before .before .before .before .before .wide) .ensures .0 ∙ (c .before .before .before .before .before .before .before .before .before .count-word) .ensures) ((c .before .before .settle) .ensures)
 
 pub put-read-spec : {M : Type 1} → statement M
 put-read-spec =
     tie.close
     (tie.spec
-    head-word-requires
+    count-word-requires
     wide-requires
     take-in-requires
     settle-requires

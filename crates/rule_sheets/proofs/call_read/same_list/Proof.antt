@@ -20,32 +20,29 @@ abbrev μ-loop : tie.MeasureT-loop
 features-of-requires : tie.Need-features-of-requires Inv-loop μ-loop
 features-of-requires c κs = search needs
 
-head-word-requires : tie.Need-head-word-requires Inv-loop μ-loop
-head-word-requires c κs = omega (arith, sound-long ((c .before .before .before) .pre .0))
+features-word-requires : tie.Need-features-word-requires Inv-loop μ-loop
+features-word-requires c κs = omega (arith, sound-long ((c .before .before .before) .pre .0))
 
 wide-requires : tie.Need-wide-requires Inv-loop μ-loop
 wide-requires c κs = search needs
 
 returns : tie.Need-returns Inv-loop μ-loop
-returns c = λ e. (c .if1) .taken ((c .before .before .before .features-of) .ensures .0 ∙ many-same ((c .before .before .before .before .before .before) .args .t .now) ((c .before .before .before .before .before .before) .pre .1) e ∙ sym ((c .before .wide) .ensures .0 ∙ (c .before .before .head-word) .ensures))
+returns c = λ e. (c .if1) .taken ((c .before .before .before .features-of) .ensures .0 ∙ many-same ((c .before .before .before .before .before .before) .args .t .now) ((c .before .before .before .before .before .before) .pre .1) e ∙ sym ((c .before .wide) .ensures .0 ∙ (c .before .before .features-word) .ensures))
 
 loop-holds : tie.Need-loop-holds Inv-loop μ-loop
-loop-holds c = ((c .before .before .before .features-of) .ensures .0, (c .if1) .left ∙ (c .before .wide) .ensures .0 ∙ (c .before .before .head-word) .ensures, omega arith, (λ j h. absurd (omega arith)))
+loop-holds c = ((c .before .before .before .features-of) .ensures .0, (c .if1) .left ∙ (c .before .wide) .ensures .0 ∙ (c .before .before .features-word) .ensures, omega arith, (λ j h. absurd (omega arith)))
 
 size-at-requires : tie.Need-size-at-requires Inv-loop μ-loop
 size-at-requires c κs = ((c .before .before .before .before .before .before .before .before) .pre .1, omega (arith, (c .before .loop) .inv .0))
 
-add-head-word : tie.Need-add-head-word Inv-loop μ-loop
-add-head-word c = search needs
-
-head-word-requires-2 : tie.Need-head-word-requires-2 Inv-loop μ-loop
-head-word-requires-2 c κs = omega (arith, sound-long ((c .before .before .before .before .before .before .before .before .before) .pre .0), (c .before .before .before .before .before .before .before .before .before) .pre .0 .header .few, (c .before .before .loop) .inv .1)
+size-word-requires : tie.Need-size-word-requires Inv-loop μ-loop
+size-word-requires c κs = omega (arith, sound-long ((c .before .before .before .before .before .before .before .before .before) .pre .0), (c .before .before .before .before .before .before .before .before .before) .pre .0 .header .few, (c .before .before .loop) .inv .1)
 
 wide-requires-2 : tie.Need-wide-requires-2 Inv-loop μ-loop
 wide-requires-2 c κs = search needs
 
 returns-2 : tie.Need-returns-2 Inv-loop μ-loop
-returns-2 c = λ e. (c .if2) .taken ((c .before .before .before .size-at) .ensures .0 ∙ size-same ((c .before .before .before .before .before .before .before .before .before .before .before .before) .args .t .now) ((c .before .before .before .before .before .before .before .before .before .before .before .before) .pre .1) e ((c .before .before .before .before .before .loop) .k) (omega (arith, (c .before .before .before .before .before .loop) .inv .0)) ∙ sym ((c .before .wide2) .ensures .0 ∙ (c .before .before .head-word2) .ensures))
+returns-2 c = λ e. (c .if2) .taken ((c .before .before .before .size-at) .ensures .0 ∙ size-same ((c .before .before .before .before .before .before .before .before .before .before .before .before) .args .t .now) ((c .before .before .before .before .before .before .before .before .before .before .before .before) .pre .1) e ((c .before .before .before .before .before .loop) .k) (omega (arith, (c .before .before .before .before .before .loop) .inv .0)) ∙ sym ((c .before .wide2) .ensures .0 ∙ (c .before .before .size-word) .ensures))
 
 add-k : tie.Need-add-k Inv-loop μ-loop
 add-k c = search needs
@@ -54,7 +51,7 @@ loop-less : tie.Need-loop-less Inv-loop μ-loop
 loop-less c = search needs
 
 loop-again : tie.Need-loop-again Inv-loop μ-loop
-loop-again c = ((c .before .before .before .before .before .loop) .inv .0, (c .before .before .before .before .before .loop) .inv .1, omega arith, below-more _ _ ((c .before .before .before .before .before .loop) .inv .3) (sym ((c .before .before .before .size-at) .ensures .0) ∙ (c .if2) .left ∙ (c .before .wide2) .ensures .0 ∙ (c .before .before .head-word2) .ensures))
+loop-again c = ((c .before .before .before .before .before .loop) .inv .0, (c .before .before .before .before .before .loop) .inv .1, omega arith, below-more _ _ ((c .before .before .before .before .before .loop) .inv .3) (sym ((c .before .before .before .size-at) .ensures .0) ∙ (c .if2) .left ∙ (c .before .wide2) .ensures .0 ∙ (c .before .before .size-word) .ensures))
 
 returns-3 : tie.Need-returns-3 Inv-loop μ-loop
 returns-3 c = list-same ((c .before .before .before .before .before .before .before .before) .args .t .now) ((c .before .before .before .before .before .before .before .before) .pre .1) (sym ((c .before .loop) .inv .0) ∙ (c .before .loop) .inv .1) (λ j h. (c .before .loop) .inv .3 j (omega (arith, (c .before .loop) .inv .0)))
@@ -66,13 +63,12 @@ same-list-spec =
     Inv-loop
     μ-loop
     features-of-requires
-    head-word-requires
+    features-word-requires
     wide-requires
     returns
     loop-holds
     size-at-requires
-    add-head-word
-    head-word-requires-2
+    size-word-requires
     wide-requires-2
     returns-2
     add-k

@@ -13,11 +13,8 @@ record-word-requires c κs = search needs
 wide-requires : tie.Need-wide-requires
 wide-requires c κs = search needs
 
-add-head-word : tie.Need-add-head-word
-add-head-word c = search needs
-
-head-word-requires : tie.Need-head-word-requires
-head-word-requires c κs = let s = (c .before .before .before) .pre .0 in
+size-word-requires : tie.Need-size-word-requires
+size-word-requires c κs = let s = (c .before .before .before) .pre .0 in
     let k = s .nodes-ok .each ((c .before .before .before) .args .i) ((c .before .before .before) .pre .1) .known in
     omega (arith, s .header .few, s .header .room, (c .before .record-word) .ensures)
 
@@ -26,7 +23,7 @@ wide-requires-2 c κs = search needs
 
 returns : tie.Need-returns
 returns c = let e : ((c .wide2)) .result ≡ size ((c .before .before .before .before .before) .args .t .now) (feature ((c .before .before .before .before .before) .args .t .now) ((c .before .before .before .before .before) .args .i)) =
-    (c .wide2) .ensures .0 ∙ (c .before .head-word) .ensures ∙ ap (size ((c .before .before .before .before .before) .args .t .now)) ((c .before .before .wide) .ensures .0 ∙ (c .before .before .before .record-word) .ensures) in
+    (c .wide2) .ensures .0 ∙ (c .before .size-word) .ensures ∙ ap (size ((c .before .before .before .before .before) .args .t .now)) ((c .before .before .wide) .ensures .0 ∙ (c .before .before .before .record-word) .ensures) in
     (e, omega (arith, sized ((c .before .before .before .before .before) .pre .0) ((c .before .before .before .before .before) .args .i) ((c .before .before .before .before .before) .pre .1)))
 
 pub width-spec : {M : Type 1} → statement M
@@ -35,7 +32,6 @@ width-spec =
     (tie.spec
     record-word-requires
     wide-requires
-    add-head-word
-    head-word-requires
+    size-word-requires
     wide-requires-2
     returns)

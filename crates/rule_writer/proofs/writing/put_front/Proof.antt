@@ -14,23 +14,23 @@ put-two-requires c κs = search needs
 put-byte-requires : tie.Need-put-byte-requires
 put-byte-requires c κs = let p = (c .before .before .before .put-two) .ensures in (omega (arith, p .ends, length-two 1, puts-long p, (c .before .before .before .before .before .before .before) .pre .1), omega arith)
 
-head-word-requires : tie.Need-head-word-requires
-head-word-requires c κs = search needs
+features-word-requires : tie.Need-features-word-requires
+features-word-requires c κs = search needs
 
 put-two-requires-2 : tie.Need-put-two-requires-2
 put-two-requires-2 c κs = let p = (c .before .before .before .before .before .before .before .before .put-two) .ensures in let q = (c .before .before .before .before .put-byte) .ensures in let s = (c .before .before .before .before .before .before .before .before .before .before .before .before) .pre .0 in
-    (omega (arith, p .ends, length-two 1, puts-long p, q .ends, puts-long q, (c .before .before .before .before .before .before .before .before .before .before .before .before) .pre .1), omega (arith, (c .head-word) .ensures, s .header .few))
+    (omega (arith, p .ends, length-two 1, puts-long p, q .ends, puts-long q, (c .before .before .before .before .before .before .before .before .before .before .before .before) .pre .1), omega (arith, (c .features-word) .ensures, s .header .few))
 
 put-sizes-requires : tie.Need-put-sizes-requires
 put-sizes-requires c κs = let p = (c .before .before .before .before .before .before .before .before .before .before .before .before .put-two) .ensures in let q = (c .before .before .before .before .before .before .before .before .put-byte) .ensures in let r = (c .before .before .before .put-two2) .ensures in
-    ((c .before .before .before .before .before .before .before .before .before .before .before .before .before .before .before .before) .pre .0, omega (arith, p .ends, length-two 1, puts-long p, q .ends, puts-long q, r .ends, length-two ((c .before .before .before .before .head-word) .result), puts-long r, (c .before .before .before .before .before .before .before .before .before .before .before .before .before .before .before .before) .pre .1))
+    ((c .before .before .before .before .before .before .before .before .before .before .before .before .before .before .before .before) .pre .0, omega (arith, p .ends, length-two 1, puts-long p, q .ends, puts-long q, r .ends, length-two ((c .before .before .before .before .features-word) .result), puts-long r, (c .before .before .before .before .before .before .before .before .before .before .before .before .before .before .before .before) .pre .1))
 
 same-length : tie.Need-same-length
 same-length c = search needs
 
 returns : tie.Need-returns
 unfolding section
-returns c = puts-after (puts-after ((c .before .before .before .before .before .before .before .before .before .before .before .before .before .before .before .put-two) .ensures) ((c .before .before .before .before .before .before .before .before .before .before .before .put-byte) .ensures)) (puts-after (rw ((c .before .before .before .before .before .before .before .head-word) .ensures ∙ sym (length-sizes ((c .before .before .before .before .before .before .before .before .before .before .before .before .before .before .before .before .before .before .before) .args .t .now))) at ((c .before .before .before .before .before .before .put-two2) .ensures)) ((c .before .before .put-sizes) .ensures))
+returns c = puts-after (puts-after ((c .before .before .before .before .before .before .before .before .before .before .before .before .before .before .before .put-two) .ensures) ((c .before .before .before .before .before .before .before .before .before .before .before .put-byte) .ensures)) (puts-after (rw ((c .before .before .before .before .before .before .before .features-word) .ensures ∙ sym (length-sizes ((c .before .before .before .before .before .before .before .before .before .before .before .before .before .before .before .before .before .before .before) .args .t .now))) at ((c .before .before .before .before .before .before .put-two2) .ensures)) ((c .before .before .put-sizes) .ensures))
 
 pub put-front-spec : {M : Type 1} → statement M
 put-front-spec =
@@ -38,7 +38,7 @@ put-front-spec =
     (tie.spec
     put-two-requires
     put-byte-requires
-    head-word-requires
+    features-word-requires
     put-two-requires-2
     put-sizes-requires
     same-length

@@ -19,25 +19,22 @@ Inv-loop t out₀ p n q₀ k₀ out q k = (n ≡ features t) × (k ≤ n) × Put
 abbrev μ-loop : tie.MeasureT-loop
 μ-loop t out₀ p n q₀ k₀ out q k = n - k
 
-head-word-requires : tie.Need-head-word-requires Inv-loop μ-loop
-head-word-requires c κs = search needs
+features-word-requires : tie.Need-features-word-requires Inv-loop μ-loop
+features-word-requires c κs = search needs
 
 wide-requires : tie.Need-wide-requires Inv-loop μ-loop
 wide-requires c κs = search needs
 
 loop-holds : tie.Need-loop-holds Inv-loop μ-loop
-loop-holds c = ((c .wide) .ensures .0 ∙ (c .before .head-word) .ensures, omega arith, rw tab-none (puts-none _ _), refl)
+loop-holds c = ((c .wide) .ensures .0 ∙ (c .before .features-word) .ensures, omega arith, rw tab-none (puts-none _ _), refl)
 
-add-head-word : tie.Need-add-head-word Inv-loop μ-loop
-add-head-word c = let s = (c .before .before .before .before .before .before .before) .pre .0 in omega (arith, s .header .few)
-
-head-word-requires-2 : tie.Need-head-word-requires-2 Inv-loop μ-loop
-head-word-requires-2 c κs = let s = (c .before .before .before .before .before .before .before) .pre .0 in omega (arith, s .header .few, s .header .room)
+size-word-requires : tie.Need-size-word-requires Inv-loop μ-loop
+size-word-requires c κs = let s = (c .before .before .before .before .before .before .before) .pre .0 in omega (arith, s .header .few, s .header .room)
 
 put-byte-requires : tie.Need-put-byte-requires Inv-loop μ-loop
 put-byte-requires c κs = let a = (c .before .before .before .before .before .before .before .before) in let s = a .pre .0 in let l = (c .before .before .before .loop) in
     let h : l .k < features (a .args .t .now) = omega arith in
-    (omega (arith, l .inv .2 .ends, length-tab (size (a .args .t .now)) (l .k), l .inv .3, a .pre .1), omega (arith, (c .head-word2) .ensures, s .header .fit .large (l .k) h .1))
+    (omega (arith, l .inv .2 .ends, length-tab (size (a .args .t .now)) (l .k), l .inv .3, a .pre .1), omega (arith, (c .size-word) .ensures, s .header .fit .large (l .k) h .1))
 
 add-k : tie.Need-add-k Inv-loop μ-loop
 add-k c = search needs
@@ -47,7 +44,7 @@ loop-less c = search needs
 
 loop-again : tie.Need-loop-again Inv-loop μ-loop
 loop-again c = let a = (c .before .before .before .before .before .before .before .before .before .before .before) in let l = (c .before .before .before .before .before .before .loop) in
-    (l .inv .0, omega arith, rw add-one (puts-same (sym (tab-snoc (size (a .args .t .now)) (l .k))) (puts-after (l .inv .2) (rw ((c .before .before .before .head-word2) .ensures) at ((c .before .before .put-byte) .ensures)))), puts-long ((c .before .before .put-byte) .ensures) ∙ l .inv .3)
+    (l .inv .0, omega arith, rw add-one (puts-same (sym (tab-snoc (size (a .args .t .now)) (l .k))) (puts-after (l .inv .2) (rw ((c .before .before .before .size-word) .ensures) at ((c .before .before .put-byte) .ensures)))), puts-long ((c .before .before .put-byte) .ensures) ∙ l .inv .3)
 
 same-length : tie.Need-same-length Inv-loop μ-loop
 same-length c = search needs
@@ -62,11 +59,10 @@ put-sizes-spec =
     (tie.spec
     Inv-loop
     μ-loop
-    head-word-requires
+    features-word-requires
     wide-requires
     loop-holds
-    add-head-word
-    head-word-requires-2
+    size-word-requires
     put-byte-requires
     add-k
     loop-less

@@ -19,18 +19,18 @@ Inv-loop t notes c n₀ j₀ n j = (j ≤ c) × (n ≡ 12 + features t + length 
 abbrev μ-loop : tie.MeasureT-loop
 μ-loop t notes c n₀ j₀ n j = c - j
 
-head-word-requires : tie.Need-head-word-requires Inv-loop μ-loop
-head-word-requires c κs = search needs
+features-word-requires : tie.Need-features-word-requires Inv-loop μ-loop
+features-word-requires c κs = search needs
 
 wide-requires : tie.Need-wide-requires Inv-loop μ-loop
 wide-requires c κs = search needs
 
 add-n : tie.Need-add-n Inv-loop μ-loop
-add-n c = let s = (c .before .before .before) .pre .0 in omega (arith, s .header .few, (c .before .head-word) .ensures)
+add-n c = let s = (c .before .before .before) .pre .0 in omega (arith, s .header .few, (c .before .features-word) .ensures)
 
 loop-holds : tie.Need-loop-holds Inv-loop μ-loop
 loop-holds c = let a = (c .before .before .before) in let s = a .pre .0 in
-    (omega arith, omega (arith, (c .before .head-word) .ensures, ap length (bytes-none (a .args .t .now) (a .args .notes .now))), omega (arith, s .header .few, (c .before .head-word) .ensures))
+    (omega arith, omega (arith, (c .before .features-word) .ensures, ap length (bytes-none (a .args .t .now) (a .args .notes .now))), omega (arith, s .header .few, (c .before .features-word) .ensures))
 
 add-n-2 : tie.Need-add-n-2 Inv-loop μ-loop
 add-n-2 c = let a = (c .before .before .before .before .before) in let l = (c .before .loop) in omega (arith, l .inv .2, count-most (a .pre .0), noted-most (a .pre .0) (a .pre .1))
@@ -68,7 +68,7 @@ sheet-length-spec =
     (tie.spec
     Inv-loop
     μ-loop
-    head-word-requires
+    features-word-requires
     wide-requires
     add-n
     loop-holds

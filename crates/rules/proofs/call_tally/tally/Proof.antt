@@ -27,14 +27,14 @@ returns c = refuses refl refl (damaged-only ((c .before .before .before .door) .
 enum-told : tie.Need-enum-told
 enum-told c = search needs
 
-head-word-requires : tie.Need-head-word-requires
-head-word-requires c κs = let e = (c .before .before .door) .ensures in let t = (c .enum-told) .given .1 in omega (arith, sound-long (e .sound t))
+count-word-requires : tie.Need-count-word-requires
+count-word-requires c κs = let e = (c .before .before .door) .ensures in let t = (c .enum-told) .given .1 in omega (arith, sound-long (e .sound t))
 
 returns-2 : tie.Need-returns-2
 returns-2 c = let a = (c .before .before .before .before .before .before) in
     let s = (c .before .before .before .door) .ensures .sound ((c .before .enum-told) .given .1) in
     let w = a .args .t .now in
-    takes refl (pass (λ n. n s) refl) refl (subst (Counts (sizes w) (rulesOf w)) (sym ((c .head-word) .ensures ∙ sound-tally s)) (tally-counts (sizes w) (rulesOf w)))
+    takes refl (pass (λ n. n s) refl) refl (subst (Counts (sizes w) (rulesOf w)) (sym ((c .count-word) .ensures ∙ sound-tally s)) (tally-counts (sizes w) (rulesOf w)))
 
 pub tally-spec : {M : Type 1} → statement M
 tally-spec =
@@ -45,5 +45,5 @@ tally-spec =
     enum-known-o
     returns
     enum-told
-    head-word-requires
+    count-word-requires
     returns-2)

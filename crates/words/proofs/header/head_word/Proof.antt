@@ -1,8 +1,8 @@
--- `words::head_word` meets its contract: it reads the word. Assumes nothing.
+-- `words::header::head_word` meets its contract: it reads the word. Assumes nothing.
 use mathlib.Core.Path.{refl}
 use borrow.Author.Needs.{needs}
-use Rattle.words.proofs.head_word.Statement.{statement}
-use Rattle.words.proofs.head_word.Tie as tie
+use Rattle.words.proofs.header.head_word.Statement.{statement}
+use Rattle.words.proofs.header.head_word.Tie as tie
 use Rattle.promises.specs.Words.{head}
 
 mul-result : tie.Need-mul-result
