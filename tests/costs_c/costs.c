@@ -1,5 +1,6 @@
 /* Costs made, joined and read from C: the scope's examples over a feature of size 2 and one of size 3, with what is refused.
    It writes what it gets, call by call; the file expected has what it must get. */
+#include "endings.h"
 #include "lampgrotto.h"
 #include <stdio.h>
 #include <string.h>
@@ -13,12 +14,6 @@ static const int64_t p_prices[2] = {10, 4}, q_prices[3] = {0, 5, -3};
 static uint32_t costs[WORDS + PAST], rules[WORDS], scratch[SCRATCH], out[17];
 
 /* ---- what is written */
-
-static void say(const char *what, uint32_t ending) {
-    static const char *const names[13] = {"taken", "DAMAGED", "BAD PLACE", "NEWER", "BAD SHEET", "OTHER FEATURES", "BAD ARGUMENT",
-                                          "BAD SELECTOR", "RANGE", "NO ROOM", "NO SPACE", "NONE", "BAD OPENING"};
-    printf("%s: %s\n", what, ending < 13 ? names[ending] : "?");
-}
 
 /* the ending, then the first n result words as signed numbers, which held 1431655765 before */
 static void say_results(const char *what, uint32_t ending, int n) {

@@ -1,5 +1,6 @@
 /* Rules made, joined and read from C: examples over a feature of size 2 and one of size 3, the scope's and one of forgetting, with what is refused.
    It writes what it gets, call by call; the file expected has what it must get. */
+#include "endings.h"
 #include "lampgrotto.h"
 #include <stdio.h>
 #include <string.h>
@@ -12,12 +13,6 @@ static const uint8_t features[2] = {2, 3};
 static uint32_t table[WORDS + PAST], scratch[SCRATCH], out[17];
 
 /* ---- what is written */
-
-static void say(const char *what, uint32_t ending) {
-    static const char *const names[13] = {"taken", "DAMAGED", "BAD PLACE", "NEWER", "BAD SHEET", "OTHER FEATURES", "BAD ARGUMENT",
-                                          "BAD SELECTOR", "RANGE", "NO ROOM", "NO SPACE", "NONE", "BAD OPENING"};
-    printf("%s: %s\n", what, ending < 13 ? names[ending] : "?");
-}
 
 /* the ending, then the first n result words, which held something else before */
 static void say_results(const char *what, uint32_t ending, int n) {

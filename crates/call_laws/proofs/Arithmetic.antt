@@ -13,8 +13,8 @@ use Rattle.promises.specs.Deed.{Deed, Meets}
 use Rattle.promises.specs.Table.{puts, stateOf, table}
 use Rattle.promises.specs.CostDeeds as D
 use Rattle.promises.specs.CostDeeds.{cost-looked, costed, add, subtract, scale}
-use Rattle.calls.proofs.Like.{clear, rest}
-use Rattle.costs.proofs.Edge.{drawn}
+use Rattle.table_calls.proofs.Like.{clear, rest}
+use Rattle.cost_calls.proofs.Edge.{drawn}
 use Rattle.call_laws.specs.Standing.{Among, first, later, Apart, Next}
 use Rattle.call_laws.specs.Formulas.{Still, InTurn, One, Formula, Given, saidBy, Worked, source, stays, added, subtracted, smaller, scaled}
 use Rattle.call_laws.proofs.Among.{other, at0, at1, at2, at3, at4, at5, at6, at7}
@@ -44,7 +44,8 @@ module _ {l : List ℕ} {Call : List ℕ → List ℕ → Outcome → Type 0} {w
   found : {r : ℕ} {x : Formula} → Among r l → Worked w r x → Worked (t .found) r x
   found {r} m i = stays i (t .still r m)
 
-  kept : {d : Deed (table costed)} {o : d .Result} {p r : ℕ} {g : Cost} {x : Formula} → d .writes (stateOf costed (t .found)) ≡ puts p g → Meets d (t .found) v o → d .ending o ≡ Taken → Among r l → r < 16 → (r ≡ p → ⊥) →
+  kept : {d : Deed (table costed)} {o : d .Result} {p r : ℕ} {g : Cost} {x : Formula} → d .writes (stateOf costed (t .found)) ≡ puts p g → Meets d (t .found) v o
+      → d .ending o ≡ Taken → Among r l → r < 16 → (r ≡ p → ⊥) →
       Worked w r x → Worked v r x
   kept {d} e c k m h n i = stays i (next-stands cost-looked drawn {d = d} t e c k m h n)
 
@@ -61,7 +62,8 @@ past : {k l : List ℕ} {Call : List ℕ → List ℕ → Outcome → Type 0} {w
 past {l = l} {d = d} a t e c y m s r n = let i = s r n in (i .0, kept t {d = d} e c y (in-front l n) (i .0) (other a n m) (i .1))
 
 -- the end of a law
-agreed : {l w v : List ℕ} {p q : ℕ} {x y : Formula} → ((r : ℕ) → Among r l → Still r w v) → Among p l → Among q l → p < 16 → q < 16 → Worked w p x → Worked w q y → Agree (sizes v) (saidBy x) (saidBy y) → One v p q
+agreed : {l w v : List ℕ} {p q : ℕ} {x y : Formula} → ((r : ℕ) → Among r l → Still r w v) → Among p l → Among q l → p < 16 → q < 16 → Worked w p x → Worked w q y
+    → Agree (sizes v) (saidBy x) (saidBy y) → One v p q
 agreed {p = p} {q = q} k m n hp hq i j e = one-formula p q (k p m .sound) hp hq (stays i (k p m)) (stays j (k q n)) e
 
 -- ---- ADD IN EITHER ORDER: A + B into place p, B + A into place q

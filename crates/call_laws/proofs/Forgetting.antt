@@ -15,7 +15,7 @@ use Rattle.settings.specs.Refusals.{Ends}
 use Rattle.settings.specs.declared.refusals.Refusal.the-variants.{Damaged, BadPlace, BadArgument}
 use Rattle.settings.specs.declared.refusals.Outcome.{Outcome}
 use Rattle.settings.specs.declared.refusals.Outcome.the-variants.{Taken}
-use Rattle.words.proofs.Tab.{tab-ext, occurs-tab}
+use Rattle.table_words.proofs.Tab.{tab-ext, occurs-tab}
 use Rattle.rule_operators.specs.Forgetting.{Left}
 use Rattle.rule_operators.proofs.Forgetting.{forgotten-left, forgotten-largest, forgotten-swap}
 use Rattle.promises.specs.Tab.{tab}
@@ -27,13 +27,13 @@ use Rattle.promises.specs.State.{on}
 use Rattle.promises.specs.Deed.{refusals, Meets}
 use Rattle.promises.specs.Table.{stateOf}
 use Rattle.promises.specs.RuleDeeds.{looked, ruled, without, forget}
-use Rattle.words.proofs.Words.{length-sizes, at-sizes}
+use Rattle.table_words.proofs.Words.{length-sizes, at-sizes}
 use Rattle.rule_words.proofs.Reading.{at-rules}
 use Rattle.rule_sound.proofs.Pictures.{sound-proper}
-use Rattle.calls.proofs.Like.{keep, like-ends, clear, rest}
-use Rattle.calls.proofs.Drawn.{made-like}
-use Rattle.rules.proofs.Answering.{agree-roots}
-use Rattle.rules.proofs.Edge.{drawn}
+use Rattle.table_calls.proofs.Like.{keep, like-ends, clear, rest}
+use Rattle.table_calls.proofs.Drawn.{made-like}
+use Rattle.rule_calls.proofs.Answering.{agree-roots}
+use Rattle.rule_calls.proofs.Edge.{drawn}
 use Rattle.demands.specs.Agrees.{Matches}
 use Rattle.demands.specs.RuleCalls.{Forget}
 use Rattle.demands.proofs.Firm.{sure}

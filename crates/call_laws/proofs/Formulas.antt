@@ -8,14 +8,14 @@ use Rattle.theory.specs.Functions.{Agree, Amount}
 use Rattle.theory.specs.Costs.{costs, Cost, amount}
 use Rattle.settings.specs.declared.refusals.Outcome.the-variants.{Taken}
 use Rattle.promises.specs.CostOperations as O
-use Rattle.cost_laws.proofs.Relative.{offs}
+use Rattle.theory_costs.proofs.Relative.{offs}
 use Rattle.promises.specs.State.{on}
 use Rattle.promises.specs.Deed.{Meets}
 use Rattle.promises.specs.Table.{stateOf}
 use Rattle.promises.specs.CostDeeds.{cost-looked, costed, join, scale}
-use Rattle.calls.proofs.Like.{clear, rest}
-use Rattle.costs.proofs.Answering.{agree-roots, agree-bases}
-use Rattle.costs.proofs.Edge.{drawn, placed}
+use Rattle.table_calls.proofs.Like.{clear, rest}
+use Rattle.cost_calls.proofs.Answering.{agree-roots, agree-bases}
+use Rattle.cost_calls.proofs.Edge.{drawn, placed}
 use Rattle.call_laws.specs.Formulas.{One, Formula, saidBy, Worked, source, stays, added, subtracted, smaller, larger, scaled}
 use Rattle.call_laws.proofs.Standing.{there, still-agrees, written-agrees}
 use Rattle.promises.specs.Words.{sizes}

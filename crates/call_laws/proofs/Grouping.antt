@@ -24,11 +24,11 @@ use Rattle.promises.specs.Deed.{Deed, Meets}
 use Rattle.promises.specs.Table.{puts, stateOf, table}
 use Rattle.promises.specs.TableDeeds as D
 use Rattle.promises.specs.CostDeeds.{cost-looked, costed, range-cases, add}
-use Rattle.cost_laws.proofs.Range.{within-stays, constant-within}
-use Rattle.cost_laws.proofs.Relative.{offs}
+use Rattle.theory_costs.proofs.Range.{within-stays, constant-within}
+use Rattle.theory_costs.proofs.Relative.{offs}
 use Rattle.cost_sound.proofs.Pictures.{sound-proper}
-use Rattle.costs.proofs.Sounding.{sound-pos}
-use Rattle.costs.proofs.Edge.{drawn, placed}
+use Rattle.cost_calls.proofs.Sounding.{sound-pos}
+use Rattle.cost_calls.proofs.Edge.{drawn, placed}
 use Rattle.demands.proofs.Matching.{matches-refl, outnumber-like}
 use Rattle.demands.proofs.Room.{constant-fits}
 use Rattle.demands.proofs.CostLaws.{leaves-like}
@@ -89,7 +89,8 @@ module _ {w w′ : List ℕ} {p : ℕ} {x : ℤ} {o : Outcome} (c : Meets (D.con
   constant-fixed h e = record { sound = written-sound cost-looked drawn refl c e; below = h; gives = written-agrees cost-looked drawn refl c e h (λ s v. refl) }
 
 -- any call that writes another place, taken or refused, leaves it so
-fixed-stays : {d : Deed (table costed)} {w w′ : List ℕ} {p q : ℕ} {g : Cost} {x : ℤ} {r : d .Result} → Fixed w q x → d .writes (stateOf costed w) ≡ puts p g → Meets d w w′ r → (q ≡ p → ⊥) → Fixed w′ q x
+fixed-stays : {d : Deed (table costed)} {w w′ : List ℕ} {p q : ℕ} {g : Cost} {x : ℤ} {r : d .Result} → Fixed w q x → d .writes (stateOf costed w) ≡ puts p g → Meets d w w′ r
+    → (q ≡ p → ⊥) → Fixed w′ q x
 fixed-stays {d} i e c n =
     let k = call-stands cost-looked drawn {d = d} e c (i .sound) (i .below) n in
     record { sound = k .sound; below = i .below; gives = still-agrees cost-looked drawn (i .gives) k }

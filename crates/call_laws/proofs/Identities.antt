@@ -4,8 +4,8 @@ use mathlib.Core.List.{List}
 use Prim.Native.Nat.{ℕ}
 use lib.IntN.{ℤ, _+ℤ_, +ℤ-comm, +ℤ-assoc, +ℤ-negℤ-cancel}
 use Rattle.theory.specs.Costs.{Cost, amount}
-use Rattle.cost_laws.proofs.Choosing.{smaller-moves}
-use Rattle.cost_laws.proofs.Products.{mul-sum}
+use Rattle.theory_costs.proofs.Choosing.{smaller-moves}
+use Rattle.theory_costs.proofs.Products.{mul-sum}
 use Rattle.promises.specs.CostOperations.{smallerOf, sum, difference, smaller, scaled}
 
 smaller-on : (c x y : ℤ) → smallerOf (x +ℤ c) (y +ℤ c) ≡ smallerOf x y +ℤ c

@@ -15,9 +15,9 @@ use Rattle.promises.specs.Words.{sizes}
 use Rattle.promises.specs.State.{put, Places}
 use Rattle.promises.specs.Deed.{Answer, Deed, Meets}
 use Rattle.promises.specs.Table.{Tabled, Effect, puts, stateOf, Made, Leaves, table}
-use Rattle.words.specs.Picture.{Drawing}
-use Rattle.calls.proofs.Drawn.{Drawn, tabled}
-use Rattle.calls.proofs.Theorems.{ended}
+use Rattle.table_words.specs.Picture.{Drawing}
+use Rattle.table_calls.proofs.Drawn.{Drawn, tabled}
+use Rattle.table_calls.proofs.Theorems.{ended}
 use Rattle.call_laws.specs.Standing.{Among, Still, Next}
 
 -- a place of a list that is not without places is one

@@ -8,9 +8,9 @@ use lib.Signed.{ltZ, mag}
 use mir.Syntax.{w64}
 use mir.Val.{SFits, toZ, ofZ}
 use mir.Facts.{toZ-ofZ}
-use Rattle.cost_laws.specs.Integers.{wordFor}
-use Rattle.cost_laws.proofs.Integers.{rise-near, fall-near, test-lt, test-le}
-use Rattle.cost_laws.proofs.Words.{fits-signed, word-signed}
+use Rattle.theory_costs.specs.Integers.{wordFor}
+use Rattle.theory_costs.proofs.Integers.{rise-near, fall-near, test-lt, test-le}
+use Rattle.theory_costs.proofs.Words.{fits-signed, word-signed}
 use Rattle.promises.specs.Integers.{Fit, bias}
 use Rattle.promises.specs.Range.{costMost}
 

@@ -8,16 +8,16 @@ use lib.ListN.{length, getD, set, length-set}
 use lib.Seq.{getD-set-same, getD-set-other}
 use Rattle.theory.specs.Costs.{costs}
 use Rattle.theory.specs.Diagrams.{Branch, node}
-use Rattle.words.specs.Coding.{branches}
-use Rattle.words.specs.Words.{listed}
-use Rattle.words.proofs.Coding.{branches-same}
-use Rattle.words.proofs.Tab.{same, tab-none, tab-snoc, tab-ext}
+use Rattle.table_words.specs.Coding.{branches}
+use Rattle.table_words.specs.Words.{listed}
+use Rattle.table_words.proofs.Coding.{branches-same}
+use Rattle.table_words.proofs.Tab.{same, tab-none, tab-snoc, tab-ext}
 use Rattle.cost_words.specs.Words.{code, packed}
 use Rattle.cost_words.proofs.Packing.{faithful, target-end, target-node, packed-goes, packed-added}
 use Rattle.cost_words.proofs.Reading.{length-nodes, under-word}
-use Rattle.sweep.specs.Collecting.{Good, Ready, Moved, Turning, Moving}
-use Rattle.sweep.proofs.Copying.{moved-leaf, turning-none, turning-more}
-use Rattle.sweep.proofs.Framing.{value-small, arm-kept, still-before}
+use Rattle.table_sweep.specs.Collecting.{Good, Ready, Moved, Turning, Moving}
+use Rattle.table_sweep.proofs.Copying.{moved-leaf, turning-none, turning-more}
+use Rattle.table_sweep.proofs.Framing.{value-small, arm-kept, still-before}
 use Rattle.promises.specs.Integers.{int}
 use Rattle.promises.specs.Words.{size, count, feature, body}
 use Rattle.promises.specs.CostWords.{target, costBranch as branch, goes, added, costNodes as nodes}

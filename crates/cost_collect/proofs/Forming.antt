@@ -10,16 +10,16 @@ use Rattle.theory.specs.Costs.{costs}
 use Rattle.theory.specs.Diagrams.{Branch, blank, meaning}
 use Rattle.theory.specs.Settings.{Valid}
 use Rattle.theory.specs.WellFormed.{Ok}
-use Rattle.cost_laws.specs.Integers.{wordFor}
-use Rattle.words.proofs.Tab.{split, getD-tab}
+use Rattle.theory_costs.specs.Integers.{wordFor}
+use Rattle.table_words.proofs.Tab.{split, getD-tab}
 use Rattle.cost_words.specs.Words.{targetWord, code}
 use Rattle.cost_words.specs.Picture.{rootOf}
 use Rattle.cost_words.proofs.Packing.{faithful, target-word, word-int}
 use Rattle.cost_words.proofs.Showing.{body-shows, root-shows, base-shows}
-use Rattle.sweep.specs.Collecting.{Loose, Moved}
-use Rattle.sweep.specs.Form.{Regular, rootsOf}
-use Rattle.sweep.proofs.Finishing.{placed-untidy, placed-range}
-use Rattle.sweep.proofs.Placing.{Placed, Replaced, Rooting, rooting-more}
+use Rattle.table_sweep.specs.Collecting.{Loose, Moved}
+use Rattle.table_sweep.specs.Form.{Regular, rootsOf}
+use Rattle.table_sweep.proofs.Finishing.{placed-untidy, placed-range}
+use Rattle.table_sweep.proofs.Placing.{Placed, Replaced, Rooting, rooting-more}
 use Rattle.cost_collect.specs.Tidy.{form, Untidy}
 use Rattle.promises.specs.Integers.{Fit}
 use Rattle.promises.specs.Range.{Within, costMost}

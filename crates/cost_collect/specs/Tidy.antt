@@ -4,8 +4,8 @@ use Prim.Native.Nat.{ℕ, _<_}
 use Rattle.theory.specs.Costs.{costs}
 use Rattle.cost_words.specs.Words.{code}
 use Rattle.cost_words.specs.Picture.{drawing}
-use Rattle.sweep.specs.Form.{Form}
-use Rattle.sweep.specs.Tidy as T
+use Rattle.table_sweep.specs.Form.{Form}
+use Rattle.table_sweep.specs.Tidy as T
 use Rattle.promises.specs.Range.{Within, costMost}
 use Rattle.promises.specs.Words.{sizes}
 use Rattle.promises.specs.CostWords.{rootAt, costOf}

@@ -11,14 +11,14 @@ use Rattle.theory.specs.Diagrams.{Branch, Node, Target, value}
 use Rattle.theory.specs.Settings.{Pos, Valid, zeros}
 use Rattle.theory.specs.WellFormed.{Ok, Under, WF}
 use Rattle.theory.proofs.Ranges.{zeros-valid}
-use Rattle.cost_laws.specs.Narrow.{Placed, Spread}
-use Rattle.cost_laws.specs.Relative.{branchAt, apartFrom, onward}
-use Rattle.cost_laws.proofs.Adding.{Splits, add-splits, subtract-splits, scale-splits, splits-zero}
-use Rattle.cost_laws.proofs.Integers.{ℕ-eq, sum-ℕ, minus-ℕ, fit-minus, fit-more, fit-zero, minus-zero}
-use Rattle.cost_laws.proofs.Placing.{Takes, adds-fits, placed-start, placed-wait, placed-step, placed-fits, placed-ext, placed-result}
-use Rattle.cost_laws.proofs.Range.{smaller-takes, larger-takes}
-use Rattle.cost_laws.proofs.Relative.{offs, value-from, from-step, from-zeros, branch-under}
-use Rattle.cost_laws.proofs.Spreads.{spread-agree, spread-lower, walk-spread, walk-spread-wait, within-agree, within-spread}
+use Rattle.theory_costs.specs.Narrow.{Placed, Spread}
+use Rattle.theory_costs.specs.Relative.{branchAt, apartFrom, onward}
+use Rattle.theory_costs.proofs.Adding.{Splits, add-splits, subtract-splits, scale-splits, splits-zero}
+use Rattle.theory_costs.proofs.Integers.{ℕ-eq, sum-ℕ, minus-ℕ, fit-minus, fit-more, fit-zero, minus-zero}
+use Rattle.theory_costs.proofs.Placing.{Takes, adds-fits, placed-start, placed-wait, placed-step, placed-fits, placed-ext, placed-result}
+use Rattle.theory_costs.proofs.Range.{smaller-takes, larger-takes}
+use Rattle.theory_costs.proofs.Relative.{offs, value-from, from-step, from-zeros, branch-under}
+use Rattle.theory_costs.proofs.Spreads.{spread-agree, spread-lower, walk-spread, walk-spread-wait, within-agree, within-spread}
 use Rattle.cost_engine.specs.Joint.{opOf, together, joint, jointFrom, ahead, gap, Based, Bounded}
 use Rattle.cost_engine.specs.declared.operators.Operator.{Operator}
 use Rattle.cost_engine.specs.declared.operators.Operator.the-variants.{Add, Subtract, Smaller, Larger, Scale}

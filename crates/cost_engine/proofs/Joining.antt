@@ -11,12 +11,12 @@ use Rattle.theory.specs.Functions.{lift}
 use Rattle.theory.specs.Settings.{zeros}
 use Rattle.theory.specs.WellFormed.{Ok, WF}
 use Rattle.theory.proofs.Values.{value-ext, value-next, value-wait, value-zeros}
-use Rattle.cost_laws.specs.Relative.{branchAt}
-use Rattle.cost_laws.proofs.Adding.{Splits, add-splits, subtract-splits, scale-splits}
-use Rattle.cost_laws.proofs.Choosing.{Moves, smaller-moves, larger-moves, onward-sum}
-use Rattle.cost_laws.proofs.Integers.{ℕ-eq, sum-ℕ}
-use Rattle.cost_laws.proofs.Relative.{value-from, from-end}
-use Rattle.cost_laws.proofs.Walks.{Walk}
+use Rattle.theory_costs.specs.Relative.{branchAt}
+use Rattle.theory_costs.proofs.Adding.{Splits, add-splits, subtract-splits, scale-splits}
+use Rattle.theory_costs.proofs.Choosing.{Moves, smaller-moves, larger-moves, onward-sum}
+use Rattle.theory_costs.proofs.Integers.{ℕ-eq, sum-ℕ}
+use Rattle.theory_costs.proofs.Relative.{value-from, from-end}
+use Rattle.theory_costs.proofs.Walks.{Walk}
 use Rattle.cost_engine.specs.Joint.{opOf, together, joint, jointFrom, ahead, gap}
 use Rattle.cost_engine.specs.declared.operators.Operator.{Operator}
 use Rattle.cost_engine.specs.declared.operators.Operator.the-variants.{Add, Subtract, Smaller, Larger, Scale}

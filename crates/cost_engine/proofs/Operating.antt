@@ -6,9 +6,9 @@ use native.Mathlib.Nat.{mul-zero, zero-mul, add-zero, zero-add}
 use native.Mathlib.Omega.{arith}
 use lib.IntN.{ℤ, pos, negℤ, _*ℤ_}
 use lib.Signed.{ltZ}
-use Rattle.cost_laws.proofs.Integers.{ℕ-eq, neg-rise, neg-fall}
-use Rattle.cost_laws.proofs.Products.{mul-rise, mul-fall}
-use Rattle.cost_laws.proofs.Words.{int-ℕ, int-lt, int-le}
+use Rattle.theory_costs.proofs.Integers.{ℕ-eq, neg-rise, neg-fall}
+use Rattle.theory_costs.proofs.Products.{mul-rise, mul-fall}
+use Rattle.theory_costs.proofs.Words.{int-ℕ, int-lt, int-le}
 use Rattle.cost_words.proofs.Packing.{int-zero}
 use Rattle.cost_engine.specs.Joint.{opOf}
 use Rattle.cost_engine.specs.declared.operators.Operator.{Operator}

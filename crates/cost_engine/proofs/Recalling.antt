@@ -10,9 +10,9 @@ use Rattle.theory.specs.WellFormed.{Mean}
 use Rattle.theory.proofs.Growing.{make-grows}
 use Rattle.theory.proofs.Values.{mean-more}
 use Rattle.theory.proofs.WellFormed.{ok-ext}
-use Rattle.words.proofs.Filling.{grown-nodes}
-use Rattle.words.proofs.Words.{kept-sizes}
-use Rattle.notes.specs.Plain.{plain}
+use Rattle.table_words.proofs.Filling.{grown-nodes}
+use Rattle.table_words.proofs.Words.{kept-sizes}
+use Rattle.table_notes.specs.Plain.{plain}
 use Rattle.cost_nodes.specs.Nodes.{Holds, Makes, Result, arms}
 use Rattle.cost_nodes.specs.declared.Answer.{Answer}
 use Rattle.cost_nodes.specs.declared.Answer.the-variants.{Is}
@@ -20,7 +20,7 @@ use Rattle.cost_nodes.proofs.Reading.{lawful}
 use Rattle.cost_nodes.proofs.Filling.{gives-is, result-ext, result-mean, mean-result}
 use Rattle.cost_engine.specs.Joint.{jointFrom, Operands}
 use Rattle.cost_memory.proofs.Remembering.{remembers-map}
-use Rattle.notes.specs.Far.{memory, Aside}
+use Rattle.table_notes.specs.Far.{memory, Aside}
 use Rattle.cost_notes.proofs.Remembering as N
 use Rattle.cost_engine.specs.Memory.{Recalled, Right, Remembers, Noted, Still, StillIf}
 use Rattle.cost_engine.specs.declared.operators.Operator.{Operator}
@@ -37,11 +37,16 @@ recalled-more w t o k x y d z e ok q m c =
     record {
       first = ok-ext (nodes w) (nodes t) k (bare (target x)) m (c .first);
       second = ok-ext (nodes w) (nodes t) k (bare (target y)) m (c .second);
-      mean = rw q (record { ok = r .ok; says = λ s v. r .says s v ∙ sym (joint-ext o (nodes w) k (bare (target x)) (bare (target y)) (int d) (sizes w) (nodes t) (ok .wf) m (c .first) (c .second) s) });
+      mean = rw q (record {
+        ok = r .ok;
+        says = λ s v. r .says s v ∙ sym (joint-ext o (nodes w) k (bare (target x)) (bare (target y)) (int d) (sizes w) (nodes t) (ok .wf) m
+            (c .first) (c .second) s);
+      });
     }
 
 -- what `build` gave may be remembered
-pub result-recalled : (w t : List ℕ) (o : Operator) (k x y d z e : ℕ) → Operands w o k x y (int d) → Result w t k (jointFrom o (nodes w) k (target x) (target y) (int d)) (Is z e) → Recalled t o k x y d z e
+pub result-recalled : (w t : List ℕ) (o : Operator) (k x y d z e : ℕ) → Operands w o k x y (int d)
+    → Result w t k (jointFrom o (nodes w) k (target x) (target y) (int d)) (Is z e) → Recalled t o k x y d z e
 result-recalled w t o k x y d z e p r =
     let q : sizes t ≡ sizes w = kept-sizes w t (r .grown .kept) (p .holds .laid .laid .few) in
     let m : Ext (nodes w) (nodes t) = result-ext w t k (jointFrom o (nodes w) k (target x) (target y) (int d)) (Is z e) (p .holds) r in
@@ -49,7 +54,11 @@ result-recalled w t o k x y d z e p r =
     record {
       first = ok-ext (nodes w) (nodes t) k (bare (target x)) m (p .first);
       second = ok-ext (nodes w) (nodes t) k (bare (target y)) m (p .second);
-      mean = rw q (record { ok = f .ok; says = λ s v. f .says s v ∙ sym (joint-ext o (nodes w) k (bare (target x)) (bare (target y)) (int d) (sizes w) (nodes t) (p .holds .wf) m (p .first) (p .second) s) });
+      mean = rw q (record {
+        ok = f .ok;
+        says = λ s v. f .says s v ∙ sym (joint-ext o (nodes w) k (bare (target x)) (bare (target y)) (int d) (sizes w) (nodes t)
+            (p .holds .wf) m (p .first) (p .second) s);
+      });
     }
 
 -- ---- the memory
@@ -74,7 +83,8 @@ pub recalled-result : (w : List ℕ) (o : Operator) (tag k x y d z e : ℕ) → 
 recalled-result w o tag k x y d z e p q r = mean-result w k (jointFrom o (nodes w) k (target x) (target y) (int d)) z e (p .holds) (r .at k q .mean)
 
 -- after `make_in`, wherever the walk remembers
-pub noted-made : (w t : List ℕ) (k : ℕ) (xs ys : List ℕ) (r : Answer) (z e : ℕ) (o : Operator) (s : List ℕ) → Holds (plain w) → Makes (plain w) (plain t) k xs ys r × Aside w t → r ≡ Is z e → Noted w o s → Noted t o s
+pub noted-made : (w t : List ℕ) (k : ℕ) (xs ys : List ℕ) (r : Answer) (z e : ℕ) (o : Operator) (s : List ℕ) → Holds (plain w) → Makes (plain w) (plain t) k xs ys r × Aside w t
+    → r ≡ Is z e → Noted w o s → Noted t o s
 noted-made w t k xs ys r z e o s ok m q n = N.noted-made w t s n (m .0 .grown .kept) (m .1) (remembers-made (plain w) (plain t) k xs ys r z e o (memory w s) ok (m .0) q)
 
 -- ---- what the calls leave

@@ -16,14 +16,14 @@ use Rattle.theory.proofs.Canonical.{build-agree}
 use Rattle.theory.proofs.Lifting.{build-adds, build-lift}
 use Rattle.theory.proofs.Values.{value-ending}
 use Rattle.theory.proofs.WellFormed.{ok-ext}
-use Rattle.cost_laws.specs.Relative.{branchAt}
-use Rattle.cost_laws.proofs.Relative.{offs, branch-under}
-use Rattle.cost_laws.proofs.Walks.{raised}
-use Rattle.words.specs.Holding.{built as builtOf}
-use Rattle.words.proofs.Filling as F
-use Rattle.words.proofs.Words.{length-sizes, kept-features, kept-sizes}
-use Rattle.notes.specs.Plain.{Resting, plain}
-use Rattle.notes.proofs.Plain.{plain-of}
+use Rattle.theory_costs.specs.Relative.{branchAt}
+use Rattle.theory_costs.proofs.Relative.{offs, branch-under}
+use Rattle.theory_costs.proofs.Walks.{raised}
+use Rattle.table_words.specs.Holding.{built as builtOf}
+use Rattle.table_words.proofs.Filling as F
+use Rattle.table_words.proofs.Words.{length-sizes, kept-features, kept-sizes}
+use Rattle.table_notes.specs.Plain.{Resting, plain}
+use Rattle.table_notes.proofs.Plain.{plain-of}
 use Rattle.cost_words.proofs.Packing.{target-end}
 use Rattle.cost_nodes.specs.Nodes.{Holds, Good, top, Place, built, Result, Filling}
 use Rattle.cost_nodes.specs.declared.Answer.{Answer}
@@ -31,7 +31,7 @@ use Rattle.cost_nodes.specs.declared.Answer.the-variants.{Is, NoRoom}
 use Rattle.cost_nodes.proofs.Reading.{lawful, pos-from, sizes-from}
 use Rattle.cost_nodes.proofs.Stepping.{good-small, good-top, top-good, top-most, top-below}
 use Rattle.cost_nodes.proofs.Filling.{filling-ext, filling-narrow}
-use Rattle.cost_laws.specs.Narrow.{Narrow}
+use Rattle.theory_costs.specs.Narrow.{Narrow}
 use Rattle.cost_engine.specs.Joint.{opOf, together, joint, jointFrom, ahead, gap, Bounded, Joinable, Operands, Branches}
 use Rattle.cost_engine.specs.declared.operators.Operator.{Operator}
 use Rattle.cost_engine.proofs.Joining.{joint-none, joint-split, joint-step, joint-wait, joint-ext, joint-end}
@@ -84,7 +84,8 @@ module _ (w : List ℕ) (o : Operator) (k x y : ℕ) (d : ℤ) (p : Operands w o
           upTo = omega (arith, skip-left);
           first = good-on x (p .first) hx;
           second = good-on y (p .second) hy;
-          bounded = bounded-wait (nodes w) k (size w k) (drop (suc k) (sizes w)) (target x) (target y) d o (omega (arith, p .holds .laid .laid .large k skip-left)) (good-on x (p .first) hx) (good-on y (p .second) hy) (listed-bounded skip-left);
+          bounded = bounded-wait (nodes w) k (size w k) (drop (suc k) (sizes w)) (target x) (target y) d o (omega (arith, p .holds .laid .laid .large k skip-left))
+              (good-on x (p .first) hx) (good-on y (p .second) hy) (listed-bounded skip-left);
           narrow = p .narrow;
         })
 
@@ -95,7 +96,8 @@ module _ (w : List ℕ) (o : Operator) (k x y : ℕ) (d : ℤ) (p : Operands w o
         (λ v l s. rw add-one (joint-wait o (nodes w) k (bare (target x)) (bare (target y)) d v s (good-on x (p .first) hx) (good-on y (p .second) hy)))) r
 
   -- one value on
-  pub operands-step : (v xa a yb b : ℕ) → k < features w → v < size w k → branch xa a ≡ branchAt (nodes w) k (target x) v → branch yb b ≡ branchAt (nodes w) k (target y) v → Branches w o (k + 1) xa a yb b d
+  pub operands-step : (v xa a yb b : ℕ) → k < features w → v < size w k → branch xa a ≡ branchAt (nodes w) k (target x) v → branch yb b ≡ branchAt (nodes w) k (target y) v
+      → Branches w o (k + 1) xa a yb b d
   operands-step v xa a yb b hk hv ea eb =
       let ns : List ℕ = drop (suc k) (sizes w) in
       let c = listed-bounded hk in
@@ -164,7 +166,8 @@ module _ (w : List ℕ) (o : Operator) (k x y : ℕ) (d : ℤ) (p : Operands w o
 
 -- ---- two branches
 -- the difference by its word
-pub at-gap : (w t : List ℕ) (o : Operator) (k x y h : ℕ) (d : ℤ) (r : Answer) → int h ≡ d → Result w t k (jointFrom o (nodes w) k (target x) (target y) (int h)) r → Result w t k (jointFrom o (nodes w) k (target x) (target y) d) r
+pub at-gap : (w t : List ℕ) (o : Operator) (k x y h : ℕ) (d : ℤ) (r : Answer) → int h ≡ d → Result w t k (jointFrom o (nodes w) k (target x) (target y) (int h)) r
+    → Result w t k (jointFrom o (nodes w) k (target x) (target y) d) r
 at-gap w t o k x y h d r e g = subst (λ (z : ℤ). Result w t k (jointFrom o (nodes w) k (target x) (target y) z) r) e g
 
 module _ (w : List ℕ) (o : Operator) (k x a y b : ℕ) (d : ℤ) (p : Branches w o k x a y b d) where
@@ -216,7 +219,8 @@ module _ (w : List ℕ) (o : Operator) (x a y b : ℕ) (p : Joinable w o (branch
           upTo = omega arith;
           first = p .first .ok;
           second = p .second .ok;
-          bounded = bounded-start (sizes w) (nodes w) (ok .wf) 0 (sizes w) (pos-from w 0 ok) (branch x a) (branch y b) (p .first .ok) (p .second .ok) (p .first .within) (p .second .within) o (p .resultIn);
+          bounded = bounded-start (sizes w) (nodes w) (ok .wf) 0 (sizes w) (pos-from w 0 ok) (branch x a) (branch y b) (p .first .ok) (p .second .ok) (p .first .within)
+              (p .second .within) o (p .resultIn);
           narrow = p .first .narrow;
         };
         lead = lead-start (sizes w) (nodes w) (ok .wf) 0 (sizes w) (pos-from w 0 ok) (branch x a) (branch y b) (p .first .ok) (p .second .ok) (p .first .within) (p .second .within) o (p .resultIn);
@@ -236,7 +240,8 @@ pub joinable-plain : (w : List ℕ) (o : Operator) (b c : Branch costs) → Join
 joinable-plain w o b c p = subst (λ (u : List ℕ). Joinable u o b c) (sym (plain-of w (p .first .rest .empty))) p
 
 -- .. and its result, with the far records 0 again, is that of the table
-pub joint-cleared : (w t u : List ℕ) (o : Operator) (b c : Branch costs) (r : Answer) → Resting w → u ≡ plain t → Result (plain w) (plain t) 0 (together o (meaning (nodes (plain w)) b) (meaning (nodes (plain w)) c)) r →
+pub joint-cleared : (w t u : List ℕ) (o : Operator) (b c : Branch costs) (r : Answer) → Resting w → u ≡ plain t
+    → Result (plain w) (plain t) 0 (together o (meaning (nodes (plain w)) b) (meaning (nodes (plain w)) c)) r →
     Result w u 0 (together o (meaning (nodes w) b) (meaning (nodes w) c)) r
 joint-cleared w t u o b c r z e g =
     subst (λ (v : List ℕ). Result w v 0 (together o (meaning (nodes w) b) (meaning (nodes w) c)) r) (sym e)

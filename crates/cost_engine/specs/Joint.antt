@@ -7,8 +7,8 @@ use lib.ListN.{drop}
 use Rattle.theory.specs.Costs.{Cost, amount, costs}
 use Rattle.theory.specs.Diagrams.{Branch, Node, Target, meaning, value}
 use Rattle.theory.specs.Settings.{zeros}
-use Rattle.cost_laws.specs.Narrow.{Placed, Spread, Narrow}
-use Rattle.cost_laws.specs.Relative.{onward}
+use Rattle.theory_costs.specs.Narrow.{Placed, Spread, Narrow}
+use Rattle.theory_costs.specs.Relative.{onward}
 use Rattle.cost_notes.specs.Operand.{Operand}
 use Rattle.cost_nodes.specs.Nodes.{Holds, Good}
 use Rattle.cost_engine.specs.declared.operators.Operator.{Operator}

@@ -11,19 +11,19 @@ use cost_notes::recall_in;
 use cost_notes::remember_in;
 use cost_words::ZERO;
 use cost_words::sum_word;
-use notes::clear;
-use notes::clear_far;
 pub use operators::Operator;
 use operators::ahead_word;
 use operators::end_word;
 use operators::gap_word;
 use operators::number_of;
-use words::narrow;
-use words::size_word;
-use words::wide;
+use table_notes::clear;
+use table_notes::clear_far;
+use table_words::narrow;
+use table_words::size_word;
+use table_words::wide;
 ghost use Prim.Native.Nat.{_<_};
 ghost use Rattle.theory.specs.Diagrams.{meaning};
-ghost use Rattle.notes.specs.Plain.{plain};
+ghost use Rattle.table_notes.specs.Plain.{plain};
 ghost use Rattle.cost_nodes.specs.Nodes.{Result, Fills};
 ghost use Rattle.cost_engine.specs.Joint.{together, Joinable, joint, jointFrom, Operands, Branches};
 ghost use Rattle.cost_engine.specs.Memory.{Noted, Still, StillIf};
@@ -49,7 +49,8 @@ fn rest_result(
     d: u32,
 ) -> Answer
     requires { ⌜ (Operands (plain (now t)) o k x y (int d)) × (Noted (now t) o (now s)) ⌝ }
-    ensures { λ r. ⌜ (Result (plain (now (t .entry))) (plain (now (t .exit))) k (jointFrom o (nodes (plain (now (t .entry)))) k (target x) (target y) (int d)) r) × (Still (now (t .exit)) o (now (s .exit)) r) ⌝ }
+    ensures { λ r. ⌜ (Result (plain (now (t .entry))) (plain (now (t .exit))) k (jointFrom o (nodes (plain (now (t .entry)))) k (target x) (target y) (int d)) r)
+        × (Still (now (t .exit)) o (now (s .exit)) r) ⌝ }
 {
     if x + y == 0 {
         return Answer::Is(0, end_word(o, d));
@@ -87,7 +88,8 @@ fn fill_branches(
     d: u32,
 ) -> Filled
     requires { ⌜ (Operands (plain (now t)) o k x y (int d)) × (Noted (now t) o (now s)) × (k < features (plain (now t))) ⌝ }
-    ensures { λ r. ⌜ (Fills (plain (now (t .entry))) (plain (now (t .exit))) k (jointFrom o (nodes (plain (now (t .entry)))) k (target x) (target y) (int d)) (r .ok) (r .goes) (r .adds)) × (StillIf (now (t .exit)) o (now (s .exit)) (r .ok)) ⌝ }
+    ensures { λ r. ⌜ (Fills (plain (now (t .entry))) (plain (now (t .exit))) k (jointFrom o (nodes (plain (now (t .entry)))) k (target x) (target y) (int d)) (r .ok)
+        (r .goes) (r .adds)) × (StillIf (now (t .exit)) o (now (s .exit)) (r .ok)) ⌝ }
 {
     let m = wide(size_word(t, k));
     let mut goes = [0u32; 8];
@@ -125,7 +127,8 @@ fn branch_result(
     d: u32,
 ) -> Answer
     requires { ⌜ (Branches (plain (now t)) o k (a .to) (a .adds) (b .to) (b .adds) (int d)) × (Noted (now t) o (now s)) ⌝ }
-    ensures { λ r. ⌜ (Result (plain (now (t .entry))) (plain (now (t .exit))) k (joint o (nodes (plain (now (t .entry)))) k (branch (a .to) (a .adds)) (branch (b .to) (b .adds)) (int d)) r) × (Still (now (t .exit)) o (now (s .exit)) r) ⌝ }
+    ensures { λ r. ⌜ (Result (plain (now (t .entry))) (plain (now (t .exit))) k
+        (joint o (nodes (plain (now (t .entry)))) k (branch (a .to) (a .adds)) (branch (b .to) (b .adds)) (int d)) r) × (Still (now (t .exit)) o (now (s .exit)) r) ⌝ }
 {
     let g = gap_word(o, d, a.adds, b.adds);
     let Answer::Is(z, e) = rest_result(t, s, o, k, a.to, b.to, g) else {
@@ -137,7 +140,8 @@ fn branch_result(
 // The joint cost of two branches, built after the table's nodes, with remembered results in s, whatever it holds, or in the far records, which are 0 again.
 pub fn join_costs(t: &mut [u32], s: &mut [u32], o: Operator, a: Arm, b: Arm) -> Answer
     requires { ⌜ Joinable (now t) o (branch (a .to) (a .adds)) (branch (b .to) (b .adds)) ⌝ }
-    ensures { λ r. ⌜ Result (now (t .entry)) (now (t .exit)) 0 (together o (meaning (nodes (now (t .entry))) (branch (a .to) (a .adds))) (meaning (nodes (now (t .entry))) (branch (b .to) (b .adds)))) r ⌝ }
+    ensures { λ r. ⌜ Result (now (t .entry)) (now (t .exit)) 0
+        (together o (meaning (nodes (now (t .entry))) (branch (a .to) (a .adds))) (meaning (nodes (now (t .entry))) (branch (b .to) (b .adds)))) r ⌝ }
 {
     clear(s);
     let r = branch_result(t, s, o, 0, a, b, ZERO);

@@ -6,8 +6,8 @@ use Prim.Native.Nat.{ℕ, _+_, _*_, _≤_, _<_}
 use native.Mathlib.Omega.{arith}
 use lib.ListN.{length, replicate, set, length-replicate, length-set, getD-replicate}
 use lib.Seq.{getD-set-same, getD-set-other}
-use Rattle.words.proofs.Tab.{same}
-use Rattle.notes.specs.Plain.{Cleared}
+use Rattle.table_words.proofs.Tab.{same}
+use Rattle.table_notes.specs.Plain.{Cleared}
 use Rattle.cost_memory.specs.Memory.{noted, Remembers, Entry, Recalls, Stored}
 use Rattle.cost_memory.specs.declared.Memo.{Memo}
 use Rattle.cost_memory.specs.declared.Memo.the-variants.{Known}
@@ -45,7 +45,8 @@ module _ {R : ℕ → ℕ → ℕ → ℕ → ℕ → ℕ → Type 0} where
       right i h q = ⊎-elim
           (λ f. said-like R tag x y d z e _ _ _ _ _ _ (sym (f .tagged)) (sym (f .first)) (sym (f .second)) (sym (f .more)) (sym (f .goes)) (sym (f .adds)) c)
           (λ f.
-          said-like R _ _ _ _ _ _ _ _ _ _ _ _ (sym (f 0 (omega arith))) (sym (f 1 (omega arith))) (sym (f 2 (omega arith))) (sym (f 3 (omega arith))) (sym (f 4 (omega arith))) (sym (f 5 (omega arith)))
+          said-like R _ _ _ _ _ _ _ _ _ _ _ _ (sym (f 0 (omega arith))) (sym (f 1 (omega arith))) (sym (f 2 (omega arith))) (sym (f 3 (omega arith))) (sym (f 4 (omega arith)))
+          (sym (f 5 (omega arith)))
           (m .right i (omega (arith, st .long)) (omega (arith, f 0 (omega arith)))))
           (st .entries i (omega (arith, st .long)))
 

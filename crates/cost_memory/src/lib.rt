@@ -1,9 +1,6 @@
 // What scratch words remember of a walk over costs: entries of 6 words, a tag (0: empty), two targets and a difference, the two words of the result.
 mod operators; // operators.rt: the numbers of the operators
 
-use notes::mixed;
-use notes::slot_after;
-use notes::slot_at;
 pub use operators::ADD;
 pub use operators::CHOOSE;
 pub use operators::LARGER;
@@ -12,6 +9,9 @@ pub use operators::LOWEST;
 pub use operators::SCALE;
 pub use operators::SMALLER;
 pub use operators::SUBTRACT;
+use table_notes::mixed;
+use table_notes::slot_after;
+use table_notes::slot_at;
 ghost use Prim.Native.Nat.{_+_, _*_, _≤_, _<_};
 ghost use lib.ListN.{length};
 ghost use Rattle.cost_memory.specs.Memory.{Recalls, Stored};

@@ -19,19 +19,19 @@ use Rattle.theory.proofs.Lists.{pos-drop}
 use Rattle.theory.proofs.Meaning.{Rights, build-right, each-right}
 use Rattle.theory.proofs.Ranges.{zeros-valid}
 use Rattle.theory.proofs.Values.{means-at, value-zeros}
-use Rattle.cost_laws.specs.Narrow.{Spread, Narrow}
-use Rattle.cost_laws.proofs.Narrow.{branches-narrow}
-use Rattle.cost_laws.proofs.Nearing.{arms-near}
+use Rattle.theory_costs.specs.Narrow.{Spread, Narrow}
+use Rattle.theory_costs.proofs.Narrow.{branches-narrow}
+use Rattle.theory_costs.proofs.Nearing.{arms-near}
 use Rattle.cost_words.proofs.Summing.{way}
 use Rattle.theory.specs.Settings.{Pos}
-use Rattle.cost_laws.specs.Extremes.{Passed, along}
-use Rattle.cost_laws.proofs.Relative.{offs}
-use Rattle.words.specs.Holding as H
-use Rattle.words.specs.Holding.{eachTo}
-use Rattle.words.specs.Words.{listed}
-use Rattle.words.proofs.Filling as F
-use Rattle.words.proofs.Tab.{tab-none, tab-snoc, tab-ext, getD-tab}
-use Rattle.words.proofs.Words.{length-sizes, at-sizes, kept-size}
+use Rattle.theory_costs.specs.Extremes.{Passed, along}
+use Rattle.theory_costs.proofs.Relative.{offs}
+use Rattle.table_words.specs.Holding as H
+use Rattle.table_words.specs.Holding.{eachTo}
+use Rattle.table_words.specs.Words.{listed}
+use Rattle.table_words.proofs.Filling as F
+use Rattle.table_words.proofs.Tab.{tab-none, tab-snoc, tab-ext, getD-tab}
+use Rattle.table_words.proofs.Words.{length-sizes, at-sizes, kept-size}
 use Rattle.cost_nodes.specs.Nodes.{layout, Holds, told, Gives, Result, Makes, built, arms, Armed, Filling, Stopped, Fills}
 use Rattle.cost_nodes.specs.declared.Answer.{Answer}
 use Rattle.cost_nodes.specs.declared.Answer.the-variants.{Is, NoRoom}
@@ -120,7 +120,8 @@ module _ (w : List ℕ) (k : ℕ) (g : Cost) (ok : Holds w) (hk : k < features w
       let q : Rights (sizes w) (suc k) ns (parts 0 n g) (nodes w) (eachTo layout w k g n) =
       each-right (sizes w) (suc k) ns (build (suc k) ns) (build-right (sizes w) (suc k) ns refl) (parts 0 n g) (nodes w) (ok .wf) in
       let m : Mean (eachTo layout w k g n .1) (suc k) ns (getD (eachTo layout w k g n .0) v blank) (held v g) =
-      subst (λ (u : ℕ). Mean (eachTo layout w k g n .1) (suc k) ns (getD (eachTo layout w k g n .0) v blank) (held u g)) (zero-add v) (means-at (eachTo layout w k g n .1) (suc k) ns (eachTo layout w k g n .0) 0 n g (q .means) v hn) in
+      subst (λ (u : ℕ). Mean (eachTo layout w k g n .1) (suc k) ns (getD (eachTo layout w k g n .0) v blank) (held u g)) (zero-add v)
+      (means-at (eachTo layout w k g n .1) (suc k) ns (eachTo layout w k g n .0) 0 n g (q .means) v hn) in
       let e : getD (eachTo layout w k g n .0) v blank ≡ branch (listed x v) (listed a v) =
       ap (λ (bs : List (Branch costs)). getD bs v blank) (sym (full t x a f .says)) ∙ getD-tab (λ u. branch (listed x u) (listed a u)) (size w k) v blank h in
       ap (λ (b : Branch costs). b .adds) (sym e)
@@ -137,7 +138,8 @@ module _ (w : List ℕ) (k : ℕ) (g : Cost) (ok : Holds w) (hk : k < features w
       subst (Fit addMost) (sym (λ i. fill-adds t x a f v h i -ℤ fill-adds t x a f 0 (omega arith) i)) (r .apart (v ∷ zeros ns) (0 ∷ zeros ns) (h, z) (omega arith, z))
 
   -- the nodes stay narrow while a cost of this spread is filled in
-  pub filling-narrow : (t : List ℕ) (v : ℕ) (x a : List ℕ) → Filling w t k g v x a → v ≤ size w k → Spread addMost (drop k (sizes w)) g → Narrow addMost (sizes w) (nodes w) → Narrow addMost (sizes t) (nodes t)
+  pub filling-narrow : (t : List ℕ) (v : ℕ) (x a : List ℕ) → Filling w t k g v x a → v ≤ size w k → Spread addMost (drop k (sizes w)) g → Narrow addMost (sizes w) (nodes w)
+      → Narrow addMost (sizes t) (nodes t)
   unfolding eachTo
   filling-narrow t v x a f l sp nr =
       let n : ℕ = getD (sizes w) k 0 in
@@ -161,9 +163,11 @@ module _ (w : List ℕ) (k : ℕ) (g : Cost) (ok : Holds w) (hk : k < features w
       let r : Rights (sizes w) (suc k) ns (parts 0 n g) (nodes w) (eachTo layout w k g n) =
       each-right (sizes w) (suc k) ns (build (suc k) ns) (build-right (sizes w) (suc k) ns refl) (parts 0 n g) (nodes w) (ok .wf) in
       let y : Fit addMost (along (kept up t) (getD (arms (size w k) x a) v blank) -ℤ base (arms (size w k) x a)) =
-      arms-near (way up) (sizes w) k n ns c (subst Pos c (pos-drop k (sizes w) (lawful .positive w (ok .laid)))) (nodes t) (rw e (r .wfs)) (kept up t) q g (arms (size w k) x a) (rw (e, b) (r .means)) (subst (λ (ms : List ℕ). Spread addMost ms g) c sp) v (omega arith) in
+      arms-near (way up) (sizes w) k n ns c (subst Pos c (pos-drop k (sizes w) (lawful .positive w (ok .laid)))) (nodes t) (rw e (r .wfs)) (kept up t) q g
+      (arms (size w k) x a) (rw (e, b) (r .means)) (subst (λ (ms : List ℕ). Spread addMost ms g) c sp) v (omega arith) in
       subst (Fit addMost)
-      (ap₂ (λ (p q : Branch costs). along (kept up t) p -ℤ q .adds) (getD-tab (λ u. branch (listed x u) (listed a u)) (size w k) v blank h) (getD-tab (λ u. branch (listed x u) (listed a u)) (size w k) 0 blank (omega arith))) y
+      (ap₂ (λ (p q : Branch costs). along (kept up t) p -ℤ q .adds) (getD-tab (λ u. branch (listed x u) (listed a u)) (size w k) v blank h)
+      (getD-tab (λ u. branch (listed x u) (listed a u)) (size w k) 0 blank (omega arith))) y
 
   -- and its answer is the result
   pub fill-make : (t t′ x a : List ℕ) (o : Answer) → Filling w t k g (size w k) x a → Makes t t′ k x a o → Result w t′ k g o

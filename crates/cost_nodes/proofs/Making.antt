@@ -16,19 +16,19 @@ use Rattle.theory.specs.Diagrams.{Branch, Target, blank, node, up}
 use Rattle.theory.specs.WellFormed.{Ok}
 use Rattle.theory.proofs.Lists.{getD-map-in}
 use Rattle.theory.proofs.Offsets.{Level}
-use Rattle.cost_laws.specs.Extremes.{along, keptAt, own}
-use Rattle.cost_laws.proofs.Extremes.{across-ext}
-use Rattle.cost_laws.proofs.Integers.{ℕ-eq, sum-ℕ, minus-ℕ, minus-self}
-use Rattle.cost_laws.proofs.Words.{int-one}
-use Rattle.words.specs.Coding.{branches}
-use Rattle.words.specs.Holding as H
-use Rattle.words.specs.Words.{listed}
-use Rattle.words.proofs.Coding.{length-nodes}
-use Rattle.words.proofs.Filling.{raised, gives-lift}
-use Rattle.words.proofs.Tab.{split, length-tab, getD-tab}
-use Rattle.records.specs.Changes.{pairOf, Pushed, RecordIs, Finds as FindsRecord}
-use Rattle.records.specs.Nodes.{Listed, nodeOf, Behind, Absent}
-use Rattle.records.proofs.Making as M
+use Rattle.theory_costs.specs.Extremes.{along, keptAt, own}
+use Rattle.theory_costs.proofs.Extremes.{across-ext}
+use Rattle.theory_costs.proofs.Integers.{ℕ-eq, sum-ℕ, minus-ℕ, minus-self}
+use Rattle.theory_costs.proofs.Words.{int-one}
+use Rattle.table_words.specs.Coding.{branches}
+use Rattle.table_words.specs.Holding as H
+use Rattle.table_words.specs.Words.{listed}
+use Rattle.table_words.proofs.Coding.{length-nodes}
+use Rattle.table_words.proofs.Filling.{raised, gives-lift}
+use Rattle.table_words.proofs.Tab.{split, length-tab, getD-tab}
+use Rattle.table_records.specs.Changes.{pairOf, Pushed, RecordIs, Finds as FindsRecord}
+use Rattle.table_records.specs.Nodes.{Listed, nodeOf, Behind, Absent}
+use Rattle.table_records.proofs.Making as M
 use Rattle.cost_words.specs.Sides.{endOf, armSum, Bodied, Sides}
 use Rattle.cost_words.specs.Words.{code, packed, pairWord, targetOf}
 use Rattle.cost_words.proofs.Pairing.{new-pair}
@@ -210,14 +210,16 @@ module _ (w : List ℕ) (k : ℕ) (x a r l : List ℕ) (ok : Holds w) (hk : k < 
     where
       pair : (c ≡ pairWord (sizes w) (nodes w ++ (nodeOf code w k l ∷ [])) (length (nodes w)) 0) × (d ≡ pairWord (sizes w) (nodes w ++ (nodeOf code w k l ∷ [])) (length (nodes w)) 1)
       pair =
-          new-pair (sizes w) (lawful .positive w (ok .laid)) (nodes w) (nodeOf code w k l) (M.new-wf faithful w k l ok hk fits (level-bs w k l ok hk levelled) ab) (λ up. kept up w) (ar .paired) c d (sides-are c d e false ∙ own-is false) (sides-are c d e true ∙ own-is true)
+          new-pair (sizes w) (lawful .positive w (ok .laid)) (nodes w) (nodeOf code w k l) (M.new-wf faithful w k l ok hk fits (level-bs w k l ok hk levelled) ab)
+          (λ up. kept up w) (ar .paired) c d (sides-are c d e false ∙ own-is false) (sides-are c d e true ∙ own-is true)
 
       go : (j : ℕ) → j < 2 → pairOf c d j ≡ pairWord (sizes w) (nodes w ++ (nodeOf code w k l ∷ [])) (count w) j
       go zero h = pair .0 ∙ ap (λ (i : ℕ). pairWord (sizes w) (nodes w ++ (nodeOf code w k l ∷ [])) i 0) (length-nodes code w)
       go (suc zero) h = pair .1 ∙ ap (λ (i : ℕ). pairWord (sizes w) (nodes w ++ (nodeOf code w k l ∷ [])) i 1) (length-nodes code w)
       go (suc (suc j)) h = absurd (omega arith)
 
-  pub made-new : (w′ : List ℕ) (y i c d n : ℕ) → Absent code w k l → count w < capacity w → target y ≡ node i → i ≡ count w → n ≡ m → Sides w l n c d → Pushed w w′ k l c d → Makes w w′ k x a (Is y (listed a 0))
+  pub made-new : (w′ : List ℕ) (y i c d n : ℕ) → Absent code w k l → count w < capacity w → target y ≡ node i → i ≡ count w → n ≡ m → Sides w l n c d → Pushed w w′ k l c d
+      → Makes w w′ k x a (Is y (listed a 0))
   made-new w′ y i c d n ab less e ei en s p =
       answered w′ y
       (subst (λ (b : Branch costs). H.Gives layout w w′ (make k (branches code m (listed l)) (nodes w)) (some b)) (bare-branch y (node (count w)) (e ∙ ap node ei))

@@ -8,12 +8,12 @@ use lib.ListN.{length, drop}
 use Rattle.theory.specs.Settings.{Pos}
 use Rattle.theory.specs.WellFormed.{Ok}
 use Rattle.theory.proofs.Lists.{pos-drop}
-use Rattle.cost_laws.specs.Extremes.{Passed}
-use Rattle.cost_laws.specs.Narrow.{Narrow}
-use Rattle.words.specs.Holding.{Lawful}
-use Rattle.words.proofs.Filling as F
-use Rattle.words.proofs.Words.{length-sizes, at-sizes}
-use Rattle.records.proofs.Making as M
+use Rattle.theory_costs.specs.Extremes.{Passed}
+use Rattle.theory_costs.specs.Narrow.{Narrow}
+use Rattle.table_words.specs.Holding.{Lawful}
+use Rattle.table_words.proofs.Filling as F
+use Rattle.table_words.proofs.Words.{length-sizes, at-sizes}
+use Rattle.table_records.proofs.Making as M
 use Rattle.cost_words.specs.Words.{code}
 use Rattle.cost_words.proofs.Pairing.{spared-pairs, pairs-passed}
 use Rattle.cost_words.proofs.Reading.{length-nodes, under-word}

@@ -9,10 +9,10 @@ use Rattle.theory.specs.Costs.{costs}
 use Rattle.theory.specs.Diagrams.{Node, at}
 use Rattle.theory.specs.WellFormed.{Ok}
 use Rattle.theory.proofs.WellFormed.{ok-ext}
-use Rattle.cost_laws.specs.Relative.{branchAt}
-use Rattle.cost_laws.proofs.Relative.{branch-here, branch-wait, branch-under}
-use Rattle.words.specs.Words.{Kept}
-use Rattle.words.proofs.Words.{kept-features}
+use Rattle.theory_costs.specs.Relative.{branchAt}
+use Rattle.theory_costs.proofs.Relative.{branch-here, branch-wait, branch-under}
+use Rattle.table_words.specs.Words.{Kept}
+use Rattle.table_words.proofs.Words.{kept-features}
 use Rattle.cost_words.proofs.Packing.{target-node, int-zero}
 use Rattle.cost_words.proofs.Reading.{length-nodes, at-nodes, branch-at, under-word}
 use Rattle.cost_nodes.specs.Nodes.{Holds, Good, top, Place}

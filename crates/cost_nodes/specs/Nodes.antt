@@ -10,11 +10,11 @@ use Rattle.theory.specs.Build.{Built, make}
 use Rattle.theory.specs.Costs.{costs, Cost}
 use Rattle.theory.specs.Diagrams.{Branch, Node}
 use Rattle.theory.specs.WellFormed.{Ok, Under}
-use Rattle.cost_laws.specs.Extremes.{Passed, along}
-use Rattle.words.specs.Coding.{branches}
-use Rattle.words.specs.Holding as H
-use Rattle.words.specs.Words.{listed}
-use Rattle.records.specs.Nodes as R
+use Rattle.theory_costs.specs.Extremes.{Passed, along}
+use Rattle.table_words.specs.Coding.{branches}
+use Rattle.table_words.specs.Holding as H
+use Rattle.table_words.specs.Words.{listed}
+use Rattle.table_records.specs.Nodes as R
 use Rattle.cost_words.specs.Words.{code, targetOf, Worded}
 use Rattle.cost_nodes.specs.declared.Found.{Found}
 use Rattle.cost_nodes.specs.declared.Found.the-variants.{At, Missing}

@@ -6,12 +6,12 @@ use Prim.Native.Nat.{ℕ, zero, suc, _+_, _≤_, _<_}
 use native.Mathlib.Omega.{arith}
 use lib.IntN.{ℤ, _+ℤ_, _-ℤ_}
 use lib.ListN.{length}
-use Rattle.cost_laws.specs.Extremes.{Passed, keptAt}
-use Rattle.cost_laws.proofs.Passing.{own-ext}
-use Rattle.words.specs.Words.{listed}
-use Rattle.records.specs.Laid.{Laid}
-use Rattle.notes.specs.Plain.{plain}
-use Rattle.notes.proofs.Alike.{Like, plain-like, like-head, like-sym, like-size, like-record, like-nodes, like-laid, like-holds, plain-grown}
+use Rattle.theory_costs.specs.Extremes.{Passed, keptAt}
+use Rattle.theory_costs.proofs.Passing.{own-ext}
+use Rattle.table_words.specs.Words.{listed}
+use Rattle.table_records.specs.Laid.{Laid}
+use Rattle.table_notes.specs.Plain.{plain}
+use Rattle.table_notes.proofs.Alike.{Like, plain-like, like-head, like-sym, like-size, like-record, like-nodes, like-laid, like-holds, plain-grown}
 use Rattle.cost_words.specs.Sides.{Keeps}
 use Rattle.cost_words.proofs.Reading.{length-nodes}
 use Rattle.cost_words.proofs.Packing.{faithful}
@@ -63,7 +63,8 @@ module _ {w u : List ℕ} (e : Like w u) where
         near = λ v l. r .near v (omega arith);
         sums = λ up v l.
             let y : v < size w k = omega arith in
-            subst (λ (z : ℤ). Fit addMost ((int (listed a v) +ℤ z) -ℤ int (listed a 0))) (sym (like-at (ok .laid .laid) up (listed x v) (ok-small w (suc k) (listed x v) (listed a v) (r .each v y)))) (r .sums up v y);
+            subst (λ (z : ℤ). Fit addMost ((int (listed a v) +ℤ z) -ℤ int (listed a 0)))
+            (sym (like-at (ok .laid .laid) up (listed x v) (ok-small w (suc k) (listed x v) (listed a v) (r .each v y)))) (r .sums up v y);
         paired = λ up. rw n (like-passed ok up (r .paired up));
       }
 

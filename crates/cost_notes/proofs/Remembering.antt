@@ -4,12 +4,12 @@ use mathlib.Core.List.{List, _++_}
 use Prim.Native.Nat.{ℕ, _+_, _*_, _≤_, _<_}
 use native.Mathlib.Omega.{arith}
 use lib.ListN.{length, take, drop}
-use Rattle.words.specs.Words.{Kept}
-use Rattle.notes.specs.Plain.{Roomy, Resting, Cleared, plain}
-use Rattle.notes.specs.Far.{far, memory, Aside}
-use Rattle.notes.proofs.Plain.{plain-roomy}
-use Rattle.notes.proofs.Alike.{grown-roomy}
-use Rattle.notes.proofs.Far.{memory-far, memory-scratch, aside-memory, length-far, far-part, back-plain, back-memory, rest-cleared}
+use Rattle.table_words.specs.Words.{Kept}
+use Rattle.table_notes.specs.Plain.{Roomy, Resting, Cleared, plain}
+use Rattle.table_notes.specs.Far.{far, memory, Aside}
+use Rattle.table_notes.proofs.Plain.{plain-roomy}
+use Rattle.table_notes.proofs.Alike.{grown-roomy}
+use Rattle.table_notes.proofs.Far.{memory-far, memory-scratch, aside-memory, length-far, far-part, back-plain, back-memory, rest-cleared}
 use Rattle.cost_memory.specs.Memory.{Remembers, Recalls, Stored}
 use Rattle.cost_memory.specs.declared.Memo.{Memo}
 use Rattle.cost_memory.specs.declared.Memo.the-variants.{Known}
@@ -32,7 +32,8 @@ pub stored-scratch : (w s s′ : List ℕ) (tag x y d z e : ℕ) → 16 * capaci
 stored-scratch w s s′ tag x y d z e h st = rw (memory-scratch w s h, memory-scratch w s′ (omega (arith, st .long))) st
 
 -- ---- what is recalled is what the memory has
-pub recalls-far : (w s : List ℕ) (n from k tag x y d : ℕ) (m : Memo) → n ≡ 16 * capacity w → from ≡ 8192 + n → k ≡ n → length s < n → Recalls (take k (drop from w)) tag x y d m → Recalls (memory w s) tag x y d m
+pub recalls-far : (w s : List ℕ) (n from k tag x y d : ℕ) (m : Memo) → n ≡ 16 * capacity w → from ≡ 8192 + n → k ≡ n → length s < n
+    → Recalls (take k (drop from w)) tag x y d m → Recalls (memory w s) tag x y d m
 recalls-far w s n from k tag x y d m a b c h r =
     subst (λ (l : List ℕ). Recalls l tag x y d m) (far-part w k from (c ∙ a) (omega arith) ∙ sym (memory-far w s (omega arith))) r
 

@@ -4,8 +4,8 @@ use Prim.Native.Nat.{ℕ}
 use Rattle.theory.specs.Costs.{costs}
 use Rattle.theory.specs.Diagrams.{Branch, meaning}
 use Rattle.theory.specs.WellFormed.{Ok}
-use Rattle.cost_laws.specs.Narrow.{Narrow}
-use Rattle.notes.specs.Plain.{Resting}
+use Rattle.theory_costs.specs.Narrow.{Narrow}
+use Rattle.table_notes.specs.Plain.{Resting}
 use Rattle.cost_nodes.specs.Nodes.{Holds}
 use Rattle.promises.specs.Range.{Within, addMost, costMost}
 use Rattle.promises.specs.Words.{sizes}

@@ -9,15 +9,15 @@ use Rattle.theory.specs.Functions.{Agree}
 use Rattle.theory.specs.Costs.{Cost, costs}
 use Rattle.theory.specs.Diagrams.{Branch, meaning}
 use Rattle.theory.specs.WellFormed.{Ok}
-use Rattle.cost_laws.proofs.Range.{within-stays, within-or-leaves}
-use Rattle.cost_laws.proofs.Spreads.{within-agree}
-use Rattle.cost_laws.proofs.Relative.{offs}
+use Rattle.theory_costs.proofs.Range.{within-stays, within-or-leaves}
+use Rattle.theory_costs.proofs.Spreads.{within-agree}
+use Rattle.theory_costs.proofs.Relative.{offs}
 use Rattle.settings.proofs.Endings.{stop}
 use Rattle.settings.specs.Refusals.{Ends}
 use Rattle.settings.specs.declared.refusals.Refusal.the-variants.{Range}
 use Rattle.settings.specs.declared.refusals.Outcome.{Outcome}
 use Rattle.settings.specs.declared.refusals.Outcome.the-variants.{Refused}
-use Rattle.notes.specs.Plain.{Resting}
+use Rattle.table_notes.specs.Plain.{Resting}
 use Rattle.cost_words.proofs.Reading.{at-costs}
 use Rattle.cost_sound.proofs.Pictures.{sound-narrow}
 use Rattle.cost_nodes.specs.Nodes.{Result}
@@ -27,9 +27,9 @@ use Rattle.cost_engine.specs.declared.operators.Operator.{Operator}
 use Rattle.cost_engine.specs.declared.operators.Operator.the-variants.{Scale}
 use Rattle.cost_notes.specs.Operand.{Operand}
 use Rattle.cost_range.specs.Operable.{Operable, Factored}
-use Rattle.costs.proofs.Sounding.{sound-pos, sound-root}
-use Rattle.costs.proofs.Answering.{write-refused}
-use Rattle.costs.proofs.Edge.{room-ends}
+use Rattle.cost_calls.proofs.Sounding.{sound-pos, sound-root}
+use Rattle.cost_calls.proofs.Answering.{write-refused}
+use Rattle.cost_calls.proofs.Edge.{room-ends}
 use Rattle.cost_settling.specs.Settling.{Puts}
 use Rattle.cost_settling.proofs.Settling.{sound-holds, write-pass}
 use Rattle.cost_operations.specs.Joining.{put-cases, Joins}
@@ -99,7 +99,8 @@ module _ {w : List ℕ} (s : Sound w) (o : Operator) (b c : Branch costs) (p q :
       ∙ ap₂ (λ (x y : Cost). together o x y t) (sym (at-costs w p hp)) (sym (at-costs w q hq))
 
 -- scaled by the integer of a word
-pub scale-agrees : (w : List ℕ) (b : Branch costs) (p a : ℕ) (z : ℤ) → b ≡ rootAt w p → int a ≡ z → p < 16 → Agree (sizes w) (together (Scale a) (meaning (nodes w) b) (meaning (nodes w) b)) (scaled z (on (stateOf costed w) p))
+pub scale-agrees : (w : List ℕ) (b : Branch costs) (p a : ℕ) (z : ℤ) → b ≡ rootAt w p → int a ≡ z → p < 16
+    → Agree (sizes w) (together (Scale a) (meaning (nodes w) b) (meaning (nodes w) b)) (scaled z (on (stateOf costed w) p))
 scale-agrees w b p a z eb ea h t v = ap₂ (λ (x : Branch costs) (y : ℤ). scaled y (meaning (nodes w) x) t) eb ea ∙ ap (λ (x : Cost). scaled z x t) (sym (at-costs w p h))
 
 -- ---- the refusals of a cost that is worked out: RANGE as it is, NO ROOM by the rests as they are counted

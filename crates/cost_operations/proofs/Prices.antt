@@ -11,14 +11,14 @@ use Rattle.theory.specs.Costs.{costs, to-end}
 use Rattle.theory.specs.Diagrams.{Branch, blank}
 use Rattle.theory.specs.WellFormed.{Ok}
 use Rattle.theory.proofs.Lists.{getD-map-in}
-use Rattle.cost_laws.specs.Extremes.{along}
-use Rattle.cost_laws.specs.Narrow.{Narrow}
-use Rattle.cost_laws.proofs.Integers.{fit-minus}
-use Rattle.cost_laws.proofs.Prices.{build-priced}
-use Rattle.words.specs.Holding.{built as builtOf}
-use Rattle.words.specs.Words.{listed}
-use Rattle.words.proofs.Tab.{length-tab, getD-tab}
-use Rattle.words.proofs.Words.{length-sizes, at-sizes}
+use Rattle.theory_costs.specs.Extremes.{along}
+use Rattle.theory_costs.specs.Narrow.{Narrow}
+use Rattle.theory_costs.proofs.Integers.{fit-minus}
+use Rattle.theory_costs.proofs.Prices.{build-priced}
+use Rattle.table_words.specs.Holding.{built as builtOf}
+use Rattle.table_words.specs.Words.{listed}
+use Rattle.table_words.proofs.Tab.{length-tab, getD-tab}
+use Rattle.table_words.proofs.Words.{length-sizes, at-sizes}
 use Rattle.cost_words.proofs.Packing.{target-end}
 use Rattle.cost_nodes.specs.Nodes.{Holds, Makes, Result, Armed, arms}
 use Rattle.cost_nodes.specs.declared.Answer.{Answer}
@@ -52,7 +52,8 @@ module _ (w : List ℕ) (f : ℕ) (l : List ℤ) (a : List ℕ) (ok : Holds w) (
         rw (words .each v hv, words .each 0 h0) (fit-minus costMost costMost (getD l v (pos 0)) (getD l 0 (pos 0)) (d .priced .each v hv) (d .priced .each 0 h0));
     sums = λ up v h. let hv : v < length l = omega (arith, d .long) in let h0 : 0 < length l = omega arith in
         subst (λ (b : Branch costs). Fit addMost (along (kept up w) b -ℤ int (listed a 0))) (sym (arm v h))
-        (subst (Fit addMost) (sym (λ i. +ℤ-idr (getD l v (pos 0)) i -ℤ words .each 0 h0 i)) (fit-minus costMost costMost (getD l v (pos 0)) (getD l 0 (pos 0)) (d .priced .each v hv) (d .priced .each 0 h0)));
+        (subst (Fit addMost) (sym (λ i. +ℤ-idr (getD l v (pos 0)) i -ℤ words .each 0 h0 i))
+        (fit-minus costMost costMost (getD l v (pos 0)) (getD l 0 (pos 0)) (d .priced .each v hv) (d .priced .each 0 h0)));
     paired = holds-passed w ok nr;
   }
 

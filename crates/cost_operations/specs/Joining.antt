@@ -6,7 +6,7 @@ use Rattle.theory.specs.Costs.{Cost}
 use Rattle.settings.specs.Refusals.{Cases, _when_else_, taken}
 use Rattle.settings.specs.declared.refusals.Refusal.the-variants.{Range, NoRoom}
 use Rattle.settings.specs.declared.refusals.Outcome.{Outcome}
-use Rattle.costs.specs.Writing.{Writes}
+use Rattle.cost_calls.specs.Writing.{Writes}
 use Rattle.cost_settling.specs.Settling.{Exceeds}
 use Rattle.promises.specs.Range.{LeavesRange}
 use Rattle.promises.specs.Words.{sizes}

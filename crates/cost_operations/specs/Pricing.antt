@@ -4,7 +4,7 @@ use mathlib.Core.List.{List}
 use Prim.Native.Nat.{ℕ, _<_}
 use lib.IntN.{ℤ, pos}
 use lib.ListN.{length, getD}
-use Rattle.words.specs.Words.{listed}
+use Rattle.table_words.specs.Words.{listed}
 use Rattle.promises.specs.Words.{features, size}
 use Rattle.promises.specs.Integers.{int}
 use Rattle.promises.specs.CostDeeds.{Priced}

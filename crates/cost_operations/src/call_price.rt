@@ -1,15 +1,15 @@
 // Price list: an integer for each value of a feature.
 use cost_amounts::amount_ok;
 use cost_amounts::word_of;
+use cost_calls::door;
 use cost_nodes::make;
 use cost_settling::settle;
-use costs::door;
 use settings::Outcome;
 use settings::Refusal;
-use words::count_word;
-use words::features_word;
-use words::size_word;
-use words::wide;
+use table_words::count_word;
+use table_words::features_word;
+use table_words::size_word;
+use table_words::wide;
 ghost use Prim.Native.Nat.{_≤_, _<_};
 ghost use lib.ListN.{length};
 ghost use Rattle.settings.specs.Tells.{Tells};

@@ -2,9 +2,9 @@
 use crate::joining::put_joint;
 use cost_amounts::amount_ok;
 use cost_amounts::word_of;
+use cost_calls::door;
 use cost_engine::Operator;
 use cost_nodes::arm_of;
-use costs::door;
 use settings::Outcome;
 use settings::Refusal;
 ghost use Rattle.promises.specs.Deed.{Meets};

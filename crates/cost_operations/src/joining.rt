@@ -1,16 +1,16 @@
 // Two costs joined by an operator into a place: what add, subtract, smaller, larger and scale share.
+use cost_calls::door;
 use cost_engine::Operator;
 use cost_engine::join_costs;
 use cost_nodes::Arm;
 use cost_nodes::arm_of;
 use cost_range::in_range;
 use cost_settling::settle;
-use costs::door;
 use settings::Outcome;
 use settings::Refusal;
-use words::capacity_word;
-use words::count_word;
-use words::wide;
+use table_words::capacity_word;
+use table_words::count_word;
+use table_words::wide;
 ghost use Prim.Native.Nat.{_<_};
 ghost use Rattle.theory.specs.Diagrams.{meaning};
 ghost use Rattle.promises.specs.CostWords.{costBranch as branch, costNodes as nodes};
@@ -32,7 +32,8 @@ fn put_joint_in(
     b: Arm,
 ) -> Outcome
     requires { ⌜ (CostSound (now t)) × (place < 16) × (Operable (now t) o (branch (a .to) (a .adds)) (branch (b .to) (b .adds))) ⌝ }
-    ensures { λ r. ⌜ Joins place (together o (meaning (nodes (now (t .entry))) (branch (a .to) (a .adds))) (meaning (nodes (now (t .entry))) (branch (b .to) (b .adds)))) (now (t .entry)) (now (t .exit)) r ⌝ }
+    ensures { λ r. ⌜ Joins place (together o (meaning (nodes (now (t .entry))) (branch (a .to) (a .adds))) (meaning (nodes (now (t .entry))) (branch (b .to) (b .adds))))
+        (now (t .entry)) (now (t .exit)) r ⌝ }
 {
     if !in_range(t, scratch, o, a, b) {
         return Outcome::Refused(Refusal::Range);
@@ -52,7 +53,8 @@ pub fn put_joint(
     b: Arm,
 ) -> Outcome
     requires { ⌜ (CostSound (now t)) × (place < 16) × (Operable (now t) o (branch (a .to) (a .adds)) (branch (b .to) (b .adds))) ⌝ }
-    ensures { λ r. ⌜ Joins place (together o (meaning (nodes (now (t .entry))) (branch (a .to) (a .adds))) (meaning (nodes (now (t .entry))) (branch (b .to) (b .adds)))) (now (t .entry)) (now (t .exit)) r ⌝ }
+    ensures { λ r. ⌜ Joins place (together o (meaning (nodes (now (t .entry))) (branch (a .to) (a .adds))) (meaning (nodes (now (t .entry))) (branch (b .to) (b .adds))))
+        (now (t .entry)) (now (t .exit)) r ⌝ }
 {
     if capacity_word(t) < 384 {
         if scratch.len() < 6144 {

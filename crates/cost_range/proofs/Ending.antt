@@ -10,12 +10,12 @@ use Rattle.theory.specs.Costs.{Cost}
 use Rattle.theory.specs.Functions.{Agree, held, lift}
 use Rattle.theory.specs.Settings.{Pos, zeros}
 use Rattle.theory.proofs.Ranges.{zeros-valid}
-use Rattle.cost_laws.specs.Narrow.{Spread}
-use Rattle.cost_laws.proofs.Extremes.{low, high, across-one, across-more, extreme-agree, extreme-cons, extreme-lift, extreme-wait}
-use Rattle.cost_laws.proofs.Integers.{minus-zero}
-use Rattle.cost_laws.proofs.Range.{extreme-fits}
-use Rattle.cost_laws.proofs.Relative.{offs}
-use Rattle.cost_laws.proofs.Spreads.{within-agree, spread-agree, spread-held, spread-lower}
+use Rattle.theory_costs.specs.Narrow.{Spread}
+use Rattle.theory_costs.proofs.Extremes.{low, high, across-one, across-more, extreme-agree, extreme-cons, extreme-lift, extreme-wait}
+use Rattle.theory_costs.proofs.Integers.{minus-zero}
+use Rattle.theory_costs.proofs.Range.{extreme-fits}
+use Rattle.theory_costs.proofs.Relative.{offs}
+use Rattle.theory_costs.proofs.Spreads.{within-agree, spread-agree, spread-held, spread-lower}
 use Rattle.cost_words.specs.Sums.{Stands}
 use Rattle.cost_words.proofs.Summing.{way}
 use Rattle.cost_range.specs.Ends.{Spans, Reaches, Furthest, Folded}

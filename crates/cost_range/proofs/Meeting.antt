@@ -11,12 +11,12 @@ use lib.Signed.{_≤ℤ_}
 use Rattle.theory.specs.Costs.{Cost, costs}
 use Rattle.theory.specs.Diagrams.{Target}
 use Rattle.theory.specs.Settings.{Valid}
-use Rattle.cost_laws.specs.Extremes.{keptAt}
-use Rattle.cost_laws.proofs.Extremes.{Taken, extreme-beats, extreme-is, extreme-taken}
-use Rattle.cost_laws.proofs.Integers.{fall-near, le-ℕ, minus-zero, minus-ℕ, rise-near, sum-ℕ, ℕ-le}
-use Rattle.cost_laws.proofs.Passing.{passed-right, kept-fits}
-use Rattle.cost_laws.proofs.Relative.{offs, from-end}
-use Rattle.cost_laws.proofs.Words.{int-ℕ}
+use Rattle.theory_costs.specs.Extremes.{keptAt}
+use Rattle.theory_costs.proofs.Extremes.{Taken, extreme-beats, extreme-is, extreme-taken}
+use Rattle.theory_costs.proofs.Integers.{fall-near, le-ℕ, minus-zero, minus-ℕ, rise-near, sum-ℕ, ℕ-le}
+use Rattle.theory_costs.proofs.Passing.{passed-right, kept-fits}
+use Rattle.theory_costs.proofs.Relative.{offs, from-end}
+use Rattle.theory_costs.proofs.Words.{int-ℕ}
 use Rattle.cost_words.specs.Sides.{endOf, Keeps}
 use Rattle.cost_words.specs.Sums.{Stands}
 use Rattle.cost_words.proofs.Packing.{target-end}
@@ -69,7 +69,8 @@ pub span-side : (ns : List ℕ) (f : Cost) (l h : ℕ) → Spans ns f l h → (u
 span-side ns f l h q true = q .highest
 span-side ns f l h q false = q .lowest
 
-module _ (minus : Bool) (ns : List ℕ) (f g : Cost) (l h x y : ℕ) (p : (up : Bool) → int (endOf up l h) ≡ extreme (sideOf up) ns f) (q : (up : Bool) → int (endOf up x y) ≡ extreme (sideOf up) ns g) where
+module _ (minus : Bool) (ns : List ℕ) (f g : Cost) (l h x y : ℕ) (p : (up : Bool) → int (endOf up l h) ≡ extreme (sideOf up) ns f)
+    (q : (up : Bool) → int (endOf up x y) ≡ extreme (sideOf up) ns g) where
   -- no amount lies further out
   pub met-beats : (up : Bool) (s : List ℕ) → Valid ns s → orderOf up (meeting minus up l h x y) (joined (tieOf minus) f g s .off)
   met-beats up s v =
@@ -98,10 +99,12 @@ module _ (w : List ℕ) (k x y : ℕ) (p : Pair w k x y) where
 
   -- what is kept for a target is the extreme below it, and fits
   kept-side : (z : ℕ) → Good w k z → (up : Bool) → extreme (sideOf up) ns (from (nodes w) k (target z)) ≡ keptAt (kept up w) (target z)
-  kept-side z g up = passed-right (way up) (sizes w) (nodes w) (p .holds .wf) (length (nodes w)) (le-refl _) (kept up w) (holds-passed w (p .holds) (p .narrow) up) k ns refl (pos-from w k (p .holds)) (target z) g
+  kept-side z g up = passed-right (way up) (sizes w) (nodes w) (p .holds .wf) (length (nodes w)) (le-refl _) (kept up w) (holds-passed w (p .holds) (p .narrow) up) k ns refl
+      (pos-from w k (p .holds)) (target z) g
 
   kept-fit : (z : ℕ) → Good w k z → (up : Bool) → Fit addMost (keptAt (kept up w) (target z))
-  kept-fit z g up = kept-fits (way up) (sizes w) (nodes w) (p .holds .wf) (length (nodes w)) (le-refl _) (kept up w) (holds-passed w (p .holds) (p .narrow) up) (p .narrow) k ns refl (pos-from w k (p .holds)) (target z) g
+  kept-fit z g up = kept-fits (way up) (sizes w) (nodes w) (p .holds .wf) (length (nodes w)) (le-refl _) (kept up w) (holds-passed w (p .holds) (p .narrow) up)
+      (p .narrow) k ns refl (pos-from w k (p .holds)) (target z) g
 
   keeps-side : (z l h : ℕ) → Good w k z → Keeps w z l h → (up : Bool) → int (endOf up l h) ≡ extreme (sideOf up) ns (from (nodes w) k (target z))
   keeps-side z l h g q up = q .keeps up ∙ sym (kept-side z g up)
@@ -137,7 +140,8 @@ module _ (w : List ℕ) (k x y : ℕ) (p : Pair w k x y) where
           takes = ap₂ (λ (c d : ℤ). tieOf minus c d) (a .keeps up ∙ ended-kept x e up ∙ sym (ended-from x e (t .setting))) (keeps-side y m n (p .second) b (facing minus up) ∙ t .takes);
         }
 
-    met-exact : ((up : Bool) → Taken ns (ofTargets minus w k x y) (meeting minus up l h m n)) → (e : Ends) → ((up : Bool) → Fit addMost (meeting minus up l h m n)) → Meeting minus l h m n e → Reaches ns (ofTargets minus w k x y) e
+    met-exact : ((up : Bool) → Taken ns (ofTargets minus w k x y) (meeting minus up l h m n)) → (e : Ends) → ((up : Bool) → Fit addMost (meeting minus up l h m n))
+        → Meeting minus l h m n e → Reaches ns (ofTargets minus w k x y) e
     met-exact t Lost f q = absurd (q f)
     met-exact t (Are u v) f q = record { lowest = side false; highest = side true }
       where

@@ -5,10 +5,10 @@ use mathlib.Core.List.{List}
 use Prim.Native.Nat.{ℕ, _+_, _<_}
 use lib.ListN.{drop}
 use Rattle.theory.specs.Functions.{held}
-use Rattle.cost_laws.specs.Relative.{branchAt}
-use Rattle.notes.specs.Plain.{Resting, plain}
-use Rattle.notes.specs.Far.{memory}
-use Rattle.notes.proofs.Plain.{plain-of}
+use Rattle.theory_costs.specs.Relative.{branchAt}
+use Rattle.table_notes.specs.Plain.{Resting, plain}
+use Rattle.table_notes.specs.Far.{memory}
+use Rattle.table_notes.proofs.Plain.{plain-of}
 use Rattle.cost_memory.specs.Memory.{Stored}
 use Rattle.cost_nodes.specs.Nodes.{Place}
 use Rattle.cost_notes.proofs.Remembering.{noted-stored}
@@ -19,7 +19,8 @@ use Rattle.promises.specs.Words.{features, size, sizes}
 use Rattle.promises.specs.CostWords.{target, costBranch as branch, costNodes as nodes}
 
 -- one result more, right for the table w without notes
-pub noted-more : (minus : Bool) (w t t′ s s′ : List ℕ) (tag x y d l h : ℕ) → plain t ≡ w → plain t′ ≡ plain t → Noted minus t s → Stored (memory t s) (memory t′ s′) tag x y d l h → Right minus w tag x y d l h → Noted minus t′ s′
+pub noted-more : (minus : Bool) (w t t′ s s′ : List ℕ) (tag x y d l h : ℕ) → plain t ≡ w → plain t′ ≡ plain t → Noted minus t s
+    → Stored (memory t s) (memory t′ s′) tag x y d l h → Right minus w tag x y d l h → Noted minus t′ s′
 noted-more minus w t t′ s s′ tag x y d l h f e n st q = noted-stored t t′ s s′ tag x y d l h n (e, st) (rw f q)
 
 -- ---- a step on words u that are those without notes, w

@@ -10,14 +10,14 @@ use lib.IntN.{ℤ, pos, negsuc, _+ℤ_, _*ℤ_}
 use Rattle.theory.specs.Costs.{Cost, costs}
 use Rattle.theory.specs.Diagrams.{Branch, meaning}
 use Rattle.theory.specs.Settings.{Pos}
-use Rattle.cost_laws.specs.Extremes.{keptAt}
-use Rattle.cost_laws.proofs.Extremes.{low, high, extreme-taken}
-use Rattle.cost_laws.proofs.Integers.{fit-more, rise-near, fall-near}
-use Rattle.cost_laws.proofs.Passing.{place-extreme}
-use Rattle.cost_laws.proofs.Products.{mul-rise, mul-fall}
-use Rattle.cost_laws.proofs.Range.{extreme-fits, within-exactly, lowest-scaled, highest-scaled, lowest-turned, highest-turned}
-use Rattle.cost_laws.proofs.Spreads.{within-spread}
-use Rattle.cost_laws.proofs.Words.{int-ℕ}
+use Rattle.theory_costs.specs.Extremes.{keptAt}
+use Rattle.theory_costs.proofs.Extremes.{low, high, extreme-taken}
+use Rattle.theory_costs.proofs.Integers.{fit-more, rise-near, fall-near}
+use Rattle.theory_costs.proofs.Passing.{place-extreme}
+use Rattle.theory_costs.proofs.Products.{mul-rise, mul-fall}
+use Rattle.theory_costs.proofs.Range.{extreme-fits, within-exactly, lowest-scaled, highest-scaled, lowest-turned, highest-turned}
+use Rattle.theory_costs.proofs.Spreads.{within-spread}
+use Rattle.theory_costs.proofs.Words.{int-ℕ}
 use Rattle.settings.specs.Tells.{Tells}
 use Rattle.settings.proofs.Answers.{retell, tells-leb}
 use Rattle.cost_words.proofs.Summing.{way}
@@ -126,7 +126,8 @@ module _ (w : List ℕ) (x a : ℕ) (o : Operand w (branch x a)) (up : Bool) (b 
       ∙ sym (place-extreme (sizes w) (pos-from w 0 (o .holds)) (nodes w) (o .holds .wf) (branch x a) (o .ok) (way up) (kept up w) (holds-passed w (o .holds) (o .narrow) up))
 
   pub end-fits : Fit addMost (int a +ℤ int b)
-  end-fits = fit-more costMost addMost (int a +ℤ int b) (omega arith) (subst (Fit costMost) (sym end-is) (extreme-fits (way up) (sizes w) (pos-from w 0 (o .holds)) (meaning (nodes w) (branch x a)) (o .within)))
+  end-fits = fit-more costMost addMost (int a +ℤ int b) (omega arith) (subst (Fit costMost) (sym end-is)
+      (extreme-fits (way up) (sizes w) (pos-from w 0 (o .holds)) (meaning (nodes w) (branch x a)) (o .within)))
 
   pub end-side : (r : ℕ) → int r ≡ int a +ℤ int b → int r ≡ extreme (sideOf up) (sizes w) (meaning (nodes w) (branch x a))
   end-side r e = e ∙ end-is

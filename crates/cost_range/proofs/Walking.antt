@@ -12,9 +12,9 @@ use Rattle.theory.specs.Diagrams.{Branch, value}
 use Rattle.theory.specs.Functions.{Agree, held, lift}
 use Rattle.theory.specs.Settings.{zeros}
 use Rattle.theory.proofs.Values.{value-next}
-use Rattle.cost_laws.specs.Relative.{branchAt}
-use Rattle.cost_laws.proofs.Adding.{Splits, add-splits, subtract-splits, splits-zero, joined-split, pair-wait}
-use Rattle.cost_laws.proofs.Relative.{from-zeros}
+use Rattle.theory_costs.specs.Relative.{branchAt}
+use Rattle.theory_costs.proofs.Adding.{Splits, add-splits, subtract-splits, splits-zero, joined-split, pair-wait}
+use Rattle.theory_costs.proofs.Relative.{from-zeros}
 use Rattle.cost_words.specs.Sums.{Stands}
 use Rattle.cost_nodes.specs.Nodes.{Holds, top, Place}
 use Rattle.cost_nodes.proofs.Stepping.{good-small, good-top, top-good, top-below, place-next}

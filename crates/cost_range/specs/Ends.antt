@@ -8,9 +8,9 @@ use lib.ListN.{drop}
 use Rattle.theory.specs.Costs.{Cost}
 use Rattle.theory.specs.Diagrams.{value}
 use Rattle.theory.specs.Functions.{held}
-use Rattle.cost_laws.specs.Extremes.{lowestOf, highestOf}
-use Rattle.cost_laws.specs.Narrow.{Narrow, Spread}
-use Rattle.cost_laws.specs.Relative.{pairFrom}
+use Rattle.theory_costs.specs.Extremes.{lowestOf, highestOf}
+use Rattle.theory_costs.specs.Narrow.{Narrow, Spread}
+use Rattle.theory_costs.specs.Relative.{pairFrom}
 use Rattle.cost_memory.specs.Memory as M
 use Rattle.cost_notes.specs.Noted as N
 use Rattle.cost_words.specs.Sides.{endOf}

@@ -18,17 +18,17 @@ use cost_words::further;
 use cost_words::kept_span;
 use cost_words::sum_or_lost;
 use cost_words::sum_word;
-use notes::clear;
-use notes::clear_far;
-use words::narrow;
-use words::size_word;
-use words::wide;
+use table_notes::clear;
+use table_notes::clear_far;
+use table_words::narrow;
+use table_words::size_word;
+use table_words::wide;
 ghost use mathlib.Core.Path.{_≡_};
 ghost use Prim.Native.Nat.{_+_, _≤_, _<_};
 ghost use lib.ListN.{drop};
 ghost use lib.IntN.{_*ℤ_};
 ghost use Rattle.theory.specs.Diagrams.{meaning};
-ghost use Rattle.notes.specs.Plain.{Resting, plain};
+ghost use Rattle.table_notes.specs.Plain.{Resting, plain};
 ghost use Rattle.settings.specs.Tells.{Tells};
 ghost use Rattle.cost_words.specs.Sides.{endOf};
 ghost use Rattle.cost_words.specs.Sums.{Stands};
@@ -121,7 +121,8 @@ fn furthest(up: bool, v: usize, a: u32, b: u32) -> u32
 // The ends of two targets from feature k on: one pair's result.
 fn rest_ends(t: &mut [u32], s: &mut [u32], minus: bool, k: usize, x: u32, y: u32) -> Ends
     requires { ⌜ (Pair (plain (now t)) k x y) × (Noted minus (now t) (now s)) ⌝ }
-    ensures { λ r. ⌜ (Reaches (drop k (sizes (plain (now (t .entry))))) (ofTargets minus (plain (now (t .entry))) k x y) r) × (plain (now (t .exit)) ≡ plain (now (t .entry))) × (Noted minus (now (t .exit)) (now (s .exit))) ⌝ }
+    ensures { λ r. ⌜ (Reaches (drop k (sizes (plain (now (t .entry))))) (ofTargets minus (plain (now (t .entry))) k x y) r)
+        × (plain (now (t .exit)) ≡ plain (now (t .entry))) × (Noted minus (now (t .exit)) (now (s .exit))) ⌝ }
 {
     if x == 0 {
         return met_ends(minus, kept_in(t, x), kept_in(t, y));
@@ -146,7 +147,8 @@ fn rest_ends(t: &mut [u32], s: &mut [u32], minus: bool, k: usize, x: u32, y: u32
 // The same at a feature that is left: over the branches for its values in turn.
 fn fold_branches(t: &mut [u32], s: &mut [u32], minus: bool, k: usize, x: u32, y: u32) -> Ends
     requires { ⌜ (Pair (plain (now t)) k x y) × (Noted minus (now t) (now s)) × (k < features (plain (now t))) ⌝ }
-    ensures { λ r. ⌜ (Reaches (drop k (sizes (plain (now (t .entry))))) (ofTargets minus (plain (now (t .entry))) k x y) r) × (plain (now (t .exit)) ≡ plain (now (t .entry))) × (Noted minus (now (t .exit)) (now (s .exit))) ⌝ }
+    ensures { λ r. ⌜ (Reaches (drop k (sizes (plain (now (t .entry))))) (ofTargets minus (plain (now (t .entry))) k x y) r)
+        × (plain (now (t .exit)) ≡ plain (now (t .entry))) × (Noted minus (now (t .exit)) (now (s .exit))) ⌝ }
 {
     let m = wide(size_word(t, k));
     let mut low: u32 = 0;
@@ -168,7 +170,8 @@ fn fold_branches(t: &mut [u32], s: &mut [u32], minus: bool, k: usize, x: u32, y:
 // The ends of two branches from feature k on: those of their targets, with what both add put before them.
 fn branch_ends(t: &mut [u32], s: &mut [u32], minus: bool, k: usize, a: Arm, b: Arm) -> Ends
     requires { ⌜ (Pair (plain (now t)) k (a .to) (b .to)) × (Noted minus (now t) (now s)) ⌝ }
-    ensures { λ r. ⌜ (Reaches (drop k (sizes (plain (now (t .entry))))) (ofBranches minus (plain (now (t .entry))) k (a .to) (a .adds) (b .to) (b .adds)) r) × (plain (now (t .exit)) ≡ plain (now (t .entry))) × (Noted minus (now (t .exit)) (now (s .exit))) ⌝ }
+    ensures { λ r. ⌜ (Reaches (drop k (sizes (plain (now (t .entry))))) (ofBranches minus (plain (now (t .entry))) k (a .to) (a .adds) (b .to) (b .adds)) r)
+        × (plain (now (t .exit)) ≡ plain (now (t .entry))) × (Noted minus (now (t .exit)) (now (s .exit))) ⌝ }
 {
     let base = tied_word(minus, a.adds, b.adds);
     if base == 0 {
@@ -256,7 +259,8 @@ fn scaled_ok(t: &[u32], a: Arm, c: u32) -> bool
 // Whether the result of an operation on two costs lies in the range of costs at every setting.
 pub fn in_range(t: &mut [u32], s: &mut [u32], o: Operator, a: Arm, b: Arm) -> bool
     requires { ⌜ Operable (now t) o (branch (a .to) (a .adds)) (branch (b .to) (b .adds)) ⌝ }
-    ensures { λ r. ⌜ (now (t .exit) ≡ now (t .entry)) × (Tells r (Within costMost (sizes (now (t .entry))) (together o (meaning (nodes (now (t .entry))) (branch (a .to) (a .adds))) (meaning (nodes (now (t .entry))) (branch (b .to) (b .adds)))))) ⌝ }
+    ensures { λ r. ⌜ (now (t .exit) ≡ now (t .entry)) × (Tells r
+        (Within costMost (sizes (now (t .entry))) (together o (meaning (nodes (now (t .entry))) (branch (a .to) (a .adds))) (meaning (nodes (now (t .entry))) (branch (b .to) (b .adds)))))) ⌝ }
 {
     match o {
         Operator::Add => tied_ok(t, s, false, a, b),

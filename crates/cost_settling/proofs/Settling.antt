@@ -8,11 +8,11 @@ use Rattle.theory.specs.Functions.{Agree}
 use Rattle.settings.specs.declared.refusals.Refusal.the-variants.{NoRoom}
 use Rattle.settings.specs.declared.refusals.Outcome.{Outcome}
 use Rattle.settings.specs.declared.refusals.Outcome.the-variants.{Taken, Refused}
-use Rattle.records.specs.Changes.{Rolled}
-use Rattle.calls.proofs.Settling as C
-use Rattle.calls.proofs.Sounding.{tested-holds}
-pub use Rattle.calls.proofs.Theorems.{puts-agree, write-pass}
-use Rattle.cost_laws.proofs.Spreads.{within-agree}
+use Rattle.table_records.specs.Changes.{Rolled}
+use Rattle.table_calls.proofs.Settling as C
+use Rattle.table_calls.proofs.Sounding.{tested-holds}
+pub use Rattle.table_calls.proofs.Theorems.{puts-agree, write-pass}
+use Rattle.theory_costs.proofs.Spreads.{within-agree}
 use Rattle.cost_words.specs.Picture.{Becomes}
 use Rattle.cost_nodes.specs.Nodes.{Holds, Result, told}
 use Rattle.cost_nodes.specs.declared.Answer.{Answer}

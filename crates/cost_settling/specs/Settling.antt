@@ -5,8 +5,8 @@ use Rattle.theory.specs.Costs.{Cost}
 use Rattle.theory.specs.Diagrams.{meaning}
 use Rattle.theory.specs.WellFormed.{Ok}
 use Rattle.settings.specs.declared.refusals.Outcome.{Outcome}
-use Rattle.records.specs.Laid.{Laid}
-use Rattle.calls.specs.Writing as C
+use Rattle.table_records.specs.Laid.{Laid}
+use Rattle.table_calls.specs.Writing as C
 use Rattle.cost_words.specs.Words.{code}
 use Rattle.cost_words.specs.Picture.{drawing}
 use Rattle.cost_nodes.specs.Nodes.{told}

@@ -1,9 +1,9 @@
 // The end of every call that builds: the result is put into its place, or what was built is taken back.
 use cost_collect::finish;
 use cost_nodes::Answer;
-use records::roll_back;
 use settings::Outcome;
 use settings::Refusal;
+use table_records::roll_back;
 ghost use Rattle.cost_settling.specs.Settling.{Asks, Settled};
 
 // What was built into a table of n nodes becomes the cost of the place; where there was no room it is taken back.

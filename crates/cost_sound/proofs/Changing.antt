@@ -7,9 +7,9 @@ use lib.ListN.{set}
 use lib.Seq.{getD-set-same, getD-set-other}
 use Rattle.theory.specs.Costs.{costs}
 use Rattle.theory.specs.Diagrams.{Node}
-use Rattle.words.specs.Coding.{nodeAt, nodes}
-use Rattle.words.proofs.Coding.{node-is}
-use Rattle.words.proofs.Tab.{tab-ext}
+use Rattle.table_words.specs.Coding.{nodeAt, nodes}
+use Rattle.table_words.proofs.Coding.{node-is}
+use Rattle.table_words.proofs.Tab.{tab-ext}
 use Rattle.cost_words.specs.Words.{code, pairWord}
 use Rattle.cost_words.proofs.Packing.{faithful}
 use Rattle.cost_words.proofs.Pairing.{pairs-spared}

@@ -17,21 +17,21 @@ use Rattle.theory.proofs.Lists.{pos-drop}
 use Rattle.theory.proofs.Ranges.{features-pos, zeros-valid}
 use Rattle.theory.proofs.Tables.{table-mean, table-wf}
 use Rattle.theory.proofs.Values.{value-split}
-use Rattle.cost_laws.specs.Narrow.{Narrow}
-use Rattle.cost_laws.proofs.Bounds as B
-use Rattle.cost_laws.proofs.Narrow.{table-narrow}
-use Rattle.cost_laws.proofs.Relative.{from-zeros}
-use Rattle.cost_laws.proofs.Spreads.{within-spread}
-use Rattle.cost_laws.proofs.Words.{int-one}
-use Rattle.words.proofs.Words.{at-sizes}
+use Rattle.theory_costs.specs.Narrow.{Narrow}
+use Rattle.theory_costs.proofs.Bounds as B
+use Rattle.theory_costs.proofs.Narrow.{table-narrow}
+use Rattle.theory_costs.proofs.Relative.{from-zeros}
+use Rattle.theory_costs.proofs.Spreads.{within-spread}
+use Rattle.theory_costs.proofs.Words.{int-one}
+use Rattle.table_words.proofs.Words.{at-sizes}
 use Rattle.cost_words.specs.Words.{targetWord}
 use Rattle.cost_words.specs.Picture.{goesOf, addedOf, bodyOf, Pictures, Proper, IsTable}
 use Rattle.cost_words.proofs.Packing.{int-zero, word-branch, packed-goes, packed-added}
 use Rattle.cost_words.proofs.Reading.{length-nodes, at-nodes, branch-at, at-costs}
 use Rattle.cost_words.proofs.Pairing.{spared-pairs}
 use Rattle.cost_words.proofs.Showing.{Small, body-says, root-shows, base-shows, added-past}
-use Rattle.checks.proofs.Pictures as C
-use Rattle.checks.proofs.Pictures.{Tested}
+use Rattle.table_checks.proofs.Pictures as C
+use Rattle.table_checks.proofs.Pictures.{Tested}
 use Rattle.cost_sound.specs.Walk.{going}
 use Rattle.cost_sound.proofs.Reading.{reading, read, sound-shaped, shaped-tested, sizes-pos, ranged-narrow}
 use Rattle.promises.specs.Integers.{Fit, bias, int}

@@ -16,15 +16,15 @@ use Rattle.theory.specs.Settings.{Pos}
 use Rattle.theory.specs.WellFormed.{Ok, WF}
 use Rattle.theory.specs.Costs.{costs}
 use Rattle.theory.proofs.Lists.{pos-drop}
-use Rattle.cost_laws.specs.Extremes.{along, keptAt, own, Passed}
-use Rattle.cost_laws.proofs.Extremes.{across-ext}
-use Rattle.cost_laws.proofs.Integers.{rise-near, fall-near}
-use Rattle.cost_laws.proofs.Passing.{passed-none, along-fits, place-extreme}
-use Rattle.cost_laws.proofs.Range.{within-exactly}
-use Rattle.cost_laws.proofs.Words.{int-one, words-sum}
-use Rattle.words.specs.Words.{listed}
-use Rattle.words.proofs.Tab.{split}
-use Rattle.words.proofs.Words.{length-sizes, at-sizes}
+use Rattle.theory_costs.specs.Extremes.{along, keptAt, own, Passed}
+use Rattle.theory_costs.proofs.Extremes.{across-ext}
+use Rattle.theory_costs.proofs.Integers.{rise-near, fall-near}
+use Rattle.theory_costs.proofs.Passing.{passed-none, along-fits, place-extreme}
+use Rattle.theory_costs.proofs.Range.{within-exactly}
+use Rattle.theory_costs.proofs.Words.{int-one, words-sum}
+use Rattle.table_words.specs.Words.{listed}
+use Rattle.table_words.proofs.Tab.{split}
+use Rattle.table_words.proofs.Words.{length-sizes, at-sizes}
 use Rattle.cost_words.specs.Sides.{endOf, Keeps, armSum, Bodied, Sides}
 use Rattle.cost_words.proofs.Packing.{target-one, faithful}
 use Rattle.cost_words.proofs.Pairing.{pairs-passed, passed-pairs}
@@ -32,8 +32,8 @@ use Rattle.cost_words.proofs.Summing.{way}
 use Rattle.cost_words.proofs.Reading.{length-nodes, at-nodes, branch-at}
 use Rattle.settings.specs.Tells.{Tells}
 use Rattle.settings.proofs.Answers.{tells-leb}
-use Rattle.checks.proofs.Pictures.{Tested}
-use Rattle.checks.proofs.Sitting.{sits-good}
+use Rattle.table_checks.proofs.Pictures.{Tested}
+use Rattle.table_checks.proofs.Sitting.{sits-good}
 use Rattle.cost_sound.specs.Paired.{Shaped, Passes, Owns}
 use Rattle.cost_sound.proofs.Sitting.{goes-on}
 use Rattle.cost_sound.proofs.Reading.{reading, sound-shaped, shaped-tested, shaped-wf, sizes-pos, ranged-narrow}
@@ -82,7 +82,8 @@ module _ {w : List ℕ} (s : Shaped w) where
           some = omega (arith, size-is);
           most = size-is .1;
           near = λ v hv.
-              let e : goes (listed l) v ≡ goes (body w i) v = target-one (goes (listed l) v) (goes (body w i) v) (ap (λ (b : Branch costs). b .to) (faithful .reads (listed l) (body w i) v (omega (arith, size-is)) el)) in
+              let e : goes (listed l) v ≡ goes (body w i) v = target-one (goes (listed l) v) (goes (body w i) v)
+              (ap (λ (b : Branch costs). b .to) (faithful .reads (listed l) (body w i) v (omega (arith, size-is)) el)) in
               let y = s .nodes-ok .each i h .lower .lower v (omega arith) .below in
               record { room = omega (arith, s .header .room, s .header .within); most = omega (arith, s .header .most, s .header .within) };
         }

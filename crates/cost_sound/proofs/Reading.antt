@@ -7,20 +7,20 @@ use native.Mathlib.Omega.{arith}
 use Rattle.theory.specs.Settings.{Pos}
 use Rattle.theory.specs.Diagrams.{Branch, Node}
 use Rattle.theory.specs.Costs.{costs}
-use Rattle.cost_laws.specs.Integers.{wordFor}
-use Rattle.cost_laws.specs.Narrow.{Spread, Narrow}
-use Rattle.cost_laws.proofs.Narrow.{table-narrow}
-use Rattle.cost_laws.proofs.Spreads.{within-spread}
-use Rattle.words.proofs.Tab.{split}
-use Rattle.words.proofs.Words.{pos-sizes}
+use Rattle.theory_costs.specs.Integers.{wordFor}
+use Rattle.theory_costs.specs.Narrow.{Spread, Narrow}
+use Rattle.theory_costs.proofs.Narrow.{table-narrow}
+use Rattle.theory_costs.proofs.Spreads.{within-spread}
+use Rattle.table_words.proofs.Tab.{split}
+use Rattle.table_words.proofs.Words.{pos-sizes}
 use Rattle.cost_words.specs.Words.{targetWord}
 use Rattle.cost_words.specs.Picture.{rootOf, drawing}
 use Rattle.cost_words.proofs.Packing.{target-word, word-int, faithful}
 use Rattle.cost_words.proofs.Pairing.{pairs-spared}
 use Rattle.cost_words.proofs.Reading.{length-roots, at-roots, length-costs, at-costs}
 use Rattle.cost_words.proofs.Showing.{body-shows, root-shows, base-shows}
-use Rattle.checks.proofs.Pictures.{Reading, Read, Tested, tested-table}
-use Rattle.checks.proofs.Sitting.{nodes-wf}
+use Rattle.table_checks.proofs.Pictures.{Reading, Read, Tested, tested-table}
+use Rattle.table_checks.proofs.Sitting.{nodes-wf}
 use Rattle.theory.specs.WellFormed.{WF}
 use Rattle.cost_sound.specs.Walk.{going}
 use Rattle.cost_sound.specs.Paired.{Shaped}

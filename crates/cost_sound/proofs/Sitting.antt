@@ -6,10 +6,10 @@ use native.Mathlib.Omega.{arith}
 use Rattle.theory.specs.WellFormed.{WF}
 use Rattle.theory.specs.Costs.{costs}
 use Rattle.theory.specs.Diagrams.{Branch}
-use Rattle.cost_laws.proofs.Words.{int-one}
+use Rattle.theory_costs.proofs.Words.{int-one}
 use Rattle.cost_words.proofs.Packing.{target-end, target-node, target-one, int-zero, faithful}
-use Rattle.checks.specs.Walk.{Goes}
-use Rattle.checks.proofs.Sitting.{NodeFits, nodes-wf, sits-more}
+use Rattle.table_checks.specs.Walk.{Goes}
+use Rattle.table_checks.proofs.Sitting.{NodeFits, nodes-wf, sits-more}
 use Rattle.cost_sound.specs.Sound.{Sits}
 use Rattle.cost_sound.specs.Walk.{going, Ordered}
 use Rattle.promises.specs.Integers.{int}

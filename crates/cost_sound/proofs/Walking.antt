@@ -4,9 +4,9 @@ use mathlib.Core.List.{List}
 use Prim.Native.Nat.{ℕ, _<_}
 use native.Mathlib.Nat.{le-refl}
 use Rattle.theory.specs.Walk.{scan}
-use Rattle.checks.specs.Walk.{Says}
-use Rattle.checks.proofs.Sitting.{sits-good}
-use Rattle.checks.proofs.Walking as C
+use Rattle.table_checks.specs.Walk.{Says}
+use Rattle.table_checks.proofs.Sitting.{sits-good}
+use Rattle.table_checks.proofs.Walking as C
 use Rattle.cost_sound.specs.Walk.{Visits}
 use Rattle.cost_sound.proofs.Sitting.{goes-on}
 use Rattle.promises.specs.Tab.{tab}

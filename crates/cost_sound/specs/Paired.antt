@@ -6,7 +6,7 @@ use mathlib.Core.Option.{some}
 use Prim.Native.Nat.{ℕ}
 use Rattle.theory.specs.Diagrams.{at}
 use Rattle.theory.specs.Walk.{scan, scans}
-use Rattle.cost_laws.specs.Extremes.{own}
+use Rattle.theory_costs.specs.Extremes.{own}
 use Rattle.promises.specs.Words.{count, sizes}
 use Rattle.promises.specs.CostSound.{kept, sideOf, CostNodesOk as Nodes, CostRooted as Rooted, CostSound as Sound}
 use Rattle.promises.specs.CostWords.{costNodes as nodes, costRoots as roots}

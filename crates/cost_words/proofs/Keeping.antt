@@ -6,9 +6,9 @@ use Prim.Native.Nat.{ℕ, zero, suc, _+_, _-_, _<_}
 use native.Mathlib.Numerals.{add-one}
 use native.Mathlib.Omega.{arith}
 use lib.IntN.{ℤ, _+ℤ_}
-use Rattle.cost_laws.specs.Extremes.{keptAt}
-use Rattle.cost_laws.proofs.Extremes.{across-one, across-more}
-use Rattle.words.specs.Words.{listed}
+use Rattle.theory_costs.specs.Extremes.{keptAt}
+use Rattle.theory_costs.proofs.Extremes.{across-one, across-more}
+use Rattle.table_words.specs.Words.{listed}
 use Rattle.cost_words.specs.Sides.{endOf, Keeps, Wider, armSum, ArmSums, Sides}
 use Rattle.cost_words.specs.Sums.{Stands}
 use Rattle.cost_words.proofs.Packing.{target-end, target-node, int-zero}

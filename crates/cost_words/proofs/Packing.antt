@@ -9,12 +9,12 @@ use lib.IntN.{pos}
 use Rattle.theory.specs.Costs.{costs}
 use Rattle.theory.specs.Copying.{Twin}
 use Rattle.theory.specs.Diagrams.{Branch, Node, Target, leaf, node}
-use Rattle.cost_laws.specs.Integers.{wordFor}
-use Rattle.cost_laws.proofs.Growing.{sum-copied}
-use Rattle.cost_laws.proofs.Integers.{ℕ-eq, minus-fall}
-use Rattle.cost_laws.proofs.Words.{int-ℕ, int-one, int-word, signed-word}
-use Rattle.words.specs.Coding.{Faithful}
-use Rattle.words.proofs.Tab.{split, same}
+use Rattle.theory_costs.specs.Integers.{wordFor}
+use Rattle.theory_costs.proofs.Growing.{sum-copied}
+use Rattle.theory_costs.proofs.Integers.{ℕ-eq, minus-fall}
+use Rattle.theory_costs.proofs.Words.{int-ℕ, int-one, int-word, signed-word}
+use Rattle.table_words.specs.Coding.{Faithful}
+use Rattle.table_words.proofs.Tab.{split, same}
 use Rattle.cost_words.specs.Words.{targetWord, code, packed, pairWord, targetOf, Worded}
 use Rattle.cost_words.specs.declared.Target.{Target as CodeTarget}
 use Rattle.cost_words.specs.declared.Target.the-variants.{End, Node as NodeIs}

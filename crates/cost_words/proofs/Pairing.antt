@@ -13,14 +13,14 @@ use Rattle.theory.specs.Diagrams.{Node, empty}
 use Rattle.theory.specs.Settings.{Pos}
 use Rattle.theory.specs.WellFormed.{WF}
 use Rattle.theory.proofs.WellFormed.{length-snoc}
-use Rattle.cost_laws.specs.Integers.{wordFor}
-use Rattle.cost_laws.specs.Extremes.{Passed, own}
-use Rattle.cost_laws.specs.Narrow.{Narrow}
-use Rattle.cost_laws.proofs.Growing.{passed-longer}
-use Rattle.cost_laws.proofs.Owning.{own-right, passed-sum, sum-passed, sum-fits}
-use Rattle.cost_laws.proofs.Words.{int-word}
-use Rattle.words.specs.Coding.{Spared}
-use Rattle.words.proofs.Coding.{length-nodes}
+use Rattle.theory_costs.specs.Integers.{wordFor}
+use Rattle.theory_costs.specs.Extremes.{Passed, own}
+use Rattle.theory_costs.specs.Narrow.{Narrow}
+use Rattle.theory_costs.proofs.Growing.{passed-longer}
+use Rattle.theory_costs.proofs.Owning.{own-right, passed-sum, sum-passed, sum-fits}
+use Rattle.theory_costs.proofs.Words.{int-word}
+use Rattle.table_words.specs.Coding.{Spared}
+use Rattle.table_words.proofs.Coding.{length-nodes}
 use Rattle.cost_words.specs.Words.{code, pairWord}
 use Rattle.cost_words.proofs.Packing.{word-int}
 use Rattle.cost_words.proofs.Summing.{way}

@@ -8,8 +8,8 @@ use Rattle.theory.specs.Costs.{costs}
 use Rattle.theory.specs.Diagrams.{Node, at, blank}
 use Rattle.theory.specs.Functions.{zero-fun}
 use Rattle.theory.specs.WellFormed.{Under}
-use Rattle.words.proofs.Coding as C
-use Rattle.words.proofs.Tab.{length-tab, getD-tab}
+use Rattle.table_words.proofs.Coding as C
+use Rattle.table_words.proofs.Tab.{length-tab, getD-tab}
 use Rattle.cost_words.specs.Words.{code, nodeAt}
 use Rattle.promises.specs.Words.{count, size, feature, body}
 use Rattle.promises.specs.CostWords.{target, costBranch as branch, goes, added, costNodes as nodes, rootAt, costRoots as roots, costOf, costsOf}

@@ -8,10 +8,10 @@ use borrow.Author.Tests.{lt-ltb, le-ltb}
 use lib.ListN.{length, getD}
 use Rattle.theory.specs.Costs.{costs}
 use Rattle.theory.specs.Diagrams.{Branch, Node, at, blank}
-use Rattle.cost_laws.specs.Integers.{wordFor}
-use Rattle.words.proofs.Coding.{past-at}
-use Rattle.words.proofs.Picture.{hash-shown}
-use Rattle.words.proofs.Tab.{split, length-tab}
+use Rattle.theory_costs.specs.Integers.{wordFor}
+use Rattle.table_words.proofs.Coding.{past-at}
+use Rattle.table_words.proofs.Picture.{hash-shown}
+use Rattle.table_words.proofs.Tab.{split, length-tab}
 use Rattle.cost_words.specs.Words.{targetWord, code}
 use Rattle.cost_words.specs.Picture.{goesOf, addedOf, bodyOf, rootOf, drawing, nodeHash}
 use Rattle.cost_words.proofs.Packing.{target-word, word-int, word-branch, packed-self, packed-ext, packed-goes, packed-added}

@@ -5,9 +5,9 @@ use Prim.Native.Nat.{ℕ, _+_, _≤_, _<_}
 use native.Mathlib.Omega.{arith}
 use lib.IntN.{ℤ, _+ℤ_, _-ℤ_}
 use lib.Signed.{_≤ℤ_}
-use Rattle.cost_laws.proofs.Extremes.{Above, Way, low, high}
-use Rattle.cost_laws.proofs.Integers.{minus-ℕ}
-use Rattle.cost_laws.proofs.Words.{int-ℕ, larger-first, larger-second, smaller-first, smaller-second, words-sum, int-sum, int-minus}
+use Rattle.theory_costs.proofs.Extremes.{Above, Way, low, high}
+use Rattle.theory_costs.proofs.Integers.{minus-ℕ}
+use Rattle.theory_costs.proofs.Words.{int-ℕ, larger-first, larger-second, smaller-first, smaller-second, words-sum, int-sum, int-minus}
 use Rattle.cost_words.specs.Sums.{Stands}
 use Rattle.promises.specs.Integers.{int}
 use Rattle.promises.specs.CostSound.{sideOf}

@@ -5,8 +5,8 @@ use lib.Dec.{ltb}
 use lib.ListN.{length, getD}
 use Rattle.theory.specs.Costs.{costs, Cost}
 use Rattle.theory.specs.Diagrams.{Branch, Node, blank}
-use Rattle.cost_laws.specs.Integers.{wordFor}
-use Rattle.words.specs.Picture as P
+use Rattle.theory_costs.specs.Integers.{wordFor}
+use Rattle.table_words.specs.Picture as P
 use Rattle.cost_words.specs.Words.{targetWord, packed, pairWord}
 use Rattle.promises.specs.Integers.{Fit}
 use Rattle.promises.specs.Range.{costMost}

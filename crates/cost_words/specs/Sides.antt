@@ -5,8 +5,8 @@ use mathlib.Core.List.{List}
 use Prim.Native.Nat.{ℕ, _+_, _*_, _≤_, _<_}
 use lib.IntN.{ℤ}
 use lib.ListN.{length}
-use Rattle.cost_laws.specs.Extremes.{along, keptAt}
-use Rattle.words.specs.Words.{listed}
+use Rattle.theory_costs.specs.Extremes.{along, keptAt}
+use Rattle.table_words.specs.Words.{listed}
 use Rattle.promises.specs.Integers.{Fit, int}
 use Rattle.promises.specs.Range.{addMost}
 use Rattle.promises.specs.CostSound.{across, kept, sideOf}

@@ -4,8 +4,8 @@ use Prim.Native.Nat.{ℕ, zero, suc, _+_, _*_, _-_, _<_}
 use lib.Dec.{ltb}
 use Rattle.theory.specs.Costs.{costs}
 use Rattle.theory.specs.Diagrams.{Node, Target, leaf, node}
-use Rattle.cost_laws.specs.Integers.{wordFor}
-use Rattle.words.specs.Coding as C
+use Rattle.theory_costs.specs.Integers.{wordFor}
+use Rattle.table_words.specs.Coding as C
 use Rattle.cost_words.specs.declared.Target.{Target as CodeTarget}
 use Rattle.cost_words.specs.declared.Target.the-variants.{End, Node as NodeIs}
 use Rattle.promises.specs.CostWords.{costBranch as branch, goes, added, Padded}

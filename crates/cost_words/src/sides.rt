@@ -3,8 +3,8 @@ use crate::ZERO;
 use crate::half_of;
 use crate::sums::further;
 use crate::sums::sum_or_lost;
-use words::record_word;
-use words::wide;
+use table_words::record_word;
+use table_words::wide;
 ghost use Prim.Native.Nat.{_<_};
 ghost use Rattle.cost_words.specs.Sides.{Keeps, Near, Wider, Bodied, ArmSums, Sides};
 

@@ -1,5 +1,5 @@
 // Sums and differences of words that stand for integers, told as lost where they lie outside ±2,000,000,000; the further of two.
-use words::wide;
+use table_words::wide;
 ghost use mathlib.Core.Path.{_≡_};
 ghost use Prim.Native.Nat.{_<_};
 ghost use lib.IntN.{_+ℤ_, _-ℤ_};

@@ -48,11 +48,11 @@ use Rattle.promises.specs.RuleDeeds.{ruled}
 use Rattle.promises.specs.CostDeeds.{costed, join}
 use Rattle.promises.specs.BothDeeds.{both}
 use Rattle.promises.specs.SheetDeeds.{filed}
-use Rattle.calls.proofs.Like.{clear, rest}
-use Rattle.cost_laws.specs.Spots as Spots
-use Rattle.cost_laws.proofs.Integers.{fit?}
-use Rattle.cost_laws.proofs.Lowest.{lowest-or-none}
-use Rattle.cost_laws.proofs.Spots.{Says, lowest-right}
+use Rattle.table_calls.proofs.Like.{clear, rest}
+use Rattle.theory_costs.specs.Spots as Spots
+use Rattle.theory_costs.proofs.Integers.{fit?}
+use Rattle.theory_costs.proofs.Lowest.{lowest-or-none}
+use Rattle.theory_costs.proofs.Spots.{Says, lowest-right}
 use Rattle.demands.specs.Does.{Does}
 use Rattle.demands.specs.RuleCalls as R
 use Rattle.demands.specs.CostCalls as C
@@ -192,7 +192,8 @@ rule-has (R.Next p x s) =
 rule-has (R.Write p out) =
     record {
       sure-of = λ z. (not? (places? 32 _), λ n. (not? (sheet-for? (z .list) (on z p) (length out)), λ k. tt));
-      given = λ z e. let x = sure (sheet-for? (z .list) (on z p) (length out)) (clear (rest e)) in (filed .made Taken (length (x .0), x .0 ++ drop (length (x .0)) out), refl, (x .0, x .1, refl, refl));
+      given = λ z e. let x = sure (sheet-for? (z .list) (on z p) (length out)) (clear (rest e)) in
+          (filed .made Taken (length (x .0), x .0 ++ drop (length (x .0)) out), refl, (x .0, x .1, refl, refl));
       refuses = λ y. refl;
     }
 

@@ -22,8 +22,8 @@ use Rattle.promises.specs.State.{State, on, room-cases}
 use Rattle.promises.specs.RuleDeeds.{ruled}
 use Rattle.promises.specs.CostDeeds.{costed, range-cases}
 use Rattle.promises.specs.BothDeeds.{both-front, choose, less-than, lowest}
-use Rattle.calls.proofs.Like.{Like, alike, more, keep, clear, rest}
-use Rattle.cost_laws.proofs.Lowest.{lowest-unique}
+use Rattle.table_calls.proofs.Like.{Like, alike, more, keep, clear, rest}
+use Rattle.theory_costs.proofs.Lowest.{lowest-unique}
 use Rattle.demands.specs.Agrees.{Agrees}
 use Rattle.demands.specs.Ground.{together}
 use Rattle.demands.specs.TableGround.{table-ground}

@@ -14,7 +14,7 @@ use Rattle.promises.specs.Sheet.{sheetSizes, sheetRule}
 use Rattle.promises.specs.Deed.{Meets}
 use Rattle.promises.specs.RuleDeeds.{looked}
 use Rattle.promises.specs.SheetDeeds.{look-up-in}
-use Rattle.calls.proofs.Like.{like-refl}
+use Rattle.table_calls.proofs.Like.{like-refl}
 use Rattle.demands.specs.ByteDeeds.{stepped, step-on}
 use Rattle.demands.specs.ByteCalls.{Call, Step, LookUp, deed}
 use Rattle.demands.proofs.Firm.{neg, newer}

@@ -14,8 +14,8 @@ use Rattle.promises.specs.CostOperations.{joined, scaled, smallerOf, largerOf}
 use Rattle.promises.specs.Range.{LeavesRange, costMost}
 use Rattle.promises.specs.State.{state}
 use Rattle.promises.specs.CostDeeds.{cost-looked, costed, price, range-cases, join, scale}
-use Rattle.calls.proofs.Like.{Like, more, keep}
-use Rattle.costs.proofs.Edge.{drawn}
+use Rattle.table_calls.proofs.Like.{Like, more, keep}
+use Rattle.cost_calls.proofs.Edge.{drawn}
 use Rattle.demands.specs.Agrees.{Matches}
 use Rattle.demands.specs.TableGround.{table-ground}
 use Rattle.demands.specs.CostCalls.{Call, Open, Constant, Copy, Price, Add, Subtract, Smaller, Larger, Scale, LookUp, Same, Tally, deed}

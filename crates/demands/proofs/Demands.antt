@@ -10,8 +10,8 @@ use Rattle.settings.specs.declared.refusals.Outcome.the-variants.{Taken, Refuse
 use Rattle.settings.proofs.Endings.{ends-unique}
 use Rattle.promises.specs.Loan.{Loan}
 use Rattle.promises.specs.Deed.{Deed, refusals, Meets}
-use Rattle.calls.proofs.Theorems.{ended}
-use Rattle.calls.proofs.Like.{more, like-ends, like-one, clear, rest}
+use Rattle.table_calls.proofs.Theorems.{ended}
+use Rattle.table_calls.proofs.Like.{more, like-ends, like-one, clear, rest}
 use Rattle.demands.specs.Exact.{Exact}
 use Rattle.demands.specs.Ground.{Ground, Holds}
 use Rattle.demands.specs.Does.{Does, leftBy, afterwards}
@@ -160,7 +160,8 @@ module _ {P : Part} (K : Kept P) where
   told-exactly c z r a = does-exact (K .frame) (K .lawful c) z r a
 
   -- refused means untouched: every word is as it was, and what is returned is the refusal's own
-  pub refused-untouched : (c : P .Call) (w w′ : P .loan .Words) (r : P .deed c .Result) (x : Refusal) → Meets (P .deed c) w w′ r → P .deed c .ending r ≡ Refused x → (w′ ≡ w) × (r ≡ P .deed c .refusal x)
+  pub refused-untouched : (c : P .Call) (w w′ : P .loan .Words) (r : P .deed c .Result) (x : Refusal) → Meets (P .deed c) w w′ r → P .deed c .ending r ≡ Refused x
+      → (w′ ≡ w) × (r ≡ P .deed c .refusal x)
   refused-untouched c w w′ r x m e = (m .kept x e, m .refused x e)
 
   -- every table of refusals ascends
@@ -168,7 +169,8 @@ module _ {P : Part} (K : Kept P) where
   ascends c w = (omega arith, K .lawful c .ordered (P .loan .says w))
 
   -- ---- PAST THE BOUND: words that are the same up to the bounds give the same answer, and are the same up to the bounds afterwards
-  pub past-the-bound : (c : P .Call) (w u w′ u′ : P .loan .Words) (r q : P .deed c .Result) → P .ground .Alike w u → Meets (P .deed c) w w′ r → Meets (P .deed c) u u′ q → (r ≡ q) × P .ground .Alike w′ u′
+  pub past-the-bound : (c : P .Call) (w u w′ u′ : P .loan .Words) (r q : P .deed c .Result) → P .ground .Alike w u → Meets (P .deed c) w w′ r → Meets (P .deed c) u u′ q
+      → (r ≡ q) × P .ground .Alike w′ u′
   past-the-bound c w u w′ u′ r q b m n = (answer-past (K .frame) (K .lawful c) b m n, words-past (K .frame) (K .lawful c) b m n)
 
   -- ---- DECIDED: two outcomes that meet a promise are equal, in what they return and in every word

@@ -13,14 +13,14 @@ use Rattle.theory.specs.Counted.{Reaches}
 use Rattle.theory.specs.First.{NoneFrom}
 use Rattle.theory.specs.Rules.{Rule}
 use Rattle.theory.specs.Costs.{Cost}
-use Rattle.cost_laws.proofs.Integers.{fit?}
+use Rattle.theory_costs.proofs.Integers.{fit?}
 use Rattle.settings.specs.Refusals.{Cases, taken, _when_else_}
 use Rattle.promises.specs.Integers.{Fit}
 use Rattle.promises.specs.Range.{LeavesRange, costMost}
 use Rattle.promises.specs.Lowest.{NoneMarked}
 use Rattle.promises.specs.Sheet.{NewerSheet}
 use Rattle.promises.specs.State.{State, Outnumber}
-use Rattle.calls.proofs.Drawn.{outnumber, outnumbered}
+use Rattle.table_calls.proofs.Drawn.{outnumber, outnumbered}
 
 -- P holds where it cannot fail: so it is of every negation and of everything that can be decided
 abbrev pub Stable : Type 0 → Type 0

@@ -10,7 +10,7 @@ use Rattle.promises.specs.State.{State, state}
 use Rattle.promises.specs.Loan.{Loan}
 use Rattle.promises.specs.Table.{Ask, sound-table, Effect, Tabled, table}
 use Rattle.promises.specs.Deed.{Answer, Deed, plain}
-use Rattle.calls.proofs.Like.{Like}
+use Rattle.table_calls.proofs.Like.{Like}
 use Rattle.demands.specs.Agrees.{Matches, Agrees}
 use Rattle.demands.specs.Ground.{Ground}
 use Rattle.demands.specs.TableGround.{AgreesAs}

@@ -3,7 +3,7 @@ use mathlib.Core.Path.{_≡_}
 use Rattle.settings.specs.declared.refusals.Refusal.the-variants.{Damaged}
 use Rattle.promises.specs.Loan.{Loan, _and_}
 use Rattle.promises.specs.Deed.{Deed, Meets}
-use Rattle.calls.proofs.Like.{more, like-refl, like-ends}
+use Rattle.table_calls.proofs.Like.{more, like-refl, like-ends}
 use Rattle.demands.specs.Ground.{Ground}
 use Rattle.demands.specs.Does.{on-first, on-second}
 use Rattle.demands.proofs.Effects.{Effects, on-two}

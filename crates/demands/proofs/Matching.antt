@@ -14,8 +14,8 @@ use Rattle.theory.specs.Comparing.{amount-discrete}
 use Rattle.theory.proofs.Ranges.{features-pos, features?}
 use Rattle.settings.specs.declared.refusals.Refusal.the-variants.{NoRoom}
 use Rattle.promises.specs.State.{State, state, put, Outnumber, room-cases}
-use Rattle.calls.proofs.Like.{Like, alike, more}
-use Rattle.calls.proofs.Drawn.{outnumber, outnumbered}
+use Rattle.table_calls.proofs.Like.{Like, alike, more}
+use Rattle.table_calls.proofs.Drawn.{outnumber, outnumbered}
 use Rattle.demands.specs.Agrees.{Matches, Agrees}
 use Rattle.demands.proofs.Firm.{Stable, sure, equal}
 use Rattle.demands.proofs.Tally.{tally-more}

@@ -13,8 +13,8 @@ use Rattle.theory.specs.Costs.{costs}
 use Rattle.settings.specs.declared.refusals.Refusal.the-variants.{Damaged, BadOpening}
 use Rattle.settings.specs.declared.refusals.Outcome.{Outcome}
 use Rattle.settings.specs.declared.refusals.Outcome.the-variants.{Taken}
-use Rattle.words.specs.Picture.{Drawing}
-use Rattle.words.proofs.Tab.{length-tab, getD-tab}
+use Rattle.table_words.specs.Picture.{Drawing}
+use Rattle.table_words.proofs.Tab.{length-tab, getD-tab}
 use Rattle.promises.specs.Words.{sizes, bound}
 use Rattle.promises.specs.RuleWords.{ruleRoot}
 use Rattle.promises.specs.CostWords.{costRoot, costBase}
@@ -25,12 +25,12 @@ use Rattle.promises.specs.TableDeeds.{Openable, fresh, open-table}
 use Rattle.promises.specs.RuleDeeds.{looked, ruled}
 use Rattle.promises.specs.CostDeeds.{cost-looked, costed}
 use Rattle.promises.specs.BothDeeds.{both}
-use Rattle.calls.proofs.Like.{alike, more, keep, like-one}
-use Rattle.calls.proofs.Drawn.{Drawn, tabled}
-use Rattle.rules.proofs.Edge as RE
-use Rattle.rules.proofs.Answering as RA
-use Rattle.costs.proofs.Edge as CE
-use Rattle.costs.proofs.Answering as CA
+use Rattle.table_calls.proofs.Like.{alike, more, keep, like-one}
+use Rattle.table_calls.proofs.Drawn.{Drawn, tabled}
+use Rattle.rule_calls.proofs.Edge as RE
+use Rattle.rule_calls.proofs.Answering as RA
+use Rattle.cost_calls.proofs.Edge as CE
+use Rattle.cost_calls.proofs.Answering as CA
 use Rattle.demands.specs.Ground.{Holds}
 use Rattle.demands.specs.TableGround.{Alike, table-ground}
 use Rattle.demands.specs.Run.{Event, Run, ran}

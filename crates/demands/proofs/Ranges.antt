@@ -14,7 +14,7 @@ use Rattle.promises.specs.Range.{LeavesRange, costMost}
 use Rattle.promises.specs.State.{on}
 use Rattle.promises.specs.Deed.{refusals, Meets}
 use Rattle.promises.specs.BothDeeds.{both, choose}
-use Rattle.costs.proofs.Edge.{drawn}
+use Rattle.cost_calls.proofs.Edge.{drawn}
 use Rattle.demands.specs.BothCalls.{Choose}
 use Rattle.demands.proofs.Rows.{applies-row}
 use Rattle.demands.proofs.Demands.{refused-exactly}
@@ -28,7 +28,8 @@ one-of P (suc n) x y p q = p
 pub never-range : (p q a b : ℕ) (w w′ : both .Words) (o : Outcome) → Meets (choose p q a b) w w′ o → o ≡ Refused Range → ⊥
 never-range p q a b w w′ o m e =
     let x = refused-exactly both-kept (Choose p q a b) w w′ o m .refused Range .0 e in
-    let l : LeavesRange (sizes (w .1)) (chosen (on (both .says w .0) q) (on (both .says w .1) a) (on (both .says w .1) b)) = ⊎-elim (λ y. y) (λ y. absurd y) (applies-row (refusals (choose p q a b) w) Range (x .0)) in
+    let l : LeavesRange (sizes (w .1)) (chosen (on (both .says w .0) q) (on (both .says w .1) a) (on (both .says w .1) b)) =
+    ⊎-elim (λ y. y) (λ y. absurd y) (applies-row (refusals (choose p q a b) w) Range (x .0)) in
     x .1 BadPlace (omega arith) (inr (inl (
       refl,
       λ k.

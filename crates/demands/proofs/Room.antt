@@ -21,7 +21,7 @@ use Rattle.theory.proofs.Tables.{table-wf, table-mean, room}
 use Rattle.settings.specs.Refusals.{Cases, _when_else_}
 use Rattle.settings.specs.declared.refusals.Refusal.the-variants.{Damaged, BadPlace, NoRoom}
 use Rattle.settings.specs.declared.refusals.Outcome.{Outcome}
-use Rattle.words.specs.Picture.{Drawing}
+use Rattle.table_words.specs.Picture.{Drawing}
 use Rattle.promises.specs.Words.{sizes}
 use Rattle.promises.specs.Deed.{Answer, refusals, Meets}
 use Rattle.promises.specs.State.{State, on, Outnumber}
@@ -30,9 +30,9 @@ use Rattle.promises.specs.TableDeeds.{constant, copy}
 use Rattle.promises.specs.RuleDeeds.{looked, ruled}
 use Rattle.promises.specs.CostDeeds.{cost-looked, costed}
 use Rattle.promises.specs.BothDeeds.{both}
-use Rattle.calls.proofs.Drawn.{Drawn, tabled, outnumbered}
-use Rattle.rules.proofs.Edge as RE
-use Rattle.costs.proofs.Edge as CE
+use Rattle.table_calls.proofs.Drawn.{Drawn, tabled, outnumbered}
+use Rattle.rule_calls.proofs.Edge as RE
+use Rattle.cost_calls.proofs.Edge as CE
 use Rattle.demands.specs.Exact.{LowerNone, Exact}
 use Rattle.demands.specs.Room.{RoomExact, RoomOfBoth}
 use Rattle.demands.specs.RuleCalls as R
@@ -141,10 +141,12 @@ module _ (w : List ℕ) where
   cost-law C.Tally = never-keeps (λ r. r)
 
 -- THEOREM: every call of the rule table, of the cost table, and of one who holds both
-pub rules-room : (c : R.Call) (w w′ : List ℕ) (r : R.deed c .Result) → Meets (R.deed c) w w′ r → RoomExact (R.deed c .writes (stateOf ruled w)) (stateOf ruled w) (refusals (R.deed c) w) (R.deed c .ending r)
+pub rules-room : (c : R.Call) (w w′ : List ℕ) (r : R.deed c .Result) → Meets (R.deed c) w w′ r
+    → RoomExact (R.deed c .writes (stateOf ruled w)) (stateOf ruled w) (refusals (R.deed c) w) (R.deed c .ending r)
 rules-room c w w′ r a = room-exact (R.deed c .writes (stateOf ruled w)) (refused-exactly rules-kept c w w′ r a) (rule-law w c)
 
-pub costs-room : (c : C.Call) (w w′ : List ℕ) (r : C.deed c .Result) → Meets (C.deed c) w w′ r → RoomExact (C.deed c .writes (stateOf costed w)) (stateOf costed w) (refusals (C.deed c) w) (C.deed c .ending r)
+pub costs-room : (c : C.Call) (w w′ : List ℕ) (r : C.deed c .Result) → Meets (C.deed c) w w′ r
+    → RoomExact (C.deed c .writes (stateOf costed w)) (stateOf costed w) (refusals (C.deed c) w) (C.deed c .ending r)
 costs-room c w w′ r a = room-exact (C.deed c .writes (stateOf costed w)) (refused-exactly costs-kept c w w′ r a) (cost-law w c)
 
 first-of-both : (z : both .Plain) (l : Cases) (o : Outcome) (e : Effect rules) → RoomExact e (z .0) l o → RoomOfBoth e keeps z l o

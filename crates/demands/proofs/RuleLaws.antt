@@ -18,13 +18,13 @@ use Rattle.theory.proofs.Ranges.{valid-length, valid-at, valid-from}
 use Rattle.theory.proofs.Rules.{numbers}
 use Rattle.settings.specs.Step.{settingOf}
 use Rattle.settings.specs.declared.refusals.Refusal.the-variants.{BadPlace, Newer, BadSheet, OtherFeatures, BadArgument, BadSelector, NoSpace, None}
-use Rattle.words.proofs.Tab.{tab-ext}
+use Rattle.table_words.proofs.Tab.{tab-ext}
 use Rattle.promises.specs.Operators.{pairOf, caseOf, forgottenOf}
 use Rattle.promises.specs.State.{state}
 use Rattle.promises.specs.RuleDeeds.{looked, ruled, literal, caseRule, case, applied, apply, restrict, without, forget, count-with, next-with}
 use Rattle.promises.specs.SheetDeeds.{SheetFor, read-sheet, write-sheet}
-use Rattle.calls.proofs.Like.{alike, more, keep, clear, rest}
-use Rattle.rules.proofs.Edge.{drawn}
+use Rattle.table_calls.proofs.Like.{alike, more, keep, clear, rest}
+use Rattle.rule_calls.proofs.Edge.{drawn}
 use Rattle.sheets.proofs.Edge.{one-sheet}
 use Rattle.demands.specs.Agrees.{Matches}
 use Rattle.demands.specs.TableGround.{table-ground}

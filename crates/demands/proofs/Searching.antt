@@ -24,8 +24,8 @@ use Rattle.promises.specs.Range.{LeavesRange, costMost}
 use Rattle.promises.specs.State.{State, Outnumber, Places}
 use Rattle.promises.specs.TableDeeds.{Openable}
 use Rattle.promises.specs.CostDeeds.{Priced}
-use Rattle.calls.proofs.Drawn.{outnumber, outnumbered}
-use Rattle.cost_laws.proofs.Integers.{fit?}
+use Rattle.table_calls.proofs.Drawn.{outnumber, outnumbered}
+use Rattle.theory_costs.proofs.Integers.{fit?}
 use Rattle.demands.proofs.Firm.{not?, some?}
 
 -- ---- decisions

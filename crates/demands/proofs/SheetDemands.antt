@@ -22,7 +22,7 @@ use Rattle.promises.specs.Deed.{refusals, Meets}
 use Rattle.promises.specs.RuleDeeds.{ruled}
 use Rattle.promises.specs.SheetDeeds.{SheetFor, read-sheet, write-sheet, look-up-in}
 use Rattle.rule_words.proofs.Reading.{length-rules}
-use Rattle.calls.proofs.Like.{clear, rest}
+use Rattle.table_calls.proofs.Like.{clear, rest}
 use Rattle.sheets.proofs.Edge.{sheets-same}
 use Rattle.demands.specs.Sheets.{Passed, written, taken-in, looked-up}
 use Rattle.demands.proofs.Firm.{sure}

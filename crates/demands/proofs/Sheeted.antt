@@ -12,7 +12,8 @@ use Rattle.theory.specs.Tally.{tally}
 use Rattle.theory.specs.Walk.{scan}
 use Rattle.theory.proofs.Ranges.{features?}
 use Rattle.promises.specs.RuleWords.{decode}
-use Rattle.promises.specs.Sheet.{NewerSheet, byte, sheetFeatures, sheetSizes, sheetCount, sheetFeature, sheetWidth, sheetBranch, sheetRoot, sheetNodes, Begins, Lies, SheetSits, SheetLower, SheetAlike, SheetNodeOk, SheetNodesOk, SheetSame, SheetAlone, Once, SheetOrdered, InOrder, GoodSheet}
+use Rattle.promises.specs.Sheet.{NewerSheet, byte, sheetFeatures, sheetSizes, sheetCount, sheetFeature, sheetWidth, sheetBranch, sheetRoot, sheetNodes, Begins, Lies, SheetSits}
+use Rattle.promises.specs.Sheet.{SheetLower, SheetAlike, SheetNodeOk, SheetNodesOk, SheetSame, SheetAlone, Once, SheetOrdered, InOrder, GoodSheet}
 use Rattle.promises.specs.SheetDeeds.{SheetFor}
 use Rattle.sheet_bytes.specs.Sheet.{sheetOf, Writable}
 use Rattle.sheets.proofs.Edge.{room-for}

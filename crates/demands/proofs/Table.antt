@@ -9,14 +9,14 @@ use lib.Seq.{ext-getD}
 use Rattle.theory.specs.Kind.{Kind}
 use Rattle.theory.specs.Settings.{Valid}
 use Rattle.theory.specs.Functions.{Amount, Fun}
-use Rattle.words.specs.Picture.{Drawing, Pictures}
-use Rattle.words.proofs.Picture.{one-picture, shows-ext}
-use Rattle.words.proofs.Tab.{split}
+use Rattle.table_words.specs.Picture.{Drawing, Pictures}
+use Rattle.table_words.proofs.Picture.{one-picture, shows-ext}
+use Rattle.table_words.proofs.Tab.{split}
 use Rattle.promises.specs.Words.{head, capacity, sizes, bound}
 use Rattle.promises.specs.State.{State, put}
 use Rattle.promises.specs.Deed.{Answer}
 use Rattle.promises.specs.Table.{Ask, any-words, sound-table, Effect, keeps, puts, opens, Tabled, stateOf, SoundAs, Made, Leaves, table}
-use Rattle.calls.proofs.Drawn.{Drawn, tabled}
+use Rattle.table_calls.proofs.Drawn.{Drawn, tabled}
 use Rattle.demands.specs.Agrees.{Agrees}
 use Rattle.demands.specs.Ground.{Ground, Holds}
 use Rattle.demands.specs.TableGround.{Alike, left, AgreesAs, table-ground}

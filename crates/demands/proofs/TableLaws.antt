@@ -14,10 +14,10 @@ use Rattle.theory.proofs.Counting.{tally-counts, counts-unique}
 use Rattle.theory.proofs.Ranges.{valid?, features-pos}
 use Rattle.settings.specs.declared.refusals.Refusal.the-variants.{BadPlace, BadArgument, BadOpening}
 use Rattle.settings.proofs.Answers.{retell, tells-decided}
-use Rattle.words.proofs.Tab.{length-tab}
+use Rattle.table_words.proofs.Tab.{length-tab}
 use Rattle.promises.specs.Table.{Tabled}
 use Rattle.promises.specs.TableDeeds.{compared, tallied, open-table, constant, copy, look-up, same, tally-all}
-use Rattle.calls.proofs.Like.{alike, keep, clear, rest}
+use Rattle.table_calls.proofs.Like.{alike, keep, clear, rest}
 use Rattle.demands.specs.Agrees.{Matches}
 use Rattle.demands.proofs.Firm.{neg, sure}
 use Rattle.demands.proofs.Tally.{tally-agree}

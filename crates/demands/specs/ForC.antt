@@ -1,7 +1,8 @@
 -- What C hears of each call, where it lent the words out: its promise is that of an answer which meets the deed. Assumes nothing.
 use mathlib.Core.List.{List}
 use Prim.Native.Nat.{ℕ}
-use Rattle.promises.specs.ForC.{Heard, tell-ending, tell-looked, tell-cost-looked, tell-compared, tell-tallied, tell-spelled, tell-counted, tell-met, tell-found, tell-stepped, tell-filed, tell-returned}
+use Rattle.promises.specs.ForC.{Heard, tell-ending, tell-looked, tell-cost-looked, tell-compared, tell-tallied, tell-spelled, tell-counted, tell-met, tell-found, tell-stepped}
+use Rattle.promises.specs.ForC.{tell-filed, tell-returned}
 use Rattle.demands.specs.RuleCalls as R
 use Rattle.demands.specs.CostCalls as C
 use Rattle.demands.specs.BothCalls as B

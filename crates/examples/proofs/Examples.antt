@@ -20,8 +20,8 @@ use Rattle.promises.specs.Tab.{tab}
 use Rattle.promises.specs.Operators.{pairOf, caseOf, forgottenOf, bitOf, setSize}
 use Rattle.promises.specs.Lowest.{Lowest, NoneMarked}
 use Rattle.promises.specs.BothDeeds as D
-use Rattle.cost_laws.specs.Spots.{lowest}
-use Rattle.cost_laws.proofs.Spots.{lowest-right}
+use Rattle.theory_costs.specs.Spots.{lowest}
+use Rattle.theory_costs.proofs.Spots.{lowest-right}
 use Rattle.examples.specs.Examples.{sizes, a, b, c, shelf, always, where-zero, P, Q, P+Q, shelves, RefusedAs, numbers, amounts, six, examples, Hold}
 use Rattle.examples.proofs.Nexts.{c-numbers, refused-selector, next-one, refused-none}
 
@@ -58,4 +58,40 @@ module _ {K : Kind} where
 -- ALL HOLD
 pub examples-hold : Hold examples
 unfolding Hold examples numbers amounts six settingsOf sizes c a b shelf pairOf bitOf setSize countOf tally forgottenOf caseOf tab P Q ℕ-discrete unit-discrete int-discrete
-examples-hold = (refl, (refl, (refl, (counted sizes (a ∷ []) 1 refl, (refl, (c-numbers, (counted sizes (c ∷ []) 2 refl, (refl, (refl, (refl, (refl, (refused-selector, (next-one, (refused-none, (refl, (counted sizes (P+Q ∷ []) 2 refl, (counted sizes (P ∷ Q ∷ P+Q ∷ []) 3 refl, (low-of-all, (low-of-some, (refused-lowest, (refl, tt)))))))))))))))))))))
+examples-hold = (
+  refl,
+  (
+    refl,
+    (
+      refl,
+      (
+        counted sizes (a ∷ []) 1 refl,
+        (
+          refl,
+          (
+            c-numbers,
+            (
+              counted sizes (c ∷ []) 2 refl,
+              (
+                refl,
+                (
+                  refl,
+                  (
+                    refl,
+                    (
+                      refl,
+                      (
+                        refused-selector,
+                        (next-one, (refused-none, (refl, (counted sizes (P+Q ∷ []) 2 refl, (counted sizes (P ∷ Q ∷ P+Q ∷ []) 3 refl, (low-of-all, (low-of-some, (refused-lowest, (refl, tt))))))))),
+                      ),
+                    ),
+                  ),
+                ),
+              ),
+            ),
+          ),
+        ),
+      ),
+    ),
+  ),
+)

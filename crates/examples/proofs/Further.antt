@@ -3,7 +3,7 @@ use mathlib.Core.Path.{_≡_, refl}
 use mathlib.Core.List.{[], _∷_}
 use native.Mathlib.Omega.{arith}
 use lib.IntN.{pos}
-use Rattle.cost_laws.specs.Extremes.{highestOf, lowestOf}
+use Rattle.theory_costs.specs.Extremes.{highestOf, lowestOf}
 use Rattle.examples.specs.Examples.{sizes, P, Q, P+Q}
 use Rattle.promises.specs.CostSound.{extreme}
 use Rattle.promises.specs.CostOperations.{constant, largerOf, smallerOf, sum}

@@ -16,7 +16,7 @@ pub extern "C" fn lampgrotto_write(
 ) -> u32
     ensures { λ r. ⌜ Hears (Meets (F.write-sheet place (now (sheet .entry))) (now (t .entry)) (now (t .entry))) (tell-filed (now (out .entry))) (heard r (now (out .exit)) (now (sheet .exit))) ⌝ }
 {
-    let r = rule_sheets::write(t, place, sheet);
+    let r = sheet_calls::write(t, place, sheet);
     put_length(out, r.length);
     let o = r.outcome;
     outcome_number(o)
@@ -27,5 +27,5 @@ pub extern "C" fn lampgrotto_write(
 pub extern "C" fn lampgrotto_read(t: &mut [u32], place: usize, sheet: &[u8]) -> u32
     ensures { λ r. ⌜ Hears (Meets (F.read-sheet place (now (sheet .entry))) (now (t .entry)) (now (t .exit))) (tell-ending []) (heard r [] []) ⌝ }
 {
-    outcome_number(rule_sheets::read(t, place, sheet))
+    outcome_number(sheet_calls::read(t, place, sheet))
 }

@@ -25,7 +25,7 @@ pub extern "C" fn lampgrotto_rule_look_up(
 ) -> u32
     ensures { λ r. ⌜ Hears (Meets (D.look-up ruled place (now (setting .entry))) (now (t .entry)) (now (t .entry))) (tell-looked (now (out .entry))) (heard r (now (out .exit)) []) ⌝ }
 {
-    let r = rules::look_up(t, place, setting);
+    let r = rule_calls::look_up(t, place, setting);
     put_two(out, r.number, r.asked);
     let o = r.outcome;
     outcome_number(o)
@@ -36,7 +36,7 @@ pub extern "C" fn lampgrotto_rule_look_up(
 pub extern "C" fn lampgrotto_same(t: &[u32], a: usize, b: usize, out: &mut [u32]) -> u32
     ensures { λ r. ⌜ Hears (Meets (D.same ruled a b) (now (t .entry)) (now (t .entry))) (tell-compared (now (out .entry))) (heard r (now (out .exit)) []) ⌝ }
 {
-    let r = rules::same(t, a, b);
+    let r = rule_calls::same(t, a, b);
     put_flag(out, r.same);
     let o = r.outcome;
     outcome_number(o)
@@ -47,7 +47,7 @@ pub extern "C" fn lampgrotto_same(t: &[u32], a: usize, b: usize, out: &mut [u32]
 pub extern "C" fn lampgrotto_count(t: &[u32], place: usize, number: u32, out: &mut [u32]) -> u32
     ensures { λ r. ⌜ Hears (Meets (R.count-with place number) (now (t .entry)) (now (t .entry))) (tell-counted (now (out .entry))) (heard r (now (out .exit)) []) ⌝ }
 {
-    let r = operations::count(t, place, number);
+    let r = rule_operations::count(t, place, number);
     put_number(out, r.count);
     let o = r.outcome;
     outcome_number(o)
@@ -64,7 +64,7 @@ pub extern "C" fn lampgrotto_next(
 ) -> u32
     ensures { λ r. ⌜ Hears (Meets (R.next-with place number (now (setting .entry))) (now (t .entry)) (now (t .entry))) (tell-met (now (out .entry))) (heard r (now (out .exit)) []) ⌝ }
 {
-    let r = operations::next(t, place, number, setting);
+    let r = rule_operations::next(t, place, number, setting);
     let s = r.setting;
     let values = s.values;
     put_values(out, values);
@@ -77,7 +77,7 @@ pub extern "C" fn lampgrotto_next(
 pub extern "C" fn lampgrotto_tally(t: &[u32], out: &mut [u32]) -> u32
     ensures { λ r. ⌜ Hears (Meets (D.tally-all ruled) (now (t .entry)) (now (t .entry))) (tell-tallied (now (out .entry))) (heard r (now (out .exit)) []) ⌝ }
 {
-    let r = rules::tally(t);
+    let r = rule_calls::tally(t);
     put(out, r.count);
     let o = r.outcome;
     outcome_number(o)

@@ -15,7 +15,7 @@ ghost use Rattle.promises.specs.RuleDeeds.{ruled};
 pub extern "C" fn lampgrotto_open(t: &mut [u32], features: &[u8], capacity: usize) -> u32
     ensures { λ r. ⌜ Hears (Meets (D.open-table ruled (now (features .entry)) capacity (length (now (t .entry)))) (now (t .entry)) (now (t .exit))) (tell-ending []) (heard r [] []) ⌝ }
 {
-    outcome_number(rules::open(t, features, capacity))
+    outcome_number(rule_calls::open(t, features, capacity))
 }
 
 // The rule of the place becomes the constant number.
@@ -23,7 +23,7 @@ pub extern "C" fn lampgrotto_open(t: &mut [u32], features: &[u8], capacity: usiz
 pub extern "C" fn lampgrotto_constant(t: &mut [u32], place: usize, number: u32) -> u32
     ensures { λ r. ⌜ Hears (Meets (D.constant ruled place (says number)) (now (t .entry)) (now (t .exit))) (tell-ending []) (heard r [] []) ⌝ }
 {
-    outcome_number(rules::constant(t, place, number))
+    outcome_number(rule_calls::constant(t, place, number))
 }
 
 // The rule of the place becomes that of another.
@@ -31,7 +31,7 @@ pub extern "C" fn lampgrotto_constant(t: &mut [u32], place: usize, number: u32) 
 pub extern "C" fn lampgrotto_copy(t: &mut [u32], place: usize, from: usize) -> u32
     ensures { λ r. ⌜ Hears (Meets (D.copy ruled place from) (now (t .entry)) (now (t .exit))) (tell-ending []) (heard r [] []) ⌝ }
 {
-    outcome_number(rules::copy(t, place, from))
+    outcome_number(rule_calls::copy(t, place, from))
 }
 
 // The rule of the place becomes 1 where the feature's value is in the set of bits, else 0; the result is how many values the set has.
@@ -45,7 +45,7 @@ pub extern "C" fn lampgrotto_literal(
 ) -> u32
     ensures { λ r. ⌜ Hears (Meets (R.literal place feature bits) (now (t .entry)) (now (t .exit))) (tell-spelled (now (out .entry))) (heard r (now (out .exit)) []) ⌝ }
 {
-    let r = operations::literal(t, place, feature, bits);
+    let r = rule_operations::literal(t, place, feature, bits);
     put(out, r.size);
     let o = r.outcome;
     outcome_number(o)
@@ -62,7 +62,7 @@ pub extern "C" fn lampgrotto_case(
 ) -> u32
     ensures { λ r. ⌜ Hears (Meets (R.case place selector (now (branches .entry))) (now (t .entry)) (now (t .exit))) (tell-ending []) (heard r [] []) ⌝ }
 {
-    outcome_number(operations::case(t, scratch, place, selector, branches))
+    outcome_number(rule_operations::case(t, scratch, place, selector, branches))
 }
 
 // The rule of the place becomes the operator of two others: 1 smaller, 2 larger, 3 equal, 4 less, 5 differ.
@@ -77,7 +77,7 @@ pub extern "C" fn lampgrotto_apply(
 ) -> u32
     ensures { λ r. ⌜ Hears (Meets (R.apply place operator a b) (now (t .entry)) (now (t .exit))) (tell-ending []) (heard r [] []) ⌝ }
 {
-    outcome_number(operations::apply(t, scratch, place, operator, a, b))
+    outcome_number(rule_operations::apply(t, scratch, place, operator, a, b))
 }
 
 // The rule of the place becomes another with the feature held at the value.
@@ -91,7 +91,7 @@ pub extern "C" fn lampgrotto_restrict(
 ) -> u32
     ensures { λ r. ⌜ Hears (Meets (R.restrict place from feature value) (now (t .entry)) (now (t .exit))) (tell-ending []) (heard r [] []) ⌝ }
 {
-    outcome_number(operations::restrict(t, place, from, feature, value))
+    outcome_number(rule_operations::restrict(t, place, from, feature, value))
 }
 
 // The rule of the place becomes another with a feature removed: 0, the one other number over its values, or 65,535 where two differ.
@@ -105,5 +105,5 @@ pub extern "C" fn lampgrotto_forget(
 ) -> u32
     ensures { λ r. ⌜ Hears (Meets (R.forget place from feature) (now (t .entry)) (now (t .exit))) (tell-ending []) (heard r [] []) ⌝ }
 {
-    outcome_number(operations::forget(t, scratch, place, from, feature))
+    outcome_number(rule_operations::forget(t, scratch, place, from, feature))
 }

@@ -11,11 +11,11 @@ use Rattle.theory.specs.Functions.{Amount}
 use Rattle.theory.specs.Settings.{Valid}
 use Rattle.settings.specs.Refusals.{Ends}
 use Rattle.settings.specs.declared.refusals.Outcome.the-variants.{Taken}
-use Rattle.cost_laws.proofs.Integers.{fit?, fit-zero}
+use Rattle.theory_costs.proofs.Integers.{fit?, fit-zero}
 use Rattle.cost_words.proofs.Reading.{at-costs}
 use Rattle.cost_amounts.proofs.Signed.{amount-back}
-use Rattle.calls.proofs.Like.{clear, rest}
-use Rattle.calls.proofs.Theorems.{ended}
+use Rattle.table_calls.proofs.Like.{clear, rest}
+use Rattle.table_calls.proofs.Theorems.{ended}
 use Rattle.promises.specs.declared.CostLooked.{CostLooked}
 use Rattle.promises.specs.declared.Found.{Found}
 use Rattle.promises.specs.Integers.{Fit}

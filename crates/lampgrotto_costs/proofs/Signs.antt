@@ -8,7 +8,7 @@ use lib.Signed.{ltZ}
 use mir.Syntax.{w64}
 use mir.Val.{SFits, toZ, ofZ}
 use mir.Facts.{toZ-ofZ}
-use Rattle.cost_laws.proofs.Integers.{sum-ℕ, ℕ-eq, test-lt, test-le}
+use Rattle.theory_costs.proofs.Integers.{sum-ℕ, ℕ-eq, test-lt, test-le}
 use Rattle.promises.specs.Integers.{Fit}
 use Rattle.promises.specs.Range.{costMost}
 use Rattle.promises.specs.ForC.{signed}

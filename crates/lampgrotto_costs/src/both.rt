@@ -19,7 +19,7 @@ pub extern "C" fn lampgrotto_choose(
 ) -> u32
     ensures { λ r. ⌜ Hears (Meets (B.choose place rule a b) (now (rules .entry), now (t .entry)) (now (rules .entry), now (t .exit))) (tell-ending []) (heard r [] []) ⌝ }
 {
-    outcome_number(both_tables::choose(t, rules, scratch, place, rule, a, b))
+    outcome_number(both_calls::choose(t, rules, scratch, place, rule, a, b))
 }
 
 // The rule of the place becomes 1 where the cost of the first place is below that of the second, else 0.
@@ -34,7 +34,7 @@ pub extern "C" fn lampgrotto_less(
 ) -> u32
     ensures { λ r. ⌜ Hears (Meets (B.less-than place a b) (now (t .entry), now (costs .entry)) (now (t .exit), now (costs .entry))) (tell-ending []) (heard r [] []) ⌝ }
 {
-    outcome_number(both_tables::less(t, costs, scratch, place, a, b))
+    outcome_number(both_calls::less(t, costs, scratch, place, a, b))
 }
 
 // The lowest cost that the place gives where the rule is not 0, then the first setting that has it: 16 words, its values and 0 past them.
@@ -47,9 +47,10 @@ pub extern "C" fn lampgrotto_lowest(
     rule: usize,
     out: &mut [u32],
 ) -> u32
-    ensures { λ r. ⌜ Hears (Meets (B.lowest place rule) (now (rules .entry), now (costs .entry)) (now (rules .entry), now (costs .entry))) (tell-found (now (out .entry))) (heard r (now (out .exit)) []) ⌝ }
+    ensures { λ r. ⌜ Hears (Meets (B.lowest place rule) (now (rules .entry), now (costs .entry)) (now (rules .entry), now (costs .entry))) (tell-found (now (out .entry)))
+        (heard r (now (out .exit)) []) ⌝ }
 {
-    let r = both_tables::lowest(costs, rules, scratch, place, rule);
+    let r = both_calls::lowest(costs, rules, scratch, place, rule);
     let s = r.setting;
     let values = s.values;
     put_found(out, r.cost, values);

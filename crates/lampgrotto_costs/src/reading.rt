@@ -19,7 +19,7 @@ pub extern "C" fn lampgrotto_cost_look_up(
 ) -> u32
     ensures { λ r. ⌜ Hears (Meets (D.look-up costed place (now (setting .entry))) (now (t .entry)) (now (t .entry))) (tell-cost-looked (now (out .entry))) (heard r (now (out .exit)) []) ⌝ }
 {
-    let r = costs::look_up(t, place, setting);
+    let r = cost_calls::look_up(t, place, setting);
     put_cost(out, r.cost, r.asked);
     let o = r.outcome;
     outcome_number(o)
@@ -30,7 +30,7 @@ pub extern "C" fn lampgrotto_cost_look_up(
 pub extern "C" fn lampgrotto_cost_same(t: &[u32], a: usize, b: usize, out: &mut [u32]) -> u32
     ensures { λ r. ⌜ Hears (Meets (D.same costed a b) (now (t .entry)) (now (t .entry))) (tell-compared (now (out .entry))) (heard r (now (out .exit)) []) ⌝ }
 {
-    let r = costs::same(t, a, b);
+    let r = cost_calls::same(t, a, b);
     put_flag(out, r.same);
     let o = r.outcome;
     outcome_number(o)
@@ -41,7 +41,7 @@ pub extern "C" fn lampgrotto_cost_same(t: &[u32], a: usize, b: usize, out: &mut 
 pub extern "C" fn lampgrotto_cost_tally(t: &[u32], out: &mut [u32]) -> u32
     ensures { λ r. ⌜ Hears (Meets (D.tally-all costed) (now (t .entry)) (now (t .entry))) (tell-tallied (now (out .entry))) (heard r (now (out .exit)) []) ⌝ }
 {
-    let r = costs::tally(t);
+    let r = cost_calls::tally(t);
     put(out, r.count);
     let o = r.outcome;
     outcome_number(o)

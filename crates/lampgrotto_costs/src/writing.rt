@@ -13,7 +13,7 @@ ghost use Rattle.promises.specs.CostDeeds.{costed};
 pub extern "C" fn lampgrotto_cost_open(t: &mut [u32], features: &[u8], capacity: usize) -> u32
     ensures { λ r. ⌜ Hears (Meets (D.open-table costed (now (features .entry)) capacity (length (now (t .entry)))) (now (t .entry)) (now (t .exit))) (tell-ending []) (heard r [] []) ⌝ }
 {
-    outcome_number(costs::open(t, features, capacity))
+    outcome_number(cost_calls::open(t, features, capacity))
 }
 
 // The cost of the place becomes the constant amount.
@@ -21,7 +21,7 @@ pub extern "C" fn lampgrotto_cost_open(t: &mut [u32], features: &[u8], capacity:
 pub extern "C" fn lampgrotto_cost_constant(t: &mut [u32], place: usize, amount: i64) -> u32
     ensures { λ r. ⌜ Hears (Meets (D.constant costed place (toAmount amount)) (now (t .entry)) (now (t .exit))) (tell-ending []) (heard r [] []) ⌝ }
 {
-    outcome_number(costs::constant(t, place, amount))
+    outcome_number(cost_calls::constant(t, place, amount))
 }
 
 // The cost of the place becomes that of another.
@@ -29,5 +29,5 @@ pub extern "C" fn lampgrotto_cost_constant(t: &mut [u32], place: usize, amount: 
 pub extern "C" fn lampgrotto_cost_copy(t: &mut [u32], place: usize, from: usize) -> u32
     ensures { λ r. ⌜ Hears (Meets (D.copy costed place from) (now (t .entry)) (now (t .exit))) (tell-ending []) (heard r [] []) ⌝ }
 {
-    outcome_number(costs::copy(t, place, from))
+    outcome_number(cost_calls::copy(t, place, from))
 }

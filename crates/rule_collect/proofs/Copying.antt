@@ -7,13 +7,13 @@ use lib.ListN.{length, set}
 use lib.Seq.{getD-set-same, getD-set-other}
 use Rattle.theory.specs.Diagrams as D
 use Rattle.theory.specs.Rules.{Branch}
-use Rattle.words.specs.Words.{listed}
-use Rattle.words.proofs.Tab.{tab-none, tab-snoc, tab-ext}
+use Rattle.table_words.specs.Words.{listed}
+use Rattle.table_words.proofs.Tab.{tab-none, tab-snoc, tab-ext}
 use Rattle.rule_words.specs.Words.{branches, code}
 use Rattle.rule_words.proofs.Reading.{decode-phrase, decode-index, length-nodes, under-word, faithful}
-use Rattle.sweep.specs.Collecting.{Good, Ready, Moved, Turning, Moving}
-use Rattle.sweep.proofs.Copying.{moved-leaf, turning-none, turning-more}
-use Rattle.sweep.proofs.Framing.{value-small, still-before}
+use Rattle.table_sweep.specs.Collecting.{Good, Ready, Moved, Turning, Moving}
+use Rattle.table_sweep.proofs.Copying.{moved-leaf, turning-none, turning-more}
+use Rattle.table_sweep.proofs.Framing.{value-small, still-before}
 use Rattle.promises.specs.Words.{size, count, feature, body}
 use Rattle.promises.specs.RuleWords.{decode, ruleNodes as nodes}
 

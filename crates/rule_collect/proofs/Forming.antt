@@ -7,14 +7,14 @@ use lib.ListN.{length, set, length-set}
 use lib.Seq.{getD-set-same, getD-set-other}
 use Rattle.theory.specs.Diagrams.{blank}
 use Rattle.theory.specs.Settings.{Valid}
-use Rattle.words.proofs.Tab.{getD-tab}
+use Rattle.table_words.proofs.Tab.{getD-tab}
 use Rattle.rule_words.specs.Words.{encode, code}
 use Rattle.rule_words.proofs.Reading.{encode-decode, faithful}
 use Rattle.rule_words.proofs.Bounding.{rule-small}
 use Rattle.rule_words.proofs.Showing.{body-shows}
-use Rattle.sweep.specs.Collecting.{Loose, Moved}
-use Rattle.sweep.specs.Form.{Regular}
-use Rattle.sweep.proofs.Placing.{Placed, Rooting, rooting-more}
+use Rattle.table_sweep.specs.Collecting.{Loose, Moved}
+use Rattle.table_sweep.specs.Form.{Regular}
+use Rattle.table_sweep.proofs.Placing.{Placed, Rooting, rooting-more}
 use Rattle.rule_collect.specs.Tidy.{form}
 use Rattle.promises.specs.Words.{head, sizes}
 use Rattle.promises.specs.RuleWords.{decode, ruleRoot as root, ruleOf, rulesOf}

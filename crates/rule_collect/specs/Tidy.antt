@@ -4,8 +4,8 @@ use Prim.Native.Nat.{ℕ}
 use Rattle.theory.specs.Rules.{rules}
 use Rattle.rule_words.specs.Words.{code}
 use Rattle.rule_words.specs.Picture.{drawing}
-use Rattle.sweep.specs.Form.{Form}
-use Rattle.sweep.specs.Tidy as T
+use Rattle.table_sweep.specs.Form.{Form}
+use Rattle.table_sweep.specs.Tidy as T
 use Rattle.promises.specs.RuleWords.{decode, ruleRoot as root}
 
 abbrev pub form : Form rules

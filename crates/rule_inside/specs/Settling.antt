@@ -4,7 +4,7 @@ use mathlib.Core.List.{List}
 use mathlib.Core.Option.{Option}
 use Prim.Native.Nat.{ℕ}
 use Rattle.settings.specs.declared.refusals.Outcome.{Outcome}
-use Rattle.settling.specs.Settling as S
+use Rattle.rule_settling.specs.Settling as S
 use Rattle.rule_inside.specs.Building.{answer}
 use Rattle.promises.specs.Words.{count}
 

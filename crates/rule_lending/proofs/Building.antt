@@ -7,11 +7,11 @@ use native.Mathlib.Omega.{arith}
 use lib.ListN.{length, set}
 use Rattle.theory.specs.Functions.{held}
 use Rattle.theory.specs.Rules.{Rule, says}
-use Rattle.words.specs.Words.{listed}
-use Rattle.words.proofs.Words.{kept-features, kept-sizes}
+use Rattle.table_words.specs.Words.{listed}
+use Rattle.table_words.proofs.Words.{kept-features, kept-sizes}
 use Rattle.rule_nodes.proofs.Filling as F
 use Rattle.rule_nodes.proofs.Staying as S
-use Rattle.settling.proofs.Settling.{sound-holds}
+use Rattle.rule_settling.proofs.Settling.{sound-holds}
 use Rattle.rule_inside.specs.Branches.{Says, says-out}
 use Rattle.rule_inside.specs.Building.{answer, Ready, ready-in, ready-out, built-in, built-out, Filling, filling-in, filling-out, Stopped, stopped-in, stopped-out, Listed, listed-in, made-out}
 use Rattle.rule_lending.specs.Building.{told, Result, Makes, Fills}

@@ -10,8 +10,8 @@ use lib.Dec.{ltb}
 use Rattle.theory.specs.Diagrams.{next, value}
 use Rattle.theory.specs.Rules.{Branch}
 use Rattle.theory.proofs.Values.{value-next, value-wait}
-use Rattle.words.proofs.Tab.{split}
-use Rattle.records.specs.Laid.{Laid}
+use Rattle.table_words.proofs.Tab.{split}
+use Rattle.table_records.specs.Laid.{Laid}
 use Rattle.rule_nodes.specs.Nodes as N
 use Rattle.rule_nodes.specs.Nodes.{top}
 use Rattle.rule_nodes.specs.declared.Answer.{Answer as Node}
@@ -21,8 +21,8 @@ use Rattle.rule_nodes.proofs.Stepping.{top-phrase, top-node, good-top, top-good
 use Rattle.rule_sound.proofs.Sitting.{sits-ok}
 use Rattle.settings.specs.Tells.{Tells}
 use Rattle.settings.specs.declared.refusals.Outcome.{Outcome}
-use Rattle.settling.specs.Settling as S
-use Rattle.settling.proofs.Settling.{sound-holds}
+use Rattle.rule_settling.specs.Settling as S
+use Rattle.rule_settling.proofs.Settling.{sound-holds}
 use Rattle.rule_inside.specs.Branches.{Lent, lent-in, lent-out, lent, Number, number-in, number-out, keyOf}
 use Rattle.rule_inside.specs.Building.{made-in}
 use Rattle.rule_inside.specs.Settling.{asking-out, ending-in}

@@ -7,7 +7,7 @@ use native.Mathlib.Omega.{arith}
 use Rattle.theory.specs.Diagrams.{value}
 use Rattle.theory.specs.Rules.{Branch, says}
 use Rattle.theory.proofs.Values.{value-ending}
-use Rattle.words.proofs.Tab.{split}
+use Rattle.table_words.proofs.Tab.{split}
 use Rattle.rule_words.proofs.Reading.{decode-phrase}
 use Rattle.rule_inside.specs.Branches.{Lent, lent-out, lent, Number, number-in, Says, says-out, keyOf}
 use Rattle.rule_lending.specs.Lending.{keys}

@@ -3,7 +3,7 @@ use mathlib.Core.List.{List}
 use Prim.Native.Nat.{ℕ, _<_}
 use Rattle.theory.specs.Rules.{Rule}
 use Rattle.settings.specs.declared.refusals.Outcome.{Outcome}
-use Rattle.settling.proofs.Settling as S
+use Rattle.rule_settling.proofs.Settling as S
 use Rattle.rule_inside.specs.Building.{answer, built-out}
 use Rattle.rule_inside.specs.Settling.{Marked, marked-out, asking-in, ending-out}
 use Rattle.rule_lending.specs.Building.{told, Result}

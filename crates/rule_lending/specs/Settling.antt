@@ -3,7 +3,7 @@ use mathlib.Core.List.{List}
 use Prim.Native.Nat.{ℕ}
 use Rattle.settings.specs.declared.refusals.Outcome.{Outcome}
 -- the rule g, built and settled into place p: written, or NO ROOM
-pub use Rattle.settling.specs.Settling.{Puts}
+pub use Rattle.rule_settling.specs.Settling.{Puts}
 -- shut: the mark before a call builds; an answer that may be settled; the end
 pub use Rattle.rule_inside.specs.Settling.{Marked, Asking, Ending}
 use Rattle.rule_lending.specs.Building.{told}

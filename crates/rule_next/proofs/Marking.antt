@@ -13,7 +13,7 @@ use Rattle.theory.specs.Functions.{held}
 use Rattle.theory.specs.Rules.{Rule}
 use Rattle.theory.proofs.Counted.{meet-some}
 use Rattle.theory.proofs.Rules.{value-phrase, numbers}
-use Rattle.words.proofs.Tab.{split, same}
+use Rattle.table_words.proofs.Tab.{split, same}
 use Rattle.rule_words.proofs.Reading.{decode-phrase}
 use Rattle.settings.specs.Tells.{Tells}
 use Rattle.rule_count.specs.Figures.{answered}

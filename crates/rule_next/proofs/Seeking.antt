@@ -16,7 +16,7 @@ use Rattle.theory.specs.Rules.{Rule}
 use Rattle.theory.specs.Settings.{Valid}
 use Rattle.theory.proofs.First.{first-end, first-from-end, none-end, given-end, first-smallest, first-same, first-greater, none-greater}
 use Rattle.theory.proofs.Ranges.{valid-length}
-use Rattle.words.proofs.Words.{length-sizes}
+use Rattle.table_words.proofs.Words.{length-sizes}
 use Rattle.settings.specs.Step.{settingOf}
 use Rattle.settings.proofs.Holding.{values-held, rest-held}
 use Rattle.settings.proofs.Places.{keeps-all, keeps-less, keeps-set, places, set-place, held-first}

@@ -12,7 +12,7 @@ use Rattle.theory.specs.Rules.{Branch, node}
 use Rattle.theory.specs.WellFormed.{Ok, WF}
 use Rattle.theory.proofs.First.{held-next}
 use Rattle.theory.proofs.Values.{next-here, next-wait, next-ok}
-use Rattle.words.proofs.Words.{length-sizes, at-sizes}
+use Rattle.table_words.proofs.Words.{length-sizes, at-sizes}
 use Rattle.rule_words.proofs.Reading.{decode-phrase, decode-node, length-nodes, branch-at}
 use Rattle.rule_sound.proofs.Sitting.{sits-ok}
 use Rattle.rule_sound.proofs.Pictures.{sound-tidy}

@@ -13,12 +13,12 @@ use Rattle.theory.specs.Functions.{Agree, held}
 use Rattle.theory.specs.Rules.{Branch, Rule, Built}
 use Rattle.theory.specs.WellFormed.{Mean, Ok}
 use Rattle.theory.proofs.Canonical.{build-agree}
-use Rattle.words.specs.Holding as H
-use Rattle.words.specs.Holding.{built as builtOf}
-use Rattle.words.specs.Words.{listed}
-use Rattle.words.proofs.Filling as F
-use Rattle.words.proofs.Tab.{tab-none, tab-snoc, tab-ext, getD-tab}
-use Rattle.words.proofs.Words.{length-sizes, at-sizes, kept-size}
+use Rattle.table_words.specs.Holding as H
+use Rattle.table_words.specs.Holding.{built as builtOf}
+use Rattle.table_words.specs.Words.{listed}
+use Rattle.table_words.proofs.Filling as F
+use Rattle.table_words.proofs.Tab.{tab-none, tab-snoc, tab-ext, getD-tab}
+use Rattle.table_words.proofs.Words.{length-sizes, at-sizes, kept-size}
 use Rattle.rule_words.specs.Words.{branches}
 use Rattle.rule_nodes.specs.Nodes.{layout, Holds, told, Gives, Makes, Result, built, Good, Listed, Place, Filling, Stopped, Fills}
 use Rattle.rule_nodes.specs.declared.Answer.{Answer}

@@ -8,11 +8,11 @@ use Rattle.theory.specs.Build.{make}
 use Rattle.theory.specs.Deciding.{Alike}
 use Rattle.theory.specs.Diagrams.{blank}
 use Rattle.theory.specs.Rules.{Branch, Built, node}
-use Rattle.words.specs.Holding as H
-use Rattle.words.specs.Words.{listed}
-use Rattle.records.specs.Changes.{pairOf, Pushed, RecordIs, Finds as FindsRecord}
-use Rattle.records.specs.Nodes.{Absent}
-use Rattle.records.proofs.Making as M
+use Rattle.table_words.specs.Holding as H
+use Rattle.table_words.specs.Words.{listed}
+use Rattle.table_records.specs.Changes.{pairOf, Pushed, RecordIs, Finds as FindsRecord}
+use Rattle.table_records.specs.Nodes.{Absent}
+use Rattle.table_records.proofs.Making as M
 use Rattle.rule_words.specs.Words.{branches, code, branchOf}
 use Rattle.rule_words.proofs.Reading.{decode-inj, word-again, faithful}
 use Rattle.rule_nodes.specs.Nodes.{layout, Holds, Makes, Listed, AllSame, Finds}

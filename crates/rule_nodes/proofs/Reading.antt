@@ -3,8 +3,8 @@ use mathlib.Core.List.{List}
 use Prim.Native.Nat.{ℕ, _+_, _<_}
 use native.Mathlib.Omega.{arith}
 use lib.ListN.{length}
-use Rattle.words.specs.Holding.{Lawful}
-use Rattle.records.proofs.Making as M
+use Rattle.table_words.specs.Holding.{Lawful}
+use Rattle.table_records.proofs.Making as M
 use Rattle.rule_words.specs.Words.{code}
 use Rattle.rule_words.proofs.Reading.{under-word, length-nodes}
 use Rattle.rule_nodes.specs.Nodes.{layout, Good}

@@ -8,9 +8,9 @@ use Rattle.theory.specs.Rules.{Branch, Rule, says}
 use Rattle.theory.proofs.Growing.{make-grows}
 use Rattle.theory.proofs.Rules.{value-phrase}
 use Rattle.theory.proofs.Values.{mean-more}
-use Rattle.words.specs.Words.{listed}
-use Rattle.words.proofs.Filling.{grown-nodes}
-use Rattle.words.proofs.Words.{kept-sizes}
+use Rattle.table_words.specs.Words.{listed}
+use Rattle.table_words.proofs.Filling.{grown-nodes}
+use Rattle.table_words.proofs.Words.{kept-sizes}
 use Rattle.rule_words.specs.Words.{branches}
 use Rattle.rule_words.proofs.Reading.{decode-phrase}
 use Rattle.rule_nodes.specs.Nodes.{Holds, Makes, Result}

@@ -9,9 +9,9 @@ use lib.ListN.{length, getD}
 use Rattle.theory.specs.Build.{make}
 use Rattle.theory.specs.Rules.{rules, Branch, Node, Rule, Built}
 use Rattle.theory.specs.WellFormed.{Ok}
-use Rattle.words.specs.Holding as H
-use Rattle.words.specs.Words.{listed}
-use Rattle.records.specs.Nodes as R
+use Rattle.table_words.specs.Holding as H
+use Rattle.table_words.specs.Words.{listed}
+use Rattle.table_records.specs.Nodes as R
 use Rattle.rule_words.specs.Words.{branches, code, branchOf, Worded}
 use Rattle.rule_nodes.specs.declared.Found.{Found}
 use Rattle.rule_nodes.specs.declared.Found.the-variants.{At, Missing}

@@ -4,11 +4,11 @@ use mathlib.Core.Logic.{⊎-elim}
 use mathlib.Core.List.{List}
 use Prim.Native.Nat.{ℕ, _+_, _-_, _<_}
 use native.Mathlib.Omega.{arith}
-use Rattle.words.proofs.Tab.{split}
-use Rattle.records.specs.Laid.{Laid}
-use Rattle.notes.specs.Plain.{plain}
-use Rattle.notes.proofs.Alike as N
-use Rattle.notes.proofs.Alike.{Like, plain-like, like-sym, like-head, like-laid, like-size, like-record, plain-grown}
+use Rattle.table_words.proofs.Tab.{split}
+use Rattle.table_records.specs.Laid.{Laid}
+use Rattle.table_notes.specs.Plain.{plain}
+use Rattle.table_notes.proofs.Alike as N
+use Rattle.table_notes.proofs.Alike.{Like, plain-like, like-sym, like-head, like-laid, like-size, like-record, plain-grown}
 use Rattle.rule_words.proofs.Reading.{faithful}
 use Rattle.rule_nodes.specs.Nodes.{Holds, Makes, Listed, Place, top}
 use Rattle.rule_nodes.specs.declared.Answer.{Answer}

@@ -10,7 +10,7 @@ use lib.Dec.{ltb, eqb}
 use lib.ListN.{getD, drop, List·getD-eq-default}
 use lib.Seq.{getD-drop, drop-cons, drop-length}
 use borrow.Author.Tests.{lt-ltb, le-ltb, eq-eqb, ne-eqb}
-use Rattle.words.proofs.Tab.{split, length-tab, getD-tab}
+use Rattle.table_words.proofs.Tab.{split, length-tab, getD-tab}
 use Rattle.rule_operators.specs.Operators.{opOf}
 use Rattle.promises.specs.Tab.{tab}
 use Rattle.promises.specs.Words.{pick}

@@ -1,9 +1,9 @@
 // The operators on phrase numbers: apply's five, CASE and forget.
-use words::wide;
+use table_words::wide;
 ghost use mathlib.Core.Path.{_≡_};
 ghost use Prim.Native.Nat.{_≤_};
 ghost use lib.ListN.{drop};
-ghost use Rattle.words.specs.Words.{listed};
+ghost use Rattle.table_words.specs.Words.{listed};
 ghost use Rattle.rule_operators.specs.Operators.{opOf};
 ghost use Rattle.promises.specs.Tab.{tab};
 ghost use Rattle.promises.specs.Operators.{lesserOf as smallerOf, greaterOf as largerOf, truthOf, pairOf, caseOf, mergedOf, forgottenOf};

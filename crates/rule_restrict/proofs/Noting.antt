@@ -10,14 +10,14 @@ use Rattle.theory.specs.Build.{Ext}
 use Rattle.theory.specs.WellFormed.{Mean, Ok}
 use Rattle.theory.proofs.Growing.{ext-le}
 use Rattle.theory.proofs.Values.{mean-more, value-ext}
-use Rattle.words.specs.Words.{Kept}
-use Rattle.words.proofs.Tab.{split, same}
-use Rattle.words.proofs.Words.{kept-sizes}
+use Rattle.table_words.specs.Words.{Kept}
+use Rattle.table_words.proofs.Tab.{split, same}
+use Rattle.table_words.proofs.Words.{kept-sizes}
 use Rattle.rule_words.proofs.Reading.{decode-index, length-nodes}
 use Rattle.rule_nodes.specs.Nodes.{Holds}
-use Rattle.notes.specs.Plain.{Roomy, plain}
-use Rattle.notes.proofs.Plain.{plain-set, set-capacity, plain-of}
-use Rattle.notes.proofs.Alike.{plain-like, like-head, plain-kept}
+use Rattle.table_notes.specs.Plain.{Roomy, plain}
+use Rattle.table_notes.proofs.Plain.{plain-set, set-capacity, plain-of}
+use Rattle.table_notes.proofs.Alike.{plain-like, like-head, plain-kept}
 use Rattle.rule_restrict.specs.Notes.{note, noteAt, Only}
 use Rattle.rule_restrict.specs.Restrict.{restr, Noted}
 use Rattle.promises.specs.Words.{head, capacity, count, sizes, bound, Zeros}

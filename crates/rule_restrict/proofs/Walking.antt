@@ -11,9 +11,9 @@ use Rattle.theory.specs.Rules.{Rule}
 use Rattle.theory.specs.WellFormed.{Mean}
 use Rattle.theory.proofs.Growing.{ext-le, make-grows}
 use Rattle.theory.proofs.Values.{value-ext}
-use Rattle.words.specs.Words.{listed, Kept}
-use Rattle.words.proofs.Filling.{grown-ext}
-use Rattle.words.proofs.Words.{kept-features, kept-capacity, kept-size, kept-sizes}
+use Rattle.table_words.specs.Words.{listed, Kept}
+use Rattle.table_words.proofs.Filling.{grown-ext}
+use Rattle.table_words.proofs.Words.{kept-features, kept-capacity, kept-size, kept-sizes}
 use Rattle.rule_words.proofs.Reading.{length-nodes}
 use Rattle.rule_nodes.specs.Nodes.{Holds, Result, Makes, Listed, Place, Filling, top}
 use Rattle.rule_nodes.specs.declared.Answer.{Answer}
@@ -21,9 +21,9 @@ use Rattle.rule_nodes.specs.declared.Answer.the-variants.{Is, NoRoom}
 use Rattle.rule_nodes.proofs.Filling.{fill-start, fill-more, fill-stop, stop-result, fill-listed, fill-make, filling-ext, filling-place, result-ext, result-mean, mean-result}
 use Rattle.rule_nodes.proofs.Reading.{lawful, good-small}
 use Rattle.rule_nodes.proofs.Stepping.{is-node, good-top, top-good, place-next}
-use Rattle.notes.specs.Plain.{Roomy, plain}
-use Rattle.notes.proofs.Plain.{length-plain, plain-of}
-use Rattle.notes.proofs.Alike.{plain-like, like-sym, like-head}
+use Rattle.table_notes.specs.Plain.{Roomy, plain}
+use Rattle.table_notes.proofs.Plain.{length-plain, plain-of}
+use Rattle.table_notes.proofs.Alike.{plain-like, like-sym, like-head}
 use Rattle.rule_restrict.specs.Notes.{note, noteAt, Only}
 use Rattle.rule_restrict.specs.Restrict.{restr, Holding, Noted, Walks, Walked}
 use Rattle.rule_notes.proofs.Reading.{like-holds, like-nodes, like-top, like-place, like-listed, plain-makes}

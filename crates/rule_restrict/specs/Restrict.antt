@@ -7,7 +7,7 @@ use Rattle.theory.specs.Rules.{Rule}
 use Rattle.theory.specs.WellFormed.{Mean}
 use Rattle.rule_nodes.specs.Nodes.{Holds, Good, Place, Result}
 use Rattle.rule_nodes.specs.declared.Answer.{Answer}
-use Rattle.notes.specs.Plain.{Roomy, plain}
+use Rattle.table_notes.specs.Plain.{Roomy, plain}
 use Rattle.rule_restrict.specs.Notes.{note, Only}
 use Rattle.promises.specs.Words.{capacity, features, size, sizes, count, bound, Zeros}
 use Rattle.promises.specs.RuleWords.{decode, ruleNodes as nodes}

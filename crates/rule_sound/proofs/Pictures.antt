@@ -15,8 +15,8 @@ use Rattle.rule_words.specs.Picture.{drawing, Pictures, Proper, IsTable}
 use Rattle.rule_words.proofs.Reading.{encode-decode, faithful, length-roots, at-roots, length-rules, at-rules}
 use Rattle.rule_words.proofs.Bounding.{decode-encode, rules-small}
 use Rattle.rule_words.proofs.Showing.{body-shows}
-use Rattle.checks.proofs.Pictures as C
-use Rattle.checks.proofs.Pictures.{Reading, Read, Tested}
+use Rattle.table_checks.proofs.Pictures as C
+use Rattle.table_checks.proofs.Pictures.{Reading, Read, Tested}
 use Rattle.rule_sound.specs.Walk.{going, Ordered}
 use Rattle.rule_sound.proofs.Sitting.{goes, node-fits}
 use Rattle.promises.specs.Words.{word, capacity, size, sizes, feature, body, Zeros}
@@ -114,7 +114,8 @@ module _ {cap : ℕ} {S : List ℕ} {gs : List Rule} {w : List ℕ} (p : Proper 
   bounded : Results 65536 (table S gs)
   bounded = rules-bounded 65536 (omega arith) S gs (λ i h t x. p .range i (omega (arith, p .places)) t x) [] (empty-bounded 65536 (omega arith))
 
-  arms : (i v : ℕ) → i < length (table S gs .1) → v < length (at (table S gs .1) i .branches) → decode (encode (getD (at (table S gs .1) i .branches) v blank)) ≡ getD (at (table S gs .1) i .branches) v blank
+  arms : (i v : ℕ) → i < length (table S gs .1) → v < length (at (table S gs .1) i .branches)
+      → decode (encode (getD (at (table S gs .1) i .branches) v blank)) ≡ getD (at (table S gs .1) i .branches) v blank
   arms i v h hv = decode-encode (getD (at (table S gs .1) i .branches) v blank) (bounded .list .node i .branch v)
 
   pads : (i : ℕ) → i < length (table S gs .1) → going .code .Padded (length (at (table S gs .1) i .branches)) (drawing .bodyOf (at (table S gs .1) i))

@@ -6,9 +6,9 @@ use native.Mathlib.Nat.{le-refl}
 use native.Mathlib.Omega.{arith}
 use Rattle.theory.specs.WellFormed.{Ok, WF}
 use Rattle.rule_words.proofs.Reading.{decode-phrase, decode-index, decode-inj, faithful}
-use Rattle.checks.specs.Walk.{Goes}
-use Rattle.checks.proofs.Sitting as C
-use Rattle.checks.proofs.Sitting.{NodeFits, nodes-wf}
+use Rattle.table_checks.specs.Walk.{Goes}
+use Rattle.table_checks.proofs.Sitting as C
+use Rattle.table_checks.proofs.Sitting.{NodeFits, nodes-wf}
 use Rattle.rule_sound.specs.Sound.{Sits}
 use Rattle.rule_sound.specs.Walk.{going, Ordered}
 use Rattle.promises.specs.Words.{word, size, count, sizes, feature, body}

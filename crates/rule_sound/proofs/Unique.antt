@@ -5,9 +5,9 @@ use Prim.Native.Nat.{ℕ, _≤_, _<_}
 use lib.ListN.{length, getD}
 use Rattle.theory.specs.Functions.{Agree, zero-fun}
 use Rattle.theory.specs.Rules.{Rule}
-use Rattle.words.specs.Words.{kind}
-use Rattle.words.proofs.Picture as P
-use Rattle.words.proofs.Picture.{shows-ext}
+use Rattle.table_words.specs.Words.{kind}
+use Rattle.table_words.proofs.Picture as P
+use Rattle.table_words.proofs.Picture.{shows-ext}
 use Rattle.rule_words.specs.Picture.{Pictures}
 use Rattle.rule_sound.proofs.Pictures.{sound-pictures, sound-proper, picture-sound, picture-rules}
 use Rattle.promises.specs.Words.{capacity, sizes, bound}

@@ -4,8 +4,8 @@ use mathlib.Core.List.{List}
 use Prim.Native.Nat.{ℕ, _+_, _<_}
 use native.Mathlib.Omega.{arith}
 use Rattle.theory.specs.Walk.{scan}
-use Rattle.checks.specs.Walk.{Says}
-use Rattle.checks.proofs.Walking as C
+use Rattle.table_checks.specs.Walk.{Says}
+use Rattle.table_checks.proofs.Walking as C
 use Rattle.rule_sound.specs.Sound.{Sits}
 use Rattle.rule_sound.specs.Walk.{Ordered, Visits}
 use Rattle.rule_sound.proofs.Sitting.{sits-more, sits-ok}

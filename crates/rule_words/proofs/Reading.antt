@@ -10,9 +10,9 @@ use Rattle.theory.specs.Diagrams.{at, blank, leaf, node as to-node}
 use Rattle.theory.specs.Functions.{zero-fun}
 use Rattle.theory.specs.WellFormed.{Under}
 use Rattle.theory.specs.Rules.{Branch, Node, phrase, node}
-use Rattle.words.specs.Coding.{Faithful}
-use Rattle.words.proofs.Coding as C
-use Rattle.words.proofs.Tab.{split, tab-ext, length-tab, getD-tab}
+use Rattle.table_words.specs.Coding.{Faithful}
+use Rattle.table_words.proofs.Coding as C
+use Rattle.table_words.proofs.Tab.{split, tab-ext, length-tab, getD-tab}
 use Rattle.rule_words.specs.Words.{encode, branches, code, nodeAt, branchOf, Worded}
 use Rattle.rule_words.specs.declared.Branch.{Branch as CodeBranch}
 use Rattle.rule_words.specs.declared.Branch.the-variants.{Phrase, Node as NodeIs}

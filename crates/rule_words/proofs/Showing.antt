@@ -5,9 +5,9 @@ use mathlib.Core.List.{List}
 use Prim.Native.Nat.{ℕ, _≤_, _<_}
 use Rattle.theory.specs.Diagrams.{at}
 use Rattle.theory.specs.Rules.{Node}
-use Rattle.words.proofs.Tab.{split}
-use Rattle.words.proofs.Coding.{past-at}
-use Rattle.words.proofs.Picture.{hash-shown}
+use Rattle.table_words.proofs.Tab.{split}
+use Rattle.table_words.proofs.Coding.{past-at}
+use Rattle.table_words.proofs.Picture.{hash-shown}
 use Rattle.rule_words.specs.Words.{encode, code}
 use Rattle.rule_words.specs.Picture.{bodyOf, drawing, nodeHash}
 use Rattle.rule_words.proofs.Reading.{encode-decode, at-nodes, branch-at}

@@ -4,7 +4,7 @@ use Prim.Native.Nat.{ℕ, _<_}
 use lib.ListN.{getD}
 use Rattle.theory.specs.Diagrams.{blank}
 use Rattle.theory.specs.Rules.{rules, Branch, Node, Rule}
-use Rattle.words.specs.Picture as P
+use Rattle.table_words.specs.Picture as P
 use Rattle.rule_words.specs.Words.{encode}
 use Rattle.promises.specs.RuleWords.{rulesOf}
 

@@ -4,7 +4,7 @@ use mathlib.Core.List.{List}
 use Prim.Native.Nat.{ℕ, _+_, _≤_, _<_}
 use Rattle.theory.specs.Diagrams as D
 use Rattle.theory.specs.Rules.{rules, Branch, Node, node}
-use Rattle.words.specs.Coding as C
+use Rattle.table_words.specs.Coding as C
 use Rattle.rule_words.specs.declared.Branch.{Branch as CodeBranch}
 use Rattle.rule_words.specs.declared.Branch.the-variants.{Phrase, Node as NodeIs}
 use Rattle.promises.specs.RuleWords.{decode}

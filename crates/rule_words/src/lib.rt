@@ -1,5 +1,5 @@
 // What the words of a rule table say: a branch in a word, the roots.
-use words::head_word;
+use table_words::head_word;
 ghost use mathlib.Core.Path.{_≡_};
 ghost use Prim.Native.Nat.{_+_, _≤_, _<_};
 ghost use lib.ListN.{length};

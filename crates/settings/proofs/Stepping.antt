@@ -42,7 +42,8 @@ module _ (S : List ℕ) (s : Setting) (i : Inside S s) where
     past = rw (e, ← long) (rest-held (valuesOf s) short)
 
     pub step-moved : Turns S from true to → Steps S s (record { outcome = Taken; last = false; setting = record { count = s .count; values = to } })
-    step-moved t = taken-step false (record { count = s .count; values = to }) (subst (λ (w : Option (List ℕ)). Gives S w (record { outcome = Taken; last = false; setting = record { count = s .count; values = to } })) (sym next) (refl, whole))
+    step-moved t = taken-step false (record { count = s .count; values = to }) (subst
+        (λ (w : Option (List ℕ)). Gives S w (record { outcome = Taken; last = false; setting = record { count = s .count; values = to } })) (sym next) (refl, whole))
       where
         next : nextOf S (valuesOf s) ≡ some (take (length S) to)
         next = sym (t .word ∙ ap (nextOf S) held)
@@ -54,13 +55,15 @@ module _ (S : List ℕ) (s : Setting) (i : Inside S s) where
         few = omega (arith, as-long, i .features .few)
 
         places : to ≡ settingOf (take (length S) to) .values
-        places = sym (take-append-drop (length S) to) ∙ ap (λ (r : List ℕ). take (length S) to ++ r) (t .rest ∙ past ∙ ap (λ (n : ℕ). replicate (16 - n) 0) (sym as-long)) ∙ sym (places-short (take (length S) to) few)
+        places = sym (take-append-drop (length S) to) ∙ ap (λ (r : List ℕ). take (length S) to ++ r) (t .rest ∙ past ∙ ap (λ (n : ℕ). replicate (16 - n) 0) (sym as-long))
+            ∙ sym (places-short (take (length S) to) few)
 
         whole : record { count = s .count; values = to } ≡ settingOf (take (length S) to)
         whole = λ j. record { count = (i .counted ∙ sym as-long) j; values = places j }
 
     pub step-last : Turns S from false to → Steps S s (record { outcome = Taken; last = true; setting = zeroSetting (s .count) })
-    step-last t = taken-step true (zeroSetting (s .count)) (subst (λ (w : Option (List ℕ)). Gives S w (record { outcome = Taken; last = true; setting = zeroSetting (s .count) })) (sym next) (refl, whole))
+    step-last t = taken-step true (zeroSetting (s .count)) (subst (λ (w : Option (List ℕ)). Gives S w
+        (record { outcome = Taken; last = true; setting = zeroSetting (s .count) })) (sym next) (refl, whole))
       where
         next : nextOf S (valuesOf s) ≡ none
         next = sym (t .word ∙ ap (nextOf S) held)

@@ -47,7 +47,8 @@ module _ (S vs : List ℕ) (k : ℕ) (below : k < length S) (fv : length S ≤ l
   pub back-to : (v : List ℕ) → v ≡ turned (length S) vs (suc k) → set v k 0 ≡ turned (length S) vs k
   back-to v e = rw (e, more) (back k vs (replicate (length S - suc k) 0 ++ drop (length S) vs) 0 (omega arith))
 
-  here : (t : Option (List ℕ)) → nextOf (drop (suc k) S) (drop (suc k) (take (length S) vs)) ≡ t → nextOf (drop k S) (drop k (take (length S) vs)) ≡ grow (getD S k 0) (getD vs k 0) (length S - suc k) t
+  here : (t : Option (List ℕ)) → nextOf (drop (suc k) S) (drop (suc k) (take (length S) vs)) ≡ t
+      → nextOf (drop k S) (drop k (take (length S) vs)) ≡ grow (getD S k 0) (getD vs k 0) (length S - suc k) t
   unfolding nextOf
   here t e =
       let lv : k < length (take (length S) vs) = simp length-take (omega arith) in
@@ -71,7 +72,8 @@ module _ (S vs : List ℕ) (k : ℕ) (below : k < length S) (fv : length S ≤ l
   unfolding head x
   long = simp (length-append, length-take, length-replicate) (omega arith)
 
-  pub moves : (v : List ℕ) → v ≡ turned (length S) vs (suc k) → nextOf (drop (suc k) S) (drop (suc k) (take (length S) vs)) ≡ none → getD vs k 0 + 1 < getD S k 0 → Turns S vs true (set v k (getD vs k 0 + 1))
+  pub moves : (v : List ℕ) → v ≡ turned (length S) vs (suc k) → nextOf (drop (suc k) S) (drop (suc k) (take (length S) vs)) ≡ none → getD vs k 0 + 1 < getD S k 0
+      → Turns S vs true (set v k (getD vs k 0 + 1))
   unfolding head x
   moves v e z h = record {
     word = rw (whole v e) (ap some (take-at head (drop (length S) vs) (length S) long)) ∙ sym there;

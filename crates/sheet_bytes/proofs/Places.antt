@@ -18,7 +18,8 @@ use Rattle.settings.proofs.Answers.{retell, tells-eqb}
 use Rattle.sheet_bytes.specs.Sections.{two}
 use Rattle.sheet_bytes.specs.Sheet.{targetBytes}
 use Rattle.sheet_bytes.specs.Bytes.{Holds, Laid, Lays}
-use Rattle.promises.specs.Sheet.{byte, triple as word, sheetFeatures as features, sheetSize as size, sheetSizes as sizesOf, sheetCount as count, nodePlace as place, sheetFeature as feature, sheetWidth as width, sheetBranch as branch, nodesEnd as end, Begins as Head, Lies as Lie}
+use Rattle.promises.specs.Sheet.{byte, triple as word, sheetFeatures as features, sheetSize as size, sheetSizes as sizesOf, sheetCount as count, nodePlace as place}
+use Rattle.promises.specs.Sheet.{sheetFeature as feature, sheetWidth as width, sheetBranch as branch, nodesEnd as end, Begins as Head, Lies as Lie}
 
 -- ---- the feature list
 module _ {s : List ℕ} (h : Head s) where

@@ -10,7 +10,8 @@ ghost use Prim.Native.Nat.{_≤_, _<_};
 ghost use lib.ListN.{length};
 ghost use Rattle.settings.specs.Tells.{Tells};
 ghost use Rattle.sheet_bytes.specs.Bytes.{Laid, Lays};
-ghost use Rattle.promises.specs.Sheet.{NewerSheet, sheetFeatures as features, sheetSize as size, sheetCount as count, sheetFeature as feature, sheetWidth as width, sheetBranch as branch, sheetRoot as root, Begins as Head, Lies as Lie};
+ghost use Rattle.promises.specs.Sheet.{NewerSheet, sheetFeatures as features, sheetSize as size, sheetCount as count, sheetFeature as feature};
+ghost use Rattle.promises.specs.Sheet.{sheetWidth as width, sheetBranch as branch, sheetRoot as root, Begins as Head, Lies as Lie};
 
 // Whether a later edition wrote the sheet.
 pub fn newer(s: &[u8]) -> bool

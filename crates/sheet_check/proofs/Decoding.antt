@@ -15,7 +15,8 @@ use Rattle.sheet_bytes.specs.Sheet.{targetBytes, branchBytes}
 use Rattle.sheet_bytes.proofs.Sections.{rest-head, rest-tail, rest-over, rest-at, moved, two-at, section-at}
 use Rattle.sheet_bytes.proofs.Places.{place-zero, place-suc, three}
 use Rattle.sheet_check.proofs.Diagrams.{code}
-use Rattle.promises.specs.Sheet.{byte, triple as word, sheetFeatures as features, sheetSize as size, sheetCount as count, nodePlace as place, sheetFeature as feature, sheetWidth as width, sheetBranch as branch, nodesEnd as end, sheetRoot as root}
+use Rattle.promises.specs.Sheet.{byte, triple as word, sheetFeatures as features, sheetSize as size, sheetCount as count, nodePlace as place, sheetFeature as feature}
+use Rattle.promises.specs.Sheet.{sheetWidth as width, sheetBranch as branch, nodesEnd as end, sheetRoot as root}
 
 target-at : (s : List ℕ) (p : ℕ) (t : Target rules) (r : List ℕ) → drop p s ≡ targetBytes t ++ r → (word s p ≡ code t) × (drop (p + 3) s ≡ r)
 unfolding targetBytes word code

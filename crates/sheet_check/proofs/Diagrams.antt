@@ -16,7 +16,8 @@ use Rattle.theory.specs.Rules.{rules, Branch, Node, phrase, node}
 use Rattle.theory.proofs.Bounded.{Bounded, Bounds}
 use Rattle.theory.proofs.WellFormed.{under-weaken}
 use Rattle.sheet_bytes.proofs.Places.{sizes-length, sizes-at, size-least}
-use Rattle.promises.specs.Sheet.{sheetSize as size, sheetSizes as sizesOf, sheetCount as count, sheetFeature as feature, sheetWidth as width, sheetBranch as branch, SheetSits as Below, SheetSame as Same, row as tab, sheetNode as nodeOf, sheetNodes as nodesOf, SheetOrdered as Ordered}
+use Rattle.promises.specs.Sheet.{sheetSize as size, sheetSizes as sizesOf, sheetCount as count, sheetFeature as feature, sheetWidth as width, sheetBranch as branch}
+use Rattle.promises.specs.Sheet.{SheetSits as Below, SheetSame as Same, row as tab, sheetNode as nodeOf, sheetNodes as nodesOf, SheetOrdered as Ordered}
 use Rattle.promises.specs.RuleWords.{decode as branchOf}
 
 -- ---- lists by index

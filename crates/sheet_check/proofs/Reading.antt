@@ -29,7 +29,9 @@ use Rattle.sheet_bytes.proofs.Places.{place-zero, place-le}
 use Rattle.sheet_check.proofs.Diagrams.{nodes-length, nodes-at, node-feature, branches-length, branches-at, branch-phrase, branch-node, code, node-eq, same-node}
 use Rattle.sheet_check.proofs.Decoding.{Spells, NodeRead, begins, features-read, size-read, count-read, node-read, end-read, root-read}
 use Rattle.sheet_check.proofs.Small.{SmallTarget, SmallNode, bytes-sheet}
-use Rattle.promises.specs.Sheet.{sheetFeatures as features, sheetSizes as sizesOf, sheetCount as count, sheetFeature as feature, sheetWidth as width, sheetBranch as branch, sheetRoot as root, Begins as Head, Lies as Lie, SheetSits as Below, SheetLower as Lower, SheetAlike as Alike, SheetNodesOk as Nodes, Once, sheetNode as nodeOf, sheetNodes as nodesOf, sheetRule as ruleOf, InOrder, GoodSheet as Good}
+use Rattle.promises.specs.Sheet.{sheetFeatures as features, sheetSizes as sizesOf, sheetCount as count, sheetFeature as feature, sheetWidth as width, sheetBranch as branch}
+use Rattle.promises.specs.Sheet.{sheetRoot as root, Begins as Head, Lies as Lie, SheetSits as Below, SheetLower as Lower, SheetAlike as Alike, SheetNodesOk as Nodes, Once}
+use Rattle.promises.specs.Sheet.{sheetNode as nodeOf, sheetNodes as nodesOf, sheetRule as ruleOf, InOrder, GoodSheet as Good}
 use Rattle.promises.specs.RuleWords.{decode as branchOf}
 
 -- ---- a branch as a word, and back
@@ -125,7 +127,8 @@ module _ {S : List ℕ} {N : List Node} {b : Branch} {s : List ℕ} (d : Drawn S
         lower = λ v l.
             let r = reads i hi in
             let q : v < length (at N i .branches) = omega (arith, r .sized) in
-            let u = under-code s N i (suc (at N i .feature)) (λ j q. reads j (omega (arith, hi)) .named) (getD (at N i .branches) v blank .to) (omega (arith, hi, d .room)) (d .bounded .node i .branch v) (w .fits i hi .lower v) in
+            let u = under-code s N i (suc (at N i .feature)) (λ j q. reads j (omega (arith, hi)) .named) (getD (at N i .branches) v blank .to) (omega (arith, hi, d .room))
+            (d .bounded .node i .branch v) (w .fits i hi .lower v) in
             let x : suc (at N i .feature) ≡ feature s i + 1 = omega (arith, r .named) in
             subst (λ (y : ℕ). Below s i (feature s i + 1) y) (sym (r .words v q)) (subst (λ (y : ℕ). Below s i y (code (getD (at N i .branches) v blank .to))) x u);
       }

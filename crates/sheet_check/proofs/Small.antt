@@ -55,7 +55,8 @@ bytes-nodes : (N : List Node) → ((i : ℕ) → i < length N → SmallNode (at 
 unfolding nodesBytes nodeBytes
 bytes-nodes [] h = bytes-none
 bytes-nodes (x ∷ N) h =
-    bytes-append (nodeBytes branchBytes x) (nodesBytes branchBytes N) (bytes-more (x .feature) (branchesBytes branchBytes (x .branches)) (h 0 (omega arith) .feature) (bytes-branches (x .branches) (h 0 (omega arith) .targets)))
+    bytes-append (nodeBytes branchBytes x) (nodesBytes branchBytes N) (bytes-more (x .feature) (branchesBytes branchBytes (x .branches)) (h 0 (omega arith) .feature)
+    (bytes-branches (x .branches) (h 0 (omega arith) .targets)))
     (bytes-nodes N (λ i l. h (suc i) (omega arith)))
 
 -- ---- a whole sheet
@@ -65,7 +66,8 @@ unfolding sheetBytes
 bytes-sheet S N b h B l n t =
     bytes-append (section 1 (1 ∷ [])) (section (length S) S ++ (section (length N) nodes ++ last)) (bytes-section 1 (1 ∷ []) (omega arith) (bytes-more 1 [] (omega arith) bytes-none))
     (bytes-append (section (length S) S) (section (length N) nodes ++ last) (bytes-section (length S) S h B)
-    (bytes-append (section (length N) nodes) last (bytes-section (length N) nodes l (bytes-nodes N n)) (bytes-section 1 (branchesBytes branchBytes (b ∷ [])) (omega arith) (bytes-branches (b ∷ []) root))))
+    (bytes-append (section (length N) nodes) last (bytes-section (length N) nodes l (bytes-nodes N n))
+    (bytes-section 1 (branchesBytes branchBytes (b ∷ [])) (omega arith) (bytes-branches (b ∷ []) root))))
   where
     nodes : List ℕ
     nodes = nodesBytes branchBytes N

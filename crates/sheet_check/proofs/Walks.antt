@@ -19,7 +19,8 @@ use Rattle.settings.specs.Tells.{Tells}
 use Rattle.settings.proofs.Answers.{tells-eqb}
 use Rattle.sheet_check.specs.Diagram.{decoded, Visits, VisitsAll, further}
 use Rattle.sheet_check.proofs.Diagrams.{nodes-length, nodes-at, feature-at, branches-length, branches-at, branch-phrase, branch-node, below-ok, ordered-wf}
-use Rattle.promises.specs.Sheet.{sheetSizes as sizesOf, sheetCount as count, sheetFeature as feature, sheetWidth as width, sheetBranch as branch, sheetRoot as root, Lies as Lie, SheetSits as Below, sheetNode as nodeOf, sheetNodes as nodesOf, SheetOrdered as Ordered, InOrder}
+use Rattle.promises.specs.Sheet.{sheetSizes as sizesOf, sheetCount as count, sheetFeature as feature, sheetWidth as width, sheetBranch as branch, sheetRoot as root, Lies as Lie}
+use Rattle.promises.specs.Sheet.{SheetSits as Below, sheetNode as nodeOf, sheetNodes as nodesOf, SheetOrdered as Ordered, InOrder}
 use Rattle.promises.specs.RuleWords.{decode as branchOf}
 
 -- ---- the walk's answer as a number

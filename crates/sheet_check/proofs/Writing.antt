@@ -22,7 +22,9 @@ use Rattle.sheet_bytes.specs.Sheet.{targetBytes, branchBytes, sheetOf, Writable
 use Rattle.sheet_bytes.proofs.Sections.{Bytes, slid, cut, pair-small, two-back, section-back}
 use Rattle.sheet_bytes.proofs.Places.{sizes-length, place-zero, place-suc, reach}
 use Rattle.sheet_check.proofs.Diagrams.{nodes-length, branch-phrase, branch-node, word-bounded, nodes-bounded, below-ok, ordered-wf}
-use Rattle.promises.specs.Sheet.{byte, pair, triple as word, sheetFeatures as features, sheetSizes as sizesOf, sheetCount as count, nodePlace as place, sheetFeature as feature, sheetWidth as width, sheetBranch as branch, nodesEnd as end, sheetRoot as root, Begins as Head, row as tab, sheetNode as nodeOf, sheetNodes as nodesOf, sheetRule as ruleOf, InOrder, GoodSheet as Good}
+use Rattle.promises.specs.Sheet.{byte, pair, triple as word, sheetFeatures as features, sheetSizes as sizesOf, sheetCount as count, nodePlace as place, sheetFeature as feature}
+use Rattle.promises.specs.Sheet.{sheetWidth as width, sheetBranch as branch, nodesEnd as end, sheetRoot as root, Begins as Head, row as tab, sheetNode as nodeOf}
+use Rattle.promises.specs.Sheet.{sheetNodes as nodesOf, sheetRule as ruleOf, InOrder, GoodSheet as Good}
 use Rattle.promises.specs.RuleWords.{decode as branchOf}
 
 -- the last section
@@ -93,7 +95,8 @@ module _ (s : List ℕ) (B : Bytes s) where
         node-back u (omega arith)
         ∙ ap (λ (r : List ℕ). nodeBytes branchBytes (nodeOf s u) ++ r)
         (nodes-back n (suc u) (omega arith)
-        ∙ ap (λ (r : List ℕ). nodesBytes branchBytes (tab (suc u) n (nodeOf s)) ++ r) (slid s (place s (suc u + n)) (place s (u + suc n)) (ap (place s) (let e : suc u + n ≡ u + suc n = omega arith in e))))
+        ∙ ap (λ (r : List ℕ). nodesBytes branchBytes (tab (suc u) n (nodeOf s)) ++ r)
+        (slid s (place s (suc u + n)) (place s (u + suc n)) (ap (place s) (let e : suc u + n ≡ u + suc n = omega arith in e))))
         ∙ sym (append-assoc (nodeBytes branchBytes (nodeOf s u)) (nodesBytes branchBytes (tab (suc u) n (nodeOf s))) (drop (place s (u + suc n)) s))
 
     end-back : drop (end s) s ≡ last s

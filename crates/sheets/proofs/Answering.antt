@@ -24,5 +24,6 @@ looked-up s t n a e f = (ap says e, subst (Asked (sheetSizes s) (sheetRule s) t)
 pub return-number : {s t : List ℕ} {r : Looked} → Meets (look-up-in s t) tt tt r → r .outcome ≡ Taken → Hears (Meets (look-up-in s t) tt tt) (tell-returned []) (heard (r .number) [] [])
 return-number {s} {t} {r} l e = record { answer = r; keeps = l; number = ap (λ (o : Outcome). returned o (r .number)) (sym e); out = refl; bytes = refl }
 
-pub return-refusal : {s t : List ℕ} {r : Looked} {x : Refusal} {n : ℕ} → Meets (look-up-in s t) tt tt r → r .outcome ≡ Refused x → n ≡ numberOf x → Hears (Meets (look-up-in s t) tt tt) (tell-returned []) (heard (65536 + n) [] [])
+pub return-refusal : {s t : List ℕ} {r : Looked} {x : Refusal} {n : ℕ} → Meets (look-up-in s t) tt tt r → r .outcome ≡ Refused x → n ≡ numberOf x
+    → Hears (Meets (look-up-in s t) tt tt) (tell-returned []) (heard (65536 + n) [] [])
 return-refusal {s} {t} {r} l e q = record { answer = r; keeps = l; number = ap (λ (m : ℕ). 65536 + m) q ∙ ap (λ (o : Outcome). returned o (r .number)) (sym e); out = refl; bytes = refl }

@@ -12,7 +12,8 @@ use Rattle.theory.specs.WellFormed.{WF}
 use Rattle.theory.specs.Questions.{asked}
 use Rattle.theory.proofs.Ways.{OnWay, way-start, way-end, way-asked, way-node, way-feature, way-value, way-room, way-on}
 use Rattle.sheet_check.proofs.Diagrams.{nodes-length, nodes-at, feature-at, branches-length, branches-at, branch-phrase, branch-node, below-ok, ordered-wf}
-use Rattle.promises.specs.Sheet.{byte, sheetSizes as sizesOf, sheetCount as count, sheetFeature as feature, sheetWidth as width, sheetBranch as branch, sheetRoot as root, sheetNodes as nodesOf, sheetRule as ruleOf, GoodSheet as Good}
+use Rattle.promises.specs.Sheet.{byte, sheetSizes as sizesOf, sheetCount as count, sheetFeature as feature, sheetWidth as width, sheetBranch as branch, sheetRoot as root}
+use Rattle.promises.specs.Sheet.{sheetNodes as nodesOf, sheetRule as ruleOf, GoodSheet as Good}
 use Rattle.promises.specs.RuleWords.{decode as branchOf}
 
 -- the branch word b stands on the way of the setting t, where n features were asked

@@ -40,7 +40,8 @@ fn fits(s: &[u8], t: &[u8]) -> bool
 // The number that the rule of a good sheet gives the setting: from the root, branch by branch, each node a feature asked.
 fn walk(s: &[u8], at: &[u32; 4096], t: &[u8]) -> Looked
     requires { ⌜ (Ready (now s) (now at)) × (Valid (sheetSizes (now s)) (now t)) ⌝ }
-    ensures { λ r. ⌜ (r .outcome ≡ Taken) × (r .number ≡ sheetRule (now (s .entry)) (now (t .entry)) .end) × (r .asked ≡ asked (sheetSizes (now (s .entry))) (sheetRule (now (s .entry))) (now (t .entry))) ⌝ }
+    ensures { λ r. ⌜ (r .outcome ≡ Taken) × (r .number ≡ sheetRule (now (s .entry)) (now (t .entry)) .end)
+        × (r .asked ≡ asked (sheetSizes (now (s .entry))) (sheetRule (now (s .entry))) (now (t .entry))) ⌝ }
 {
     let mut b = root_of(s);
     let mut asked: u32 = 0;

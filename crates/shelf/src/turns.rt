@@ -1,24 +1,24 @@
 // Which command a line is, and the lines of standard input in turn.
-use cost_shelving::both_command;
-use cost_shelving::both_entry;
-use cost_shelving::cost_command;
-use cost_shelving::cost_entry;
 use libc::STDIN_FILENO;
-use lines::BOTH;
-use lines::COSTS;
-use lines::Desk;
-use lines::Entry;
-use lines::NONE;
-use lines::RULES;
-use lines::first_word;
-use lines::next_word;
-use lines::numbers_of;
-use lines::own_command;
-use lines::own_entry;
-use lines::say_end;
-use lines::say_unknown;
-use rule_shelving::rule_command;
-use rule_shelving::rule_entry;
+use shelf_costs::both_command;
+use shelf_costs::both_entry;
+use shelf_costs::cost_command;
+use shelf_costs::cost_entry;
+use shelf_lines::BOTH;
+use shelf_lines::COSTS;
+use shelf_lines::Desk;
+use shelf_lines::Entry;
+use shelf_lines::NONE;
+use shelf_lines::RULES;
+use shelf_lines::first_word;
+use shelf_lines::next_word;
+use shelf_lines::numbers_of;
+use shelf_lines::own_command;
+use shelf_lines::own_entry;
+use shelf_lines::say_end;
+use shelf_lines::say_unknown;
+use shelf_rules::rule_command;
+use shelf_rules::rule_entry;
 ghost use Rattle.io.specs.Counts.{Counts};
 
 // The command of this name.

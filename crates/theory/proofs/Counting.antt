@@ -1,7 +1,8 @@
 -- `tally` is the number of distinct rests as docs/SCOPE.md defines them. Assumes nothing.
 use mathlib.Core.Path.{_≡_, refl, sym, ap, _∙_, subst}
 use mathlib.Core.Logic.{_⊎_, inl, inr}
-use mathlib.Core.List.{List, [], _∷_, _++_, List·Memᴰ, List·Memᴰ·head, List·Memᴰ·tail, List·Memᴰ·not-nil, List·Memᴰ·cases-cons, Memᴰ·append-left, Memᴰ·append-right, List·Memᴰ·append-cases, List·Memᴰ·eq-of-singleton}
+use mathlib.Core.List.{List, [], _∷_, _++_, List·Memᴰ, List·Memᴰ·head, List·Memᴰ·tail, List·Memᴰ·not-nil, List·Memᴰ·cases-cons, Memᴰ·append-left, Memᴰ·append-right}
+use mathlib.Core.List.{List·Memᴰ·append-cases, List·Memᴰ·eq-of-singleton}
 use Prim.Native.Nat.{ℕ, zero, suc, _+_, _≤_, _<_}
 use native.Mathlib.Nat.{le-of-suc-le-suc, not-suc-le-zero, zero-add, add-zero}
 use native.Mathlib.Decide.{decLt}
@@ -124,7 +125,8 @@ module _ {K : Kind} where
             deep = subst (λ (y : Rest K). ¬ Free n ns (y .function)) (sym (r .0)) (λ f. r .1 (free-norm-down n ns (K .neg (g (zeros (n ∷ ns)) .off)) g f));
           }
 
-  rests-in : (k : ℕ) (ns : List ℕ) (g : Fun K) (j : ℕ) (p : List ℕ) → Valid (take j ns) p → Depends (drop j ns) (after p g) → List·Memᴰ (record { level = k + j; function = norm (drop j ns) (after p g) }) (rests k ns g)
+  rests-in : (k : ℕ) (ns : List ℕ) (g : Fun K) (j : ℕ) (p : List ℕ) → Valid (take j ns) p → Depends (drop j ns) (after p g)
+      → List·Memᴰ (record { level = k + j; function = norm (drop j ns) (after p g) }) (rests k ns g)
   rests-in k [] g zero p h d = absurd d
   rests-in k [] g (suc j) p h d = absurd d
   rests-in k (n ∷ ns) g zero [] h d =
@@ -261,7 +263,9 @@ module _ {K : Kind} where
       let g : Fun K = getD gs (o .place) zero-fun in
       let h : Fun K = after (o .is-rest .fixed) g in
       let y : Rest K = record { level = 0 + x .level; function = norm (drop (x .level) S) h } in
-      let m : List·Memᴰ y (rests 0 S g) = rests-in 0 S g (x .level) (o .is-rest .fixed) (o .is-rest .valid) (depends-norm (drop (x .level) S) (K .neg (h (zeros (drop (x .level) S)) .off)) h (depends-agree (drop (x .level) S) (x .function) (norm (drop (x .level) S) h) (o .is-rest .remains) (o .is-rest .depends))) in
+      let m : List·Memᴰ y (rests 0 S g) = rests-in 0 S g (x .level) (o .is-rest .fixed) (o .is-rest .valid)
+      (depends-norm (drop (x .level) S) (K .neg (h (zeros (drop (x .level) S)) .off)) h
+      (depends-agree (drop (x .level) S) (x .function) (norm (drop (x .level) S) h) (o .is-rest .remains) (o .is-rest .depends))) in
       let w : Seen S y (gather S [] (flat (rests 0 S) gs)) = gather-has S y [] (flat (rests 0 S) gs) (flat-in (rests 0 S) y gs (o .place) (o .there) m) in
       let q : Equal S x y = record { levels = sym (zero-add (x .level)); functions = o .is-rest .remains } in
       (w .0, w .1, equal-trans (w .2) (equal-sym q))

@@ -60,7 +60,8 @@ module _ {K : Kind} where
   abbrev lifted : K .Off → Fun K → Fun K
   lifted a g = λ s. lift a (g s)
 
-  each-lift : (S : List ℕ) (k : ℕ) (ns : List ℕ) → drop k S ≡ ns → (a : K .Off) → ((g : Fun K) (N : List (Node K)) → WF S N → build k ns (lifted a g) N ≡ (up a (build k ns g N .0), build k ns g N .1)) →
+  each-lift : (S : List ℕ) (k : ℕ) (ns : List ℕ) → drop k S ≡ ns → (a : K .Off) →
+      ((g : Fun K) (N : List (Node K)) → WF S N → build k ns (lifted a g) N ≡ (up a (build k ns g N .0), build k ns g N .1)) →
       (g : Fun K) (u n : ℕ) (N : List (Node K)) → WF S N → each (build k ns) (parts u n (lifted a g)) N ≡ (map (up a) (each (build k ns) (parts u n g) N .0), each (build k ns) (parts u n g) N .1)
   each-lift S k ns rest a h g u zero N w = refl
   each-lift S k ns rest a h g u (suc n) N w =

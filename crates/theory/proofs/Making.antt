@@ -33,7 +33,8 @@ module _ {K : Kind} where
   decide-there S k bs N (no a) (yes f) w i h e n = ap (λ (j : ℕ). let t : Built K = (record { adds = base bs; to = node j }, N) in t) (w .once (f .0) i (f .1) h (f .2 ∙ sym e))
   decide-there S k bs N (no a) (no f) w i h e n = absurd (f (i, h, e))
 
-  pub make-there : (S : List ℕ) (k : ℕ) (bs : List (Branch K)) (N : List (Node K)) → WF S N → (i : ℕ) → i < length N → at N i ≡ node-of k bs → ¬ Alike blank bs → make k bs N ≡ (record { adds = base bs; to = node i }, N)
+  pub make-there : (S : List ℕ) (k : ℕ) (bs : List (Branch K)) (N : List (Node K)) → WF S N → (i : ℕ) → i < length N → at N i ≡ node-of k bs → ¬ Alike blank bs
+      → make k bs N ≡ (record { adds = base bs; to = node i }, N)
   unfolding make
   make-there S k bs N w i h e n =
       decide-there S k bs N (alike? branch-discrete blank bs) (find node-discrete empty (node-of k bs) N) w i h e n
@@ -45,7 +46,8 @@ module _ {K : Kind} where
   decide-new k bs N (no a) (yes f) na nf = absurd (nf f)
   decide-new k bs N (no a) (no f) na nf = refl
 
-  pub make-new : (k : ℕ) (bs : List (Branch K)) (N : List (Node K)) → ¬ Alike blank bs → ¬ In empty (node-of k bs) N → make k bs N ≡ (record { adds = base bs; to = node (length N) }, N ++ (node-of k bs ∷ []))
+  pub make-new : (k : ℕ) (bs : List (Branch K)) (N : List (Node K)) → ¬ Alike blank bs → ¬ In empty (node-of k bs) N
+      → make k bs N ≡ (record { adds = base bs; to = node (length N) }, N ++ (node-of k bs ∷ []))
   unfolding make
   make-new k bs N na nf = decide-new k bs N (alike? branch-discrete blank bs) (find node-discrete empty (node-of k bs) N) na nf
 

@@ -13,10 +13,18 @@ use Rattle.theory.proofs.Lists.{getD-map-in, map-undo}
 
 module _ {K : Kind} where
   up-less : (a : K .Off) (b : Branch K) → up a (less a b) ≡ b
-  up-less a b = λ i. record { adds = (sym (K .group .plus-assoc a (K .neg a) (b .adds)) ∙ ap (λ (c : K .Off). K .plus c (b .adds)) (K .group .plus-neg a) ∙ K .group .nil-plus (b .adds)) i; to = b .to }
+  up-less a b = λ i. record {
+    adds = (sym (K .group .plus-assoc a (K .neg a) (b .adds)) ∙ ap (λ (c : K .Off). K .plus c (b .adds)) (K .group .plus-neg a)
+        ∙ K .group .nil-plus (b .adds)) i;
+    to = b .to;
+  }
 
   pub less-up : (a : K .Off) (b : Branch K) → less a (up a b) ≡ b
-  less-up a b = λ i. record { adds = (sym (K .group .plus-assoc (K .neg a) a (b .adds)) ∙ ap (λ (c : K .Off). K .plus c (b .adds)) (K .group .neg-plus a) ∙ K .group .nil-plus (b .adds)) i; to = b .to }
+  less-up a b = λ i. record {
+    adds = (sym (K .group .plus-assoc (K .neg a) a (b .adds)) ∙ ap (λ (c : K .Off). K .plus c (b .adds)) (K .group .neg-plus a)
+        ∙ K .group .nil-plus (b .adds)) i;
+    to = b .to;
+  }
 
   -- the node's branch v, with the base put back
   pub base-back : (bs : List (Branch K)) (v : ℕ) → v < length bs → up (base bs) (getD (map (less (base bs)) bs) v blank) ≡ getD bs v blank
@@ -55,10 +63,18 @@ module _ {K : Kind} where
         sym (less-up a (getD bs i blank)) ∙ ap (less a) e ∙ less-up a (getD bs 0 blank)
 
   pub lift-undo : (a : K .Off) (x : Amount K) → lift (K .neg a) (lift a x) ≡ x
-  lift-undo a x = λ i. record { off = (sym (K .group .plus-assoc (K .neg a) a (x .off)) ∙ ap (λ (c : K .Off). K .plus c (x .off)) (K .group .neg-plus a) ∙ K .group .nil-plus (x .off)) i; end = x .end }
+  lift-undo a x = λ i. record {
+    off = (sym (K .group .plus-assoc (K .neg a) a (x .off)) ∙ ap (λ (c : K .Off). K .plus c (x .off)) (K .group .neg-plus a)
+        ∙ K .group .nil-plus (x .off)) i;
+    end = x .end;
+  }
 
   pub lift-redo : (a : K .Off) (x : Amount K) → lift a (lift (K .neg a) x) ≡ x
-  lift-redo a x = λ i. record { off = (sym (K .group .plus-assoc a (K .neg a) (x .off)) ∙ ap (λ (c : K .Off). K .plus c (x .off)) (K .group .plus-neg a) ∙ K .group .nil-plus (x .off)) i; end = x .end }
+  lift-redo a x = λ i. record {
+    off = (sym (K .group .plus-assoc a (K .neg a) (x .off)) ∙ ap (λ (c : K .Off). K .plus c (x .off)) (K .group .plus-neg a)
+        ∙ K .group .nil-plus (x .off)) i;
+    end = x .end;
+  }
 
   less-both : (a c : K .Off) (b : Branch K) → less (K .plus a c) (up a b) ≡ less c b
   less-both a c b =

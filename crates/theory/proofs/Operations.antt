@@ -33,16 +33,19 @@ module _ {K : Kind} where
   map-wait N k v s [] o = refl
   map-wait N k v s (b ∷ bs) o = λ i. value-wait N k b v s (o .0) i ∷ map-wait N k v s bs (o .1) i
 
-  map-more : (S : List ℕ) (N M : List (Node K)) → WF S N → (k : ℕ) (s : List ℕ) (bs : List (Branch K)) → Oks N k bs → map (λ (b : Branch K). value (N ++ M) k b s) bs ≡ map (λ (b : Branch K). value N k b s) bs
+  map-more : (S : List ℕ) (N M : List (Node K)) → WF S N → (k : ℕ) (s : List ℕ) (bs : List (Branch K)) → Oks N k bs
+      → map (λ (b : Branch K). value (N ++ M) k b s) bs ≡ map (λ (b : Branch K). value N k b s) bs
   map-more S N M w k s [] o = refl
   map-more S N M w k s (b ∷ bs) o = λ i. value-more S N M w k b s (o .0) i ∷ map-more S N M w k s bs (o .1) i
 
   -- the operands may be read in any later list
-  pub result-more : (S : List ℕ) (F : List (Amount K) → Amount K) (N M : List (Node K)) → WF S N → (k : ℕ) (bs : List (Branch K)) → Oks N k bs → (s : List ℕ) → result F (N ++ M) k bs s ≡ result F N k bs s
+  pub result-more : (S : List ℕ) (F : List (Amount K) → Amount K) (N M : List (Node K)) → WF S N → (k : ℕ) (bs : List (Branch K)) → Oks N k bs → (s : List ℕ)
+      → result F (N ++ M) k bs s ≡ result F N k bs s
   result-more S F N M w k bs o s = ap F (map-more S N M w k s bs o)
 
   -- the result's branch at v is the result of the operands' branches at v
-  pub result-held : (F : List (Amount K) → Amount K) (N : List (Node K)) (k v : ℕ) (bs : List (Branch K)) (s : List ℕ) → held v (result F N k bs) s ≡ result F N (suc k) (map (λ (b : Branch K). next N k b v) bs) s
+  pub result-held : (F : List (Amount K) → Amount K) (N : List (Node K)) (k v : ℕ) (bs : List (Branch K)) (s : List ℕ)
+      → held v (result F N k bs) s ≡ result F N (suc k) (map (λ (b : Branch K). next N k b v) bs) s
   result-held F N k v bs s = ap F (map-next N k v s bs)
 
   pub oks-next : (S : List ℕ) (N : List (Node K)) → WF S N → (k v : ℕ) (bs : List (Branch K)) → Oks N k bs → Oks N (suc k) (map (λ (b : Branch K). next N k b v) bs)
@@ -61,12 +64,14 @@ module _ {K : Kind} where
       (record { ok = tt; says = λ s x. value-ending N k (F ps) s ∙ sym (ap F (map-endings O k ps s)) })
 
   -- a remembered result is used: the list stays as it is
-  pub build-remembered : (S : List ℕ) (k : ℕ) (ns : List ℕ) → drop k S ≡ ns → Pos ns → (F : List (Amount K) → Amount K) (O N : List (Node K)) → WF S N → (bs : List (Branch K)) (c : Branch K) → Ok N k c →
+  pub build-remembered : (S : List ℕ) (k : ℕ) (ns : List ℕ) → drop k S ≡ ns → Pos ns → (F : List (Amount K) → Amount K) (O N : List (Node K)) → WF S N
+      → (bs : List (Branch K)) (c : Branch K) → Ok N k c →
       ((s : List ℕ) → Valid ns s → value N k c s ≡ result F O k bs s) → build k ns (result F O k bs) N ≡ (c, N)
   build-remembered S k ns rest pos F O N w bs c o e = canonical S k ns rest pos N w c (result F O k bs) (record { ok = o; says = e })
 
   -- no operand tests feature k: it is passed over
-  pub build-wait : (S : List ℕ) (k n : ℕ) (ns : List ℕ) → drop k S ≡ n ∷ ns → Pos (n ∷ ns) → (F : List (Amount K) → Amount K) (O N : List (Node K)) → WF S N → (bs : List (Branch K)) → Oks O (suc k) bs →
+  pub build-wait : (S : List ℕ) (k n : ℕ) (ns : List ℕ) → drop k S ≡ n ∷ ns → Pos (n ∷ ns) → (F : List (Amount K) → Amount K) (O N : List (Node K)) → WF S N
+      → (bs : List (Branch K)) → Oks O (suc k) bs →
       build k (n ∷ ns) (result F O k bs) N ≡ build (suc k) ns (result F O (suc k) bs) N
   unfolding Free
   build-wait S k n ns rest pos F O N w bs o =

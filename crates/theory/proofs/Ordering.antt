@@ -87,7 +87,8 @@ module _ {K : Kind} where
   visit-done x k i c f (yes p) (no e) h l = absurd (e l)
   visit-done x k i c f (no p) e h l = absurd (p h)
 
-  visit-close : (x : Node K) (k i c : ℕ) (f : Target K → ℕ → Option ℕ) (d : Dec (x .feature ≡ k)) (e : Dec (i < c)) → x .feature ≡ k → ¬ (i < c) → visit x k i c f d e ≡ close i (scans f (x .branches) c)
+  visit-close : (x : Node K) (k i c : ℕ) (f : Target K → ℕ → Option ℕ) (d : Dec (x .feature ≡ k)) (e : Dec (i < c)) → x .feature ≡ k → ¬ (i < c)
+      → visit x k i c f d e ≡ close i (scans f (x .branches) c)
   unfolding visit
   visit-close x k i c f (yes p) (yes e) h l = absurd (l e)
   visit-close x k i c f (yes p) (no e) h l = refl

@@ -77,7 +77,8 @@ module _ {K : Kind} where
   equal-trans {S} {x} {y} {z} e f = record { levels = e .levels ∙ f .levels; functions = λ s h. e .functions s h ∙ f .functions s (rw (e .levels) at h) }
 
   -- the node i means g at k, with some offset, exactly if its rest is g's
-  equal-of-mean : (S : List ℕ) (N : List (Node K)) → WF S N → (k : ℕ) (ns : List ℕ) (g : Fun K) (a : K .Off) (i : ℕ) → drop k S ≡ ns → Pos ns → at N i .feature ≡ k → Mean N k ns (record { adds = a; to = node i }) g →
+  equal-of-mean : (S : List ℕ) (N : List (Node K)) → WF S N → (k : ℕ) (ns : List ℕ) (g : Fun K) (a : K .Off) (i : ℕ) → drop k S ≡ ns → Pos ns → at N i .feature ≡ k
+      → Mean N k ns (record { adds = a; to = node i }) g →
       Equal S (rest-of N i) (record { level = k; function = norm ns g })
   equal-of-mean S N w k ns g a i rest pos e m =
       record {
@@ -113,7 +114,8 @@ module _ {K : Kind} where
             ∙ ap (λ (y : Node K). value (N ++ M) (y .feature) (plain i) s) (sym (at-more N M i h));
       }
 
-  sim-snoc : (S : List ℕ) (N : List (Node K)) (l : List (Rest K)) (x : Node K) (y : Rest K) → WF S N → Sim S N l → Equal S y (rest-of (N ++ (x ∷ [])) (length N)) → Sim S (N ++ (x ∷ [])) (l ++ (y ∷ []))
+  sim-snoc : (S : List ℕ) (N : List (Node K)) (l : List (Rest K)) (x : Node K) (y : Rest K) → WF S N → Sim S N l → Equal S y (rest-of (N ++ (x ∷ [])) (length N))
+      → Sim S (N ++ (x ∷ [])) (l ++ (y ∷ []))
   sim-snoc S N l x y w m e =
       record {
         long = omega (arith, length-append l (y ∷ []), length-append N (x ∷ []), m .long);

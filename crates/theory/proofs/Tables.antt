@@ -72,7 +72,8 @@ module _ {K : Kind} where
               record {
                 place = length gs;
                 there = omega (arith, length-append gs (g ∷ []));
-                is-rest = subst (λ (r : Fun K). IsRest S r x) (ap (λ (i : ℕ). getD (set gs d g) i zero-fun) e ∙ getD-set-same gs d g zero-fun hd ∙ sym (getD-append-seam gs g [] zero-fun)) (o .is-rest);
+                is-rest = subst (λ (r : Fun K). IsRest S r x) (ap (λ (i : ℕ). getD (set gs d g) i zero-fun) e ∙ getD-set-same gs d g zero-fun hd
+                    ∙ sym (getD-append-seam gs g [] zero-fun)) (o .is-rest);
               }
           go (no e) =
               record {

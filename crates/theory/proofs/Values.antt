@@ -100,7 +100,8 @@ module _ {K : Kind} where
   unfolding value
   value-wait N k b v s o = ap (λ (c : Branch K). value N (suc k) c s) (go-on-wait N k (b .adds) (b .to) v o)
 
-  pub value-here : (N : List (Node K)) (k i v : ℕ) (a : K .Off) (s : List ℕ) → at N i .feature ≡ k → value N k (record { adds = a; to = node i }) (v ∷ s) ≡ value N (suc k) (up a (getD (at N i .branches) v blank)) s
+  pub value-here : (N : List (Node K)) (k i v : ℕ) (a : K .Off) (s : List ℕ) → at N i .feature ≡ k
+      → value N k (record { adds = a; to = node i }) (v ∷ s) ≡ value N (suc k) (up a (getD (at N i .branches) v blank)) s
   unfolding value
   value-here N k i v a s e = ap (λ (c : Branch K). value N (suc k) c s) (next-here N k i v a e)
 
@@ -118,7 +119,8 @@ module _ {K : Kind} where
   means-length N k ns (b ∷ bs) v zero g m = absurd m
   means-length N k ns (b ∷ bs) v (suc n) g m = ap suc (means-length N k ns bs (suc v) n g (m .1))
 
-  pub means-at : (N : List (Node K)) (k : ℕ) (ns : List ℕ) (bs : List (Branch K)) (u n : ℕ) (g : Fun K) → Means N k ns bs (parts u n g) → (v : ℕ) → v < n → Mean N k ns (getD bs v blank) (held (u + v) g)
+  pub means-at : (N : List (Node K)) (k : ℕ) (ns : List ℕ) (bs : List (Branch K)) (u n : ℕ) (g : Fun K) → Means N k ns bs (parts u n g) → (v : ℕ) → v < n
+      → Mean N k ns (getD bs v blank) (held (u + v) g)
   means-at N k ns bs u zero g m v h = absurd (not-suc-le-zero h)
   means-at N k ns [] u (suc n) g m v h = absurd m
   means-at N k ns (b ∷ bs) u (suc n) g m zero h = rw add-zero (m .0)
@@ -185,7 +187,8 @@ module _ {K : Kind} where
   pub value-plain : (N : List (Node K)) (k i : ℕ) (a : K .Off) (s : List ℕ) → value N k (record { adds = a; to = node i }) s ≡ lift a (value N k (plain i) s)
   value-plain N k i a s = value-split N k (record { adds = a; to = node i }) s
 
-  pub means-place : (N : List (Node K)) (k : ℕ) (ns : List ℕ) (bs : List (Branch K)) (gs : List (Fun K)) → Means N k ns bs gs → (i : ℕ) → i < length gs → Mean N k ns (getD bs i blank) (getD gs i zero-fun)
+  pub means-place : (N : List (Node K)) (k : ℕ) (ns : List ℕ) (bs : List (Branch K)) (gs : List (Fun K)) → Means N k ns bs gs → (i : ℕ) → i < length gs
+      → Mean N k ns (getD bs i blank) (getD gs i zero-fun)
   means-place N k ns bs [] m i h = absurd (not-suc-le-zero h)
   means-place N k ns [] (g ∷ gs) m i h = absurd m
   means-place N k ns (b ∷ bs) (g ∷ gs) m zero h = m .0
@@ -195,7 +198,8 @@ module _ {K : Kind} where
   pub mean-prefix : (S : List ℕ) (A B : List (Node K)) (k : ℕ) (ns : List ℕ) (b : Branch K) (g : Fun K) → WF S (A ++ B) → Ok A k b → Mean (A ++ B) k ns b g → Mean A k ns b g
   mean-prefix S A B k ns b g w o m = record { ok = o; says = λ s x. sym (value-more S A B (wf-prefix S A B w) k b s o) ∙ m .says s x }
 
-  pub means-of : (N : List (Node K)) (k : ℕ) (ns : List ℕ) (bs : List (Branch K)) (u n : ℕ) (g : Fun K) → length bs ≡ n → ((v : ℕ) → v < n → Mean N k ns (getD bs v blank) (held (u + v) g)) → Means N k ns bs (parts u n g)
+  pub means-of : (N : List (Node K)) (k : ℕ) (ns : List ℕ) (bs : List (Branch K)) (u n : ℕ) (g : Fun K) → length bs ≡ n
+      → ((v : ℕ) → v < n → Mean N k ns (getD bs v blank) (held (u + v) g)) → Means N k ns bs (parts u n g)
   means-of N k ns [] u zero g l m = tt
   means-of N k ns [] u (suc n) g l m = absurd (let z : 0 ≡ suc n = l in omega arith)
   means-of N k ns (b ∷ bs) u zero g l m = absurd (omega arith)

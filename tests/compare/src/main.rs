@@ -1,7 +1,7 @@
 //! Compares the proved program `shelf` with plain tables of all settings, on random scripts and on damaged tables.
 //!
 //! usage: compare PROGRAM [SEED [SCRIPTS]]
-//! PROGRAM is the script tests/program. Script i has the seed SEED + i, so a failing script is run again by its own
+//! PROGRAM is the script tests/lib/program. Script i has the seed SEED + i, so a failing script is run again by its own
 //! seed and the number 1. With COMPARE=apart in the environment choose, less and lowest are left out, with COMPARE=rules
 //! every command on costs.
 

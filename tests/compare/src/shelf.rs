@@ -17,7 +17,7 @@ pub struct Failure {
 }
 
 pub struct Shelf {
-    /// The script tests/program.
+    /// The script tests/lib/program.
     pub program: String,
 }
 

@@ -6,14 +6,8 @@ use borrow.Author.Needs.{needs}
 use Rattle.c_results.proofs.put.Statement.{statement}
 use Rattle.c_results.proofs.put.Tie as tie
 
-put-at-requires : tie.Need-put-at-requires
-put-at-requires c κs = search needs
-
-same-length : tie.Need-same-length
-same-length c = search needs
-
 returns : tie.Need-returns
 returns c = (c .before .before .put-at .ensures) ∙ laid-placed ((c .before .before .before .before .before) .args .x ∷ []) ((c .before .before .before .before .before) .args .out .now)
 
 pub put-spec : {M : Type 1} → statement M
-put-spec = tie.close (tie.spec put-at-requires same-length returns)
+put-spec = tie.close (tie.spec (λ c κs. search needs) (λ c. search needs) returns)

@@ -6,20 +6,8 @@ use borrow.Author.Needs.{needs}
 use Rattle.c_results.proofs.put_at.Statement.{statement}
 use Rattle.c_results.proofs.put_at.Tie as tie
 
-mul-out : tie.Need-mul-out
-mul-out c = search needs
-
-slice-write-out : tie.Need-slice-write-out
-slice-write-out c = search needs
-
-same-length : tie.Need-same-length
-same-length c = search needs
-
-returns : tie.Need-returns
-returns c = search needs
-
 returns-2 : tie.Need-returns-2
 returns-2 c = sym (set-out ((c .before) .args .out .now) ((c .before) .args .i) ((c .before) .args .x) (omega arith))
 
 pub put-at-spec : {M : Type 1} → statement M
-put-at-spec = tie.close (tie.spec mul-out slice-write-out same-length returns returns-2)
+put-at-spec = tie.close (tie.spec (λ c. search needs) (λ c. search needs) (λ c. search needs) (λ c. search needs) returns-2)

@@ -5,17 +5,11 @@ use borrow.Author.Needs.{needs}
 use Rattle.c_results.proofs.put_before.Statement.{statement}
 use Rattle.c_results.proofs.put_before.Tie as tie
 
-put-at-requires : tie.Need-put-at-requires
-put-at-requires c κs = search needs
-
-put-from-requires : tie.Need-put-from-requires
-put-from-requires c κs = search needs
-
-same-length : tie.Need-same-length
-same-length c = search needs
-
 returns : tie.Need-returns
-returns c = first-placed ((c .before .before .before .before .before .before .before .before .before) .args .out .now) (c .before .before .before .before .before .before .put-at .last .0) (c .before .before .put-from .last .0) ((c .before .before .before .before .before .before .before .before .before) .args .x) ((c .before .before .before .before .before .before .before .before .before) .args .x) ((c .before .before .before .before .before .before .before .before .before) .args .values) (c .before .before .before .before .before .before .put-at .ensures) refl (c .before .before .put-from .ensures)
+returns c =
+    let c6 = c .before .before .before .before .before .before in let c9 = c6 .before .before .before in
+    first-placed (c9 .args .out .now) (c6 .put-at .last .0) (c .before .before .put-from .last .0) (c9 .args .x) (c9 .args .x) (c9 .args .values) (c6 .put-at .ensures) refl
+    (c .before .before .put-from .ensures)
 
 pub put-before-spec : {M : Type 1} → statement M
-put-before-spec = tie.close (tie.spec put-at-requires put-from-requires same-length returns)
+put-before-spec = tie.close (tie.spec (λ c κs. search needs) (λ c κs. search needs) (λ c. search needs) returns)

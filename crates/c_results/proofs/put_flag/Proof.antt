@@ -7,17 +7,11 @@ use Rattle.c_results.proofs.put_flag.Statement.{statement}
 use Rattle.c_results.proofs.put_flag.Tie as tie
 use Rattle.promises.specs.ForC.{bit}
 
-flag-requires : tie.Need-flag-requires
-flag-requires c κs = search needs
-
-put-at-requires : tie.Need-put-at-requires
-put-at-requires c κs = search needs
-
-same-length : tie.Need-same-length
-same-length c = search needs
-
 returns : tie.Need-returns
-returns c = first-placed ((c .before .before .before .before .before .before) .args .out .now) (c .before .before .put-at .last .0) (c .before .before .put-at .last .0) (c .before .before .before .flag .result) (bit ((c .before .before .before .before .before .before) .args .b)) [] (c .before .before .put-at .ensures) (c .before .before .before .flag .ensures) refl
+returns c =
+    let c6 = c .before .before .before .before .before .before in
+    first-placed (c6 .args .out .now) (c .before .before .put-at .last .0) (c .before .before .put-at .last .0) (c .before .before .before .flag .result)
+    (bit (c6 .args .b)) [] (c .before .before .put-at .ensures) (c .before .before .before .flag .ensures) refl
 
 pub put-flag-spec : {M : Type 1} → statement M
-put-flag-spec = tie.close (tie.spec flag-requires put-at-requires same-length returns)
+put-flag-spec = tie.close (tie.spec (λ c κs. search needs) (λ c κs. search needs) (λ c. search needs) returns)

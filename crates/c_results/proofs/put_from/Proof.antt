@@ -25,12 +25,6 @@ add-put-at c = omega arith
 array-read-word : tie.Need-array-read-word Inv-loop μ-loop
 array-read-word c = omega arith
 
-word-requires : tie.Need-word-requires Inv-loop μ-loop
-word-requires c κs = search needs
-
-put-at-requires : tie.Need-put-at-requires Inv-loop μ-loop
-put-at-requires c κs = search needs
-
 add-k : tie.Need-add-k Inv-loop μ-loop
 add-k c = omega arith
 
@@ -38,22 +32,24 @@ loop-less : tie.Need-loop-less Inv-loop μ-loop
 loop-less c = omega arith
 
 loop-again : tie.Need-loop-again Inv-loop μ-loop
-loop-again c = (
-  (c .before .before .before .before .before .before .loop) .inv .0,
-  omega arith,
-  (c .before .before .before .before .before .before .loop) .inv .2,
-  ap length (c .before .before .put-at .ensures) ∙ length-set ((c .before .before .before .before .before .before .loop) .out) ((c .before .before .before .before .before .before .before .before) .args .i + (c .before .before .before .before .before .before .loop) .k) (c .before .before .before .word .result) ∙ (c .before .before .before .before .before .before .loop) .inv .3,
-  ap (laid ((c .before .before .before .before .before .before .before .before) .args .i + ((c .before .before .before .before .before .before .loop) .k + 1)) (drop ((c .before .before .before .before .before .before .loop) .k + 1) ((c .before .before .before .before .before .before .before .before) .args .t3)))
-      ((c .before .before .put-at .ensures) ∙ ap (set ((c .before .before .before .before .before .before .loop) .out) ((c .before .before .before .before .before .before .before .before) .args .i + (c .before .before .before .before .before .before .loop) .k)) (c .before .before .before .word .ensures .0))
-      ∙ sym (laid-more ((c .before .before .before .before .before .before .before .before) .args .i) ((c .before .before .before .before .before .before .loop) .k) ((c .before .before .before .before .before .before .before .before) .args .t3) ((c .before .before .before .before .before .before .loop) .out) (omega (arith, (c .before .before .before .before .before .before .loop) .inv .2)))
-      ∙ (c .before .before .before .before .before .before .loop) .inv .4,
-)
+loop-again c =
+    let c6 = c .before .before .before .before .before .before in let c8 = c6 .before .before in (
+      (c6 .loop) .inv .0,
+      omega arith,
+      (c6 .loop) .inv .2,
+      ap length (c .before .before .put-at .ensures) ∙ length-set (c6 .loop .out) (c8 .args .i + (c6 .loop) .k) (c .before .before .before .word .result) ∙ c6 .loop .inv .3,
+      ap (laid (c8 .args .i + (c6 .loop .k + 1)) (drop (c6 .loop .k + 1) (c8 .args .t3)))
+          ((c .before .before .put-at .ensures) ∙ ap (set (c6 .loop .out) (c8 .args .i + (c6 .loop) .k)) (c .before .before .before .word .ensures .0))
+          ∙ sym (laid-more (c8 .args .i) (c6 .loop .k) (c8 .args .t3) (c6 .loop .out) (omega (arith, c6 .loop .inv .2)))
+          ∙ c6 .loop .inv .4,
+    )
 
 same-length : tie.Need-same-length Inv-loop μ-loop
 same-length c = omega arith
 
 returns : tie.Need-returns Inv-loop μ-loop
-returns c = laid-all ((c .before .before .before) .args .i) ((c .before .loop) .k) ((c .before .before .before) .args .t3) ((c .before .loop) .out) (omega (arith, (c .before .loop) .inv .2)) ∙ (c .before .loop) .inv .4
+returns c =
+    laid-all (c .before .before .before .args .i) (c .before .loop .k) (c .before .before .before .args .t3) (c .before .loop .out) (omega (arith, c .before .loop .inv .2)) ∙ c .before .loop .inv .4
 
 pub put-from-spec : {M : Type 1} → statement M
 put-from-spec =
@@ -64,8 +60,8 @@ put-from-spec =
     loop-holds
     add-put-at
     array-read-word
-    word-requires
-    put-at-requires
+    (λ c κs. search needs)
+    (λ c κs. search needs)
     add-k
     loop-less
     loop-again

@@ -7,18 +7,6 @@ use Rattle.c_results.proofs.put_number.Statement.{statement}
 use Rattle.c_results.proofs.put_number.Tie as tie
 use Rattle.promises.specs.ForC.{placed}
 
-low-requires : tie.Need-low-requires
-low-requires c κs = search needs
-
-high-requires : tie.Need-high-requires
-high-requires c κs = search needs
-
-put-two-requires : tie.Need-put-two-requires
-put-two-requires c κs = search needs
-
-same-length : tie.Need-same-length
-same-length c = search needs
-
 returns : tie.Need-returns
 returns c = let a = (c .before .before .before .before .before .before .before) in
     (c .before .before .put-two .ensures)
@@ -26,4 +14,4 @@ returns c = let a = (c .before .before .before .before .before .before .before) 
     ∙ ap (λ (x : ℕ). placed (a .args .x % 4294967296 ∷ x ∷ []) (a .args .out .now)) (c .before .before .before .high .ensures)
 
 pub put-number-spec : {M : Type 1} → statement M
-put-number-spec = tie.close (tie.spec low-requires high-requires put-two-requires same-length returns)
+put-number-spec = tie.close (tie.spec (λ c κs. search needs) (λ c κs. search needs) (λ c κs. search needs) (λ c. search needs) returns)

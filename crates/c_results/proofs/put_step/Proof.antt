@@ -7,17 +7,10 @@ use Rattle.c_results.proofs.put_step.Statement.{statement}
 use Rattle.c_results.proofs.put_step.Tie as tie
 use Rattle.promises.specs.ForC.{placed}
 
-flag-requires : tie.Need-flag-requires
-flag-requires c κs = search needs
-
-put-before-requires : tie.Need-put-before-requires
-put-before-requires c κs = search needs
-
-same-length : tie.Need-same-length
-same-length c = search needs
-
 returns : tie.Need-returns
-returns c = (c .before .before .put-before .ensures) ∙ ap (λ (x : ℕ). placed (x ∷ (c .before .before .before .before .before .before) .args .values) ((c .before .before .before .before .before .before) .args .out .now)) (c .before .before .before .flag .ensures)
+returns c =
+    let c6 = c .before .before .before .before .before .before in
+    (c .before .before .put-before .ensures) ∙ ap (λ (x : ℕ). placed (x ∷ c6 .args .values) (c6 .args .out .now)) (c .before .before .before .flag .ensures)
 
 pub put-step-spec : {M : Type 1} → statement M
-put-step-spec = tie.close (tie.spec flag-requires put-before-requires same-length returns)
+put-step-spec = tie.close (tie.spec (λ c κs. search needs) (λ c κs. search needs) (λ c. search needs) returns)

@@ -6,19 +6,10 @@ use borrow.Author.Needs.{needs}
 use Rattle.c_results.proofs.put_two.Statement.{statement}
 use Rattle.c_results.proofs.put_two.Tie as tie
 
-put-at-requires : tie.Need-put-at-requires
-put-at-requires c κs = search needs
-
-put-at-requires-2 : tie.Need-put-at-requires-2
-put-at-requires-2 c κs = search needs
-
-same-length : tie.Need-same-length
-same-length c = search needs
-
 returns : tie.Need-returns
 returns c = let a = (c .before .before .before .before .before .before .before .before .before) in
     first-placed (a .args .out .now) (c .before .before .before .before .before .before .put-at .last .0) (c .before .before .put-at2 .last .0) (a .args .x) (a .args .x) (a .args .y ∷ [])
     (c .before .before .before .before .before .before .put-at .ensures) refl (c .before .before .put-at2 .ensures)
 
 pub put-two-spec : {M : Type 1} → statement M
-put-two-spec = tie.close (tie.spec put-at-requires put-at-requires-2 same-length returns)
+put-two-spec = tie.close (tie.spec (λ c κs. search needs) (λ c κs. search needs) (λ c. search needs) returns)

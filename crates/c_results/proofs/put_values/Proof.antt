@@ -5,14 +5,8 @@ use borrow.Author.Needs.{needs}
 use Rattle.c_results.proofs.put_values.Statement.{statement}
 use Rattle.c_results.proofs.put_values.Tie as tie
 
-put-from-requires : tie.Need-put-from-requires
-put-from-requires c κs = search needs
-
-same-length : tie.Need-same-length
-same-length c = search needs
-
 returns : tie.Need-returns
 returns c = (c .before .before .put-from .ensures) ∙ laid-placed ((c .before .before .before .before .before) .args .values) ((c .before .before .before .before .before) .args .out .now)
 
 pub put-values-spec : {M : Type 1} → statement M
-put-values-spec = tie.close (tie.spec put-from-requires same-length returns)
+put-values-spec = tie.close (tie.spec (λ c κs. search needs) (λ c. search needs) returns)

@@ -1,6 +1,6 @@
 -- `cost_amounts::cost_of` meets its contract: a word less the bias is its integer. Assumes nothing.
-use Rattle.cost_laws.proofs.Words.{fits-signed, signed-small, signed-word}
-use Rattle.cost_laws.proofs.Integers.{minus-rise, minus-fall}
+use Rattle.theory_costs.proofs.Words.{fits-signed, signed-small, signed-word}
+use Rattle.theory_costs.proofs.Integers.{minus-rise, minus-fall}
 use mir.Facts.{toZ-ofZ}
 use mir.Val.{SFits}
 use mir.Syntax.{w64}
@@ -21,9 +21,6 @@ fits c = fits-signed _ (omega (arith, minus-rise (pos (c .args .w)) (pos bias)))
 small : (c : lts.Start reads.Pre reads.Post) → c .args .w < 2 ^ 63
 small c = search needs
 
-cast-result : tie.Need-cast-result
-cast-result c = search needs
-
 sub-result : tie.Need-sub-result
 sub-result c = rw (signed-small (c .args .w) (small c)) (fits c)
 
@@ -31,4 +28,4 @@ returns : tie.Need-returns
 returns c = rw (signed-small (c .args .w) (small c)) (toZ-ofZ (fits c) ∙ signed-word (c .args .w))
 
 pub cost-of-spec : {M : Type 1} → statement M
-cost-of-spec = tie.close (tie.spec cast-result sub-result returns)
+cost-of-spec = tie.close (tie.spec (λ c. search needs) sub-result returns)

@@ -1,6 +1,6 @@
 -- `cost_amounts::word_of` meets its contract: a number and the bias are its word. Assumes nothing.
 use Rattle.cost_amounts.proofs.Signed.{biased, biased-fits, biased-word}
-use Rattle.cost_laws.proofs.Words.{int-word}
+use Rattle.theory_costs.proofs.Words.{int-word}
 use native.Mathlib.Omega.{arith}
 use mir.Facts.{toZ-ofZ}
 use Rattle.cost_amounts.proofs.word_of.Statement.{statement}

@@ -1,7 +1,7 @@
 -- `cost_collect::copy_target` and `copy_list` meet their contracts: a target word of a node goes to an earlier node, so the measures fall; the first v branches are copied (Packing). Assumes nothing.
 use Rattle.cost_collect.proofs.Copying.{Packing, good-small, moved-end, moved-index, packing-none, next-small, packing-more, packing-all}
-use Rattle.sweep.proofs.Framing.{few, known, size-small, value-small, still-good}
-use Rattle.sweep.proofs.Copying.{marked-small, done-small, moved-marked, spare-for, moved-new}
+use Rattle.table_sweep.proofs.Framing.{few, known, size-small, value-small, still-good}
+use Rattle.table_sweep.proofs.Copying.{marked-small, done-small, moved-marked, spare-for, moved-new}
 use Rattle.cost_words.proofs.Packing.{faithful}
 use lib.ListN.{getD-replicate}
 use native.Mathlib.Numerals.{add-one}
@@ -21,12 +21,12 @@ use Rattle.cost_collect.proofs.+copy_list+copy_target.Lts-copy_target a
 use Rattle.cost_words.proofs.adds_at.Reads as adds-at-reads
 use Rattle.cost_words.proofs.goes_to.Reads as goes-to-reads
 use Rattle.cost_words.proofs.pack.Reads as pack-reads
-use Rattle.sweep.proofs.add_copy.Reads as add-copy-reads
-use Rattle.words.proofs.size_word.Reads as size-word-reads
-use Rattle.words.proofs.bucket_word.Reads as bucket-word-reads
-use Rattle.words.proofs.narrow.Reads as narrow-reads
-use Rattle.words.proofs.record_word.Reads as record-word-reads
-use Rattle.words.proofs.wide.Reads as wide-reads
+use Rattle.table_sweep.proofs.add_copy.Reads as add-copy-reads
+use Rattle.table_words.proofs.size_word.Reads as size-word-reads
+use Rattle.table_words.proofs.bucket_word.Reads as bucket-word-reads
+use Rattle.table_words.proofs.narrow.Reads as narrow-reads
+use Rattle.table_words.proofs.record_word.Reads as record-word-reads
+use Rattle.table_words.proofs.wide.Reads as wide-reads
 use Rattle.cost_collect.proofs.+copy_list+copy_target.{statement}
 use Rattle.cost_collect.proofs.+copy_list+copy_target.Tie.{close}
 use Rattle.promises.specs.Words.{size, feature}
@@ -59,22 +59,44 @@ abbrev copy-list-μ-loop : copy-list-lts.MeasureT-loop
 copy-list-μ-loop t₀ i m to₀ adds₀ v₀ t to adds v = m - v
 
 abbrev copy-list-claims : ℕ → copy-list-lts.Claims
-copy-list-claims t = (record-word-reads.Asked, record-word-reads.Learnt, wide-reads.Asked, wide-reads.Learnt, size-word-reads.Asked, size-word-reads.Learnt, goes-to-reads.Asked, goes-to-reads.Learnt, adds-at-reads.Asked, adds-at-reads.Learnt, copy-target-below t, copy-target.Post, pack-reads.Asked, pack-reads.Learnt)
+copy-list-claims t = (
+  record-word-reads.Asked,
+  record-word-reads.Learnt,
+  wide-reads.Asked,
+  wide-reads.Learnt,
+  size-word-reads.Asked,
+  size-word-reads.Learnt,
+  goes-to-reads.Asked,
+  goes-to-reads.Learnt,
+  adds-at-reads.Asked,
+  adds-at-reads.Learnt,
+  copy-target-below t,
+  copy-target.Post,
+  pack-reads.Asked,
+  pack-reads.Learnt,
+)
 
 abbrev copy-target-claims : ℕ → copy-target-lts.Claims
-copy-target-claims t = (wide-reads.Asked, wide-reads.Learnt, bucket-word-reads.Asked, bucket-word-reads.Learnt, copy-list-below t, copy-list.Post, add-copy-reads.Asked, add-copy-reads.Learnt, narrow-reads.Asked, narrow-reads.Learnt)
+copy-target-claims t = (
+  wide-reads.Asked,
+  wide-reads.Learnt,
+  bucket-word-reads.Asked,
+  bucket-word-reads.Learnt,
+  copy-list-below t,
+  copy-list.Post,
+  add-copy-reads.Asked,
+  add-copy-reads.Learnt,
+  narrow-reads.Asked,
+  narrow-reads.Learnt,
+)
 
 copy-list-record-word-requires : (t : ℕ) → copy-list-lts.Need-record-word-requires (copy-list-claims t) (copy-list-at t) copy-list.Post copy-list-Inv-loop copy-list-μ-loop
 copy-list-record-word-requires t c κs = let r = (c .before .before) .pre .1 .0 in (omega (arith, r .framed .room, r .framed .within), omega (arith, r .framed .most, r .framed .within), omega arith)
 
-copy-list-wide-requires : (t : ℕ) → copy-list-lts.Need-wide-requires (copy-list-claims t) (copy-list-at t) copy-list.Post copy-list-Inv-loop copy-list-μ-loop
-copy-list-wide-requires t c κs = search needs
-
 copy-list-size-word-requires : (t : ℕ) → copy-list-lts.Need-size-word-requires (copy-list-claims t) (copy-list-at t) copy-list.Post copy-list-Inv-loop copy-list-μ-loop
-copy-list-size-word-requires t c κs = let a = (c .before .before .before .before) in let k = known (a .pre .1 .0 .framed) (a .args .i) (a .pre .1 .1) in omega (arith, few (a .pre .1 .0 .framed), a .pre .1 .0 .framed .room)
-
-copy-list-wide-requires-2 : (t : ℕ) → copy-list-lts.Need-wide-requires-2 (copy-list-claims t) (copy-list-at t) copy-list.Post copy-list-Inv-loop copy-list-μ-loop
-copy-list-wide-requires-2 t c κs = search needs
+copy-list-size-word-requires t c κs =
+    let a = c .before .before .before .before in
+    let k = known (a .pre .1 .0 .framed) (a .args .i) (a .pre .1 .1) in omega (arith, few (a .pre .1 .0 .framed), a .pre .1 .0 .framed .room)
 
 copy-list-loop-holds : (t : ℕ) → copy-list-lts.Need-loop-holds (copy-list-claims t) (copy-list-at t) copy-list.Post copy-list-Inv-loop copy-list-μ-loop
 copy-list-loop-holds t c = let a = (c .before .before .before .before .before .before) in (
@@ -93,43 +115,41 @@ copy-list-adds-at-requires t c κs = let a = (c .before .before .before .before 
     let f = a .pre .1 .0 .framed in
     (omega (arith, f .room, f .within, l .inv .2 .turning .still .steady .long), omega (arith, f .most, f .within), value-small f (a .args .i) (l .v) (a .pre .1 .1) (omega arith))
 
-copy-list-mul-adds : (t : ℕ) → copy-list-lts.Need-mul-adds (copy-list-claims t) (copy-list-at t) copy-list.Post copy-list-Inv-loop copy-list-μ-loop
-copy-list-mul-adds t c = search needs
-
 copy-list-array-write-adds : (t : ℕ) → copy-list-lts.Need-array-write-adds (copy-list-claims t) (copy-list-at t) copy-list.Post copy-list-Inv-loop copy-list-μ-loop
-copy-list-array-write-adds t c = let a = (c .before .before .before .before .before .before .before .before .before .before .before .before) in let l = (c .before .before .before .before .before .loop) in omega (arith, value-small (a .pre .1 .0 .framed) (a .args .i) (l .v) (a .pre .1 .1) (omega arith), l .inv .2 .all)
+copy-list-array-write-adds t c =
+    let a = c .before .before .before .before .before .before .before .before .before .before .before .before in
+    let l = c .before .before .before .before .before .loop in omega (arith, value-small (a .pre .1 .0 .framed) (a .args .i) (l .v) (a .pre .1 .1) (omega arith), l .inv .2 .all)
 
 copy-list-copy-target-requires : (t : ℕ) → copy-list-lts.Need-copy-target-requires (copy-list-claims t) (copy-list-at t) copy-list.Post copy-list-Inv-loop copy-list-μ-loop
-copy-list-copy-target-requires t c κs = let a = (c .before .before .before .before .before .before .before .before .before .before .before .before .before) in let l = (c .before .before .before .before .before .before .loop) in
+copy-list-copy-target-requires t c κs =
+    let c6 = c .before .before .before .before .before .before in let a = c6 .before .before .before .before .before .before .before in
+    let l = c6 .loop in
     let hv : l .v < size (a .args .t .now) (feature (a .args .t .now) (a .args .i)) = omega arith in (
-      omega (arith, (c .before .before .before .goes-to) .ensures, next-small (a .pre .1 .0) (a .pre .1 .1) hv (l .inv .2)),
-      (l .inv .2 .turning .still .ready, rw ((c .before .before .before .goes-to) .ensures) (still-good faithful (a .pre .1 .0 .framed) (l .inv .2 .turning .still .steady) (a .args .i) (l .v) (a .pre .1 .1) hv)),
+      omega (arith, c .before .before .before .goes-to .ensures, next-small (a .pre .1 .0) (a .pre .1 .1) hv (l .inv .2)),
+      (
+        l .inv .2 .turning .still .ready,
+        rw (c .before .before .before .goes-to .ensures)
+            (still-good faithful (a .pre .1 .0 .framed) (l .inv .2 .turning .still .steady) (a .args .i) (l .v) (a .pre .1 .1) hv),
+      ),
     )
 
-copy-list-mul-to : (t : ℕ) → copy-list-lts.Need-mul-to (copy-list-claims t) (copy-list-at t) copy-list.Post copy-list-Inv-loop copy-list-μ-loop
-copy-list-mul-to t c = search needs
-
 copy-list-array-write-to : (t : ℕ) → copy-list-lts.Need-array-write-to (copy-list-claims t) (copy-list-at t) copy-list.Post copy-list-Inv-loop copy-list-μ-loop
-copy-list-array-write-to t c = let a = (c .before .before .before .before .before .before .before .before .before .before .before .before .before .before .before .before) in let l = (c .before .before .before .before .before .before .before .before .before .loop) in omega (arith, value-small (a .pre .1 .0 .framed) (a .args .i) (l .v) (a .pre .1 .1) (omega arith), l .inv .2 .many)
-
-copy-list-add-v : (t : ℕ) → copy-list-lts.Need-add-v (copy-list-claims t) (copy-list-at t) copy-list.Post copy-list-Inv-loop copy-list-μ-loop
-copy-list-add-v t c = search needs
-
-copy-list-loop-less : (t : ℕ) → copy-list-lts.Need-loop-less (copy-list-claims t) (copy-list-at t) copy-list.Post copy-list-Inv-loop copy-list-μ-loop
-copy-list-loop-less t c = search needs
+copy-list-array-write-to t c = let a = c .before .before .before .before .before .before .before .before .before .before .before .before .before .before .before .before in
+    let l = c .before .before .before .before .before .before .before .before .before .loop in
+    omega (arith, value-small (a .pre .1 .0 .framed) (a .args .i) (l .v) (a .pre .1 .1) (omega arith), l .inv .2 .many)
 
 copy-list-loop-again : (t : ℕ) → copy-list-lts.Need-loop-again (copy-list-claims t) (copy-list-at t) copy-list.Post copy-list-Inv-loop copy-list-μ-loop
-copy-list-loop-again t c = let a = (c .before .before .before .before .before .before .before .before .before .before .before .before .before .before .before .before) in let l = (c .before .before .before .before .before .before .before .before .before .loop) in (
-  l .inv .0,
-  omega arith,
-  rw add-one (packing-more (a .pre .1 .0) (a .pre .1 .1) (omega arith) (l .inv .2) _ _ _ ((c .before .before .before .before .before .before .goes-to) .ensures) ((c .before .before .before .before .adds-at) .ensures) ((c .before .before .copy-target) .ensures .0) ((c .before .before .copy-target) .ensures .1)),
-)
+copy-list-loop-again t c =
+    let c6 = c .before .before .before .before .before .before in let c9 = c6 .before .before .before in let a = c9 .before .before .before .before .before .before .before in
+    let l = c9 .loop in (
+      l .inv .0,
+      omega arith,
+      rw add-one (packing-more (a .pre .1 .0) (a .pre .1 .1) (omega arith) (l .inv .2) _ _ _ (c6 .goes-to .ensures) (c .before .before .before .before .adds-at .ensures)
+          (c .before .before .copy-target .ensures .0) (c .before .before .copy-target .ensures .1)),
+    )
 
 copy-list-pack-requires : (t : ℕ) → copy-list-lts.Need-pack-requires (copy-list-claims t) (copy-list-at t) copy-list.Post copy-list-Inv-loop copy-list-μ-loop
 copy-list-pack-requires t c κs = (c .before .loop) .inv .2 .small
-
-copy-list-same-length : (t : ℕ) → copy-list-lts.Need-same-length (copy-list-claims t) (copy-list-at t) copy-list.Post copy-list-Inv-loop copy-list-μ-loop
-copy-list-same-length t c = search needs
 
 copy-list-returns : (t : ℕ) → copy-list-lts.Need-returns (copy-list-claims t) (copy-list-at t) copy-list.Post copy-list-Inv-loop copy-list-μ-loop
 copy-list-returns t c = let a = (c .before .before .before .before .before .before .before .before .before) in let l = (c .before .before .loop) in
@@ -139,19 +159,10 @@ copy-list-returns t c = let a = (c .before .before .before .before .before .befo
 copy-target-returns : (t : ℕ) → copy-target-lts.Need-returns (copy-target-claims t) (copy-target-at t) copy-target.Post
 copy-target-returns t c = (moved-end ((c .before .before) .pre .1 .0) ((c .if1) .taken), omega arith)
 
-copy-target-sub-wide : (t : ℕ) → copy-target-lts.Need-sub-wide (copy-target-claims t) (copy-target-at t) copy-target.Post
-copy-target-sub-wide t c = search needs
-
-copy-target-wide-requires : (t : ℕ) → copy-target-lts.Need-wide-requires (copy-target-claims t) (copy-target-at t) copy-target.Post
-copy-target-wide-requires t c κs = search needs
-
 copy-target-bucket-word-requires : (t : ℕ) → copy-target-lts.Need-bucket-word-requires (copy-target-claims t) (copy-target-at t) copy-target.Post
 copy-target-bucket-word-requires t c κs = let a = (c .before .before .before .before) in
     let g = good-small (a .args .t .now) (a .args .x) (a .pre .1 .1) in
     omega (arith, a .pre .1 .0 .framed .room, a .pre .1 .0 .framed .within, a .pre .1 .0 .framed .most)
-
-copy-target-same-length : (t : ℕ) → copy-target-lts.Need-same-length (copy-target-claims t) (copy-target-at t) copy-target.Post
-copy-target-same-length t c = search needs
 
 copy-target-returns-2 : (t : ℕ) → copy-target-lts.Need-returns-2 (copy-target-claims t) (copy-target-at t) copy-target.Post
 copy-target-returns-2 t c = let a = (c .before .before .before .before .before .before) in
@@ -174,30 +185,31 @@ copy-target-add-copy-requires t c κs = let a = (c .before .before .before .befo
     spare-for faithful (a .pre .1 .0) (omega arith) (sym ((c .before .before .before .before .before .before .bucket-word) .ensures) ∙ z) ((c .before .before .before .copy-list) .ensures)
 
 copy-target-narrow-requires : (t : ℕ) → copy-target-lts.Need-narrow-requires (copy-target-claims t) (copy-target-at t) copy-target.Post
-copy-target-narrow-requires t c κs = let a = (c .before .before .before .before .before .before .before .before .before .before .before .before .before .before) in
+copy-target-narrow-requires t c κs =
+    let c6 = c .before .before .before .before .before .before in let c9 = c6 .before .before .before in let a = c9 .before .before .before .before .before in
     let g = good-small (a .args .t .now) (a .args .x) (a .pre .1 .1) in
-    let z : (c .before .before .before .before .before .before .before .before .before .bucket-word) .result ≡ 0 = omega arith in
-    let s = spare-for faithful (a .pre .1 .0) (omega arith) (sym ((c .before .before .before .before .before .before .before .before .before .bucket-word) .ensures) ∙ z) ((c .before .before .before .before .before .before .copy-list) .ensures) in
-    omega (arith, s .free, s .most, (c .before .before .add-copy) .ensures .0)
+    let z : (c9 .bucket-word) .result ≡ 0 = omega arith in
+    let s = spare-for faithful (a .pre .1 .0) (omega arith) (sym (c9 .bucket-word .ensures) ∙ z) (c6 .copy-list .ensures) in
+    omega (arith, s .free, s .most, c .before .before .add-copy .ensures .0)
 
 copy-target-add-result : (t : ℕ) → copy-target-lts.Need-add-result (copy-target-claims t) (copy-target-at t) copy-target.Post
-copy-target-add-result t c = let a = (c .before .before .before .before .before .before .before .before .before .before .before .before .before .before .before) in
+copy-target-add-result t c =
+    let c7 = c .before .before .before .before .before .before .before in let c10 = c7 .before .before .before in let a = c10 .before .before .before .before .before in
     let g = good-small (a .args .t .now) (a .args .x) (a .pre .1 .1) in
-    let z : (c .before .before .before .before .before .before .before .before .before .before .bucket-word) .result ≡ 0 = omega arith in
-    let s = spare-for faithful (a .pre .1 .0) (omega arith) (sym ((c .before .before .before .before .before .before .before .before .before .before .bucket-word) .ensures) ∙ z) ((c .before .before .before .before .before .before .before .copy-list) .ensures) in
-    omega (arith, s .free, s .most, (c .before .before .before .add-copy) .ensures .0, (c .narrow) .ensures)
-
-copy-target-same-length-2 : (t : ℕ) → copy-target-lts.Need-same-length-2 (copy-target-claims t) (copy-target-at t) copy-target.Post
-copy-target-same-length-2 t c = search needs
+    let z : (c10 .bucket-word) .result ≡ 0 = omega arith in
+    let s = spare-for faithful (a .pre .1 .0) (omega arith) (sym (c10 .bucket-word .ensures) ∙ z) (c7 .copy-list .ensures) in
+    omega (arith, s .free, s .most, c .before .before .before .add-copy .ensures .0, c .narrow .ensures)
 
 copy-target-returns-3 : (t : ℕ) → copy-target-lts.Need-returns-3 (copy-target-claims t) (copy-target-at t) copy-target.Post
-copy-target-returns-3 t c = let a = (c .before .before .before .before .before .before .before .before .before .before .before .before .before .before .before) in
+copy-target-returns-3 t c =
+    let c7 = c .before .before .before .before .before .before .before in let c10 = c7 .before .before .before in let a = c10 .before .before .before .before .before in
     let g = good-small (a .args .t .now) (a .args .x) (a .pre .1 .1) in
-    let z : (c .before .before .before .before .before .before .before .before .before .before .bucket-word) .result ≡ 0 = omega arith in
-    let h = sym ((c .before .before .before .before .before .before .before .before .before .before .bucket-word) .ensures) ∙ z in
-    let s = spare-for faithful (a .pre .1 .0) (omega arith) h ((c .before .before .before .before .before .before .before .copy-list) .ensures) in (
-      moved-index _ _ _ _ (omega arith) (omega (arith, (c .narrow) .ensures, (c .before .before .before .add-copy) .ensures .0)) (moved-new faithful (a .pre .1 .0) (omega arith) h ((c .before .before .before .before .before .before .before .copy-list) .ensures) ((c .before .before .before .add-copy) .ensures .1)),
-      omega (arith, s .free, s .most, (c .before .before .before .add-copy) .ensures .0, (c .narrow) .ensures),
+    let z : (c10 .bucket-word) .result ≡ 0 = omega arith in
+    let h = sym (c10 .bucket-word .ensures) ∙ z in
+    let s = spare-for faithful (a .pre .1 .0) (omega arith) h (c7 .copy-list .ensures) in (
+      moved-index _ _ _ _ (omega arith) (omega (arith, c .narrow .ensures, c .before .before .before .add-copy .ensures .0))
+          (moved-new faithful (a .pre .1 .0) (omega arith) h (c7 .copy-list .ensures) (c .before .before .before .add-copy .ensures .1)),
+      omega (arith, s .free, s .most, c .before .before .before .add-copy .ensures .0, c .narrow .ensures),
     )
 
 pub +copy-list+copy-target-spec : {M : Type 1} → statement M
@@ -207,35 +219,35 @@ pub +copy-list+copy-target-spec : {M : Type 1} → statement M
     copy-list-Inv-loop
     copy-list-μ-loop
     (copy-list-record-word-requires t)
-    (copy-list-wide-requires t)
+    (λ c κs. search needs)
     (copy-list-size-word-requires t)
-    (copy-list-wide-requires-2 t)
+    (λ c κs. search needs)
     (copy-list-loop-holds t)
     (copy-list-goes-to-requires t)
     (copy-list-adds-at-requires t)
-    (copy-list-mul-adds t)
+    (λ c. search needs)
     (copy-list-array-write-adds t)
     (copy-list-copy-target-requires t)
-    (copy-list-mul-to t)
+    (λ c. search needs)
     (copy-list-array-write-to t)
-    (copy-list-add-v t)
-    (copy-list-loop-less t)
+    (λ c. search needs)
+    (λ c. search needs)
     (copy-list-loop-again t)
     (copy-list-pack-requires t)
-    (copy-list-same-length t)
+    (λ c. search needs)
     (copy-list-returns t))
     λ t. copy-target-lts.spec (copy-target-claims t)
     (copy-target-at t)
     copy-target.Post
     (copy-target-returns t)
-    (copy-target-sub-wide t)
-    (copy-target-wide-requires t)
+    (λ c. search needs)
+    (λ c κs. search needs)
     (copy-target-bucket-word-requires t)
-    (copy-target-same-length t)
+    (λ c. search needs)
     (copy-target-returns-2 t)
     (copy-target-copy-list-requires t)
     (copy-target-add-copy-requires t)
     (copy-target-narrow-requires t)
     (copy-target-add-result t)
-    (copy-target-same-length-2 t)
+    (λ c. search needs)
     (copy-target-returns-3 t)

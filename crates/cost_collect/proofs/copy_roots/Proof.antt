@@ -1,5 +1,5 @@
 -- `cost_collect::copy_roots` meets its contract: the first p roots are copied and set (Rooting). Assumes nothing.
-use Rattle.sweep.proofs.Placing.{Rooting, rooting-none, rooting-all, rooting-good}
+use Rattle.table_sweep.proofs.Placing.{Rooting, rooting-none, rooting-all, rooting-good}
 use Rattle.cost_collect.specs.Tidy.{form}
 use Rattle.cost_collect.proofs.Forming.{regular, rooting-next}
 use native.Mathlib.Numerals.{add-one}
@@ -23,26 +23,18 @@ root-word-requires : tie.Need-root-word-requires Inv-loop μ-loop
 root-word-requires c κs = let l = (c .before .before .loop) in (omega (arith, l .inv .1 .ready .framed .room), omega arith)
 
 copy-target-requires : tie.Need-copy-target-requires Inv-loop μ-loop
-copy-target-requires c κs = let l = (c .before .before .before .before .loop) in (l .inv .1 .ready, rw ((c .before .root-word) .ensures) (rooting-good regular ((c .before .before .before .before .before .before) .pre) (l .inv .1) (omega arith)))
-
-add-t : tie.Need-add-t Inv-loop μ-loop
-add-t c = search needs
-
-mul-t : tie.Need-mul-t Inv-loop μ-loop
-mul-t c = search needs
+copy-target-requires c κs =
+    let c6 = c .before .before .before .before .before .before in
+    let l = c .before .before .before .before .loop in (l .inv .1 .ready, rw (c .before .root-word .ensures) (rooting-good regular (c6 .pre) (l .inv .1) (omega arith)))
 
 slice-write-t : tie.Need-slice-write-t Inv-loop μ-loop
 slice-write-t c = let m = (c .before .before .copy-target) .ensures .0 in omega (arith, m .still .ready .framed .room)
 
-add-p : tie.Need-add-p Inv-loop μ-loop
-add-p c = search needs
-
-loop-less : tie.Need-loop-less Inv-loop μ-loop
-loop-less c = search needs
-
 loop-again : tie.Need-loop-again Inv-loop μ-loop
-loop-again c = let l = (c .before .before .before .before .before .before .before .loop) in
-    (omega arith, rw add-one (rooting-next _ _ ((c .before .before .before .before .before .before .before .before .before) .pre) (l .inv .1) (omega arith) ((c .before .before .before .before .root-word) .ensures) ((c .before .before .copy-target) .ensures .0)))
+loop-again c =
+    let c7 = c .before .before .before .before .before .before .before in let c9 = c7 .before .before in
+    let l = c7 .loop in
+    (omega arith, rw add-one (rooting-next _ _ (c9 .pre) (l .inv .1) (omega arith) (c .before .before .before .before .root-word .ensures) (c .before .before .copy-target .ensures .0)))
 
 same-length : tie.Need-same-length Inv-loop μ-loop
 same-length c = (c .before .loop) .inv .1 .steady .long
@@ -59,11 +51,11 @@ copy-roots-spec =
     loop-holds
     root-word-requires
     copy-target-requires
-    add-t
-    mul-t
+    (λ c. search needs)
+    (λ c. search needs)
     slice-write-t
-    add-p
-    loop-less
+    (λ c. search needs)
+    (λ c. search needs)
     loop-again
     same-length
     returns)

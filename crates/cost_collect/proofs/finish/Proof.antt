@@ -1,5 +1,5 @@
 -- `cost_collect::finish` meets its contract: with the place set the table is untidy, and tidied it is the picture with one cost replaced. Assumes nothing.
-use Rattle.sweep.proofs.Finishing.{finished}
+use Rattle.table_sweep.proofs.Finishing.{finished}
 use Rattle.cost_collect.proofs.Forming.{regular, both-placed, placed-again}
 use native.Mathlib.Omega.{arith}
 use lib.ListN.{length-set}
@@ -8,20 +8,8 @@ use borrow.Author.Needs.{needs}
 use Rattle.cost_collect.proofs.finish.Statement.{statement}
 use Rattle.cost_collect.proofs.finish.Tie as tie
 
-add-t : tie.Need-add-t
-add-t c = search needs
-
-mul-t : tie.Need-mul-t
-mul-t c = search needs
-
 slice-write-t : tie.Need-slice-write-t
 slice-write-t c = let a = (c .before) in omega (arith, a .pre .0 .untidy .room)
-
-add-t-2 : tie.Need-add-t-2
-add-t-2 c = search needs
-
-mul-t-2 : tie.Need-mul-t-2
-mul-t-2 c = search needs
 
 slice-write-t-2 : tie.Need-slice-write-t-2
 slice-write-t-2 c = let a = (c .before) in simp length-set (omega (arith, a .pre .0 .untidy .room))
@@ -38,4 +26,4 @@ returns c = let a = (c .before .before .before .before .before) in
     finished regular (a .pre .0 .untidy) (a .pre .1) (both-placed _ (a .args .p) (a .args .x) (a .args .a) (a .pre .1) (omega (arith, a .pre .0 .untidy .room))) _ ((c .before .before .tidy) .ensures)
 
 pub finish-spec : {M : Type 1} → statement M
-finish-spec = tie.close (tie.spec add-t mul-t slice-write-t add-t-2 mul-t-2 slice-write-t-2 tidy-requires same-length returns)
+finish-spec = tie.close (tie.spec (λ c. search needs) (λ c. search needs) slice-write-t (λ c. search needs) (λ c. search needs) slice-write-t-2 tidy-requires same-length returns)

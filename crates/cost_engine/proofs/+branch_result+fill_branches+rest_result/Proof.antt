@@ -1,4 +1,5 @@
--- `cost_engine::rest_result`, `fill_branches` and `branch_result` meet their contracts: the remaining features fall; the first v branches are filled, and the memory is right for the table so far. Assumes nothing.
+-- `cost_engine::rest_result`, `fill_branches` and `branch_result` meet their contracts: the remaining features fall; the first v branches are filled, and the memory is right for
+-- the table so far. Assumes nothing.
 use Rattle.cost_memory.proofs.Remembering.{hit}
 use mathlib.Core.Path.{_≡_, refl, sym, subst, _∙_}
 use mathlib.Core.List.{List}
@@ -7,21 +8,22 @@ use native.Mathlib.Omega.{arith}
 use lib.IntN.{ℤ}
 use lib.ListN.{length, getD-replicate}
 use Rattle.theory.specs.Costs.{Cost}
-use Rattle.words.proofs.Words.{kept-features, kept-size}
-use Rattle.notes.specs.Plain.{plain}
-use Rattle.notes.proofs.Plain.{length-plain}
+use Rattle.table_words.proofs.Words.{kept-features, kept-size}
+use Rattle.table_notes.specs.Plain.{plain}
+use Rattle.table_notes.proofs.Plain.{length-plain}
 use Rattle.cost_nodes.specs.Nodes.{Filling, Result}
 use Rattle.cost_nodes.specs.declared.Answer.the-variants.{Is}
 use Rattle.cost_nodes.proofs.Reading.{holds-passed}
 use Rattle.cost_nodes.proofs.Filling.{gives-is, gives-none, fill-start, fill-more, fill-stop, stop-result, fill-armed, fill-near, fill-sums, filling-narrow, fill-make, filled, not-filled, filling-ext}
 use Rattle.cost_nodes.proofs.Stepping.{good-small}
-use Rattle.notes.specs.Far.{memory}
+use Rattle.table_notes.specs.Far.{memory}
 use Rattle.cost_notes.proofs.Remembering.{noted-stored}
 use Rattle.cost_notes.proofs.Reading.{plain-head}
 use Rattle.cost_engine.specs.Joint.{jointFrom, Operands}
 use Rattle.cost_engine.specs.Memory.{Noted}
 use Rattle.cost_engine.proofs.Recalling.{recalled-result, result-recalled, right-here, noted-made, still, still-if}
-use Rattle.cost_engine.proofs.Walking.{first-place, second-place, operands-more, operands-end, at-gap, still-left, skip-left, operands-skip, joint-skip, operands-step, joint-held, operands-ext, joint-ends, sum-fits, joint-raised, joint-stopped}
+use Rattle.cost_engine.proofs.Walking.{first-place, second-place, operands-more, operands-end, at-gap, still-left, skip-left, operands-skip, joint-skip, operands-step}
+use Rattle.cost_engine.proofs.Walking.{joint-held, operands-ext, joint-ends, sum-fits, joint-raised, joint-stopped}
 use native.Mathlib.Nat.{le-refl}
 use borrow.Author.Needs.{needs}
 use borrow.Fn.Kinds.{In}
@@ -44,10 +46,10 @@ use Rattle.cost_notes.proofs.remember_in.Reads as remember-in-reads
 use Rattle.cost_notes.proofs.arm_in.Reads as arm-in-reads
 use Rattle.cost_notes.proofs.make_in.Reads as make-in-reads
 use Rattle.cost_words.proofs.sum_word.Reads as sum-word-reads
-use Rattle.words.proofs.size_word.Reads as size-word-reads
+use Rattle.table_words.proofs.size_word.Reads as size-word-reads
 use Rattle.cost_engine.proofs.operators.number_of.Reads as number-of-reads
-use Rattle.words.proofs.narrow.Reads as narrow-reads
-use Rattle.words.proofs.wide.Reads as wide-reads
+use Rattle.table_words.proofs.narrow.Reads as narrow-reads
+use Rattle.table_words.proofs.wide.Reads as wide-reads
 use Rattle.cost_engine.proofs.+branch_result+fill_branches+rest_result.{statement}
 use Rattle.cost_engine.proofs.+branch_result+fill_branches+rest_result.Tie.{close}
 use Rattle.promises.specs.Integers.{int}
@@ -96,74 +98,97 @@ rest-result-below t =
     and 2 rest-result-kinds.ps (falls 2 rest-result-kinds.ps _<_ μ-rest-result t) rest-result.Pre
 
 abbrev branch-result-claims : ℕ → branch-result-lts.Claims
-branch-result-claims t = (gap-word-reads.Asked, gap-word-reads.Learnt, rest-result-below t, rest-result.Post, ahead-word-reads.Asked, ahead-word-reads.Learnt, sum-word-reads.Asked, sum-word-reads.Learnt)
+branch-result-claims t = (
+  gap-word-reads.Asked,
+  gap-word-reads.Learnt,
+  rest-result-below t,
+  rest-result.Post,
+  ahead-word-reads.Asked,
+  ahead-word-reads.Learnt,
+  sum-word-reads.Asked,
+  sum-word-reads.Learnt,
+)
 
 abbrev fill-branches-claims : ℕ → fill-branches-lts.Claims
 fill-branches-claims t = (size-word-reads.Asked, size-word-reads.Learnt, wide-reads.Asked, wide-reads.Learnt, arm-in-reads.Asked, arm-in-reads.Learnt, branch-result-below t, branch-result.Post)
 
 abbrev rest-result-claims : ℕ → rest-result-lts.Claims
-rest-result-claims t = (end-word-reads.Asked, end-word-reads.Learnt, lowest-reads.Asked, lowest-reads.Learnt, rest-result-below t, rest-result.Post, number-of-reads.Asked, number-of-reads.Learnt, narrow-reads.Asked, narrow-reads.Learnt, recall-in-reads.Asked, recall-in-reads.Learnt, fill-branches-below t, fill-branches.Post, make-in-reads.Asked, make-in-reads.Learnt, remember-in-reads.Asked, remember-in-reads.Learnt)
+rest-result-claims t = (
+  end-word-reads.Asked,
+  end-word-reads.Learnt,
+  lowest-reads.Asked,
+  lowest-reads.Learnt,
+  rest-result-below t,
+  rest-result.Post,
+  number-of-reads.Asked,
+  number-of-reads.Learnt,
+  narrow-reads.Asked,
+  narrow-reads.Learnt,
+  recall-in-reads.Asked,
+  recall-in-reads.Learnt,
+  fill-branches-below t,
+  fill-branches.Post,
+  make-in-reads.Asked,
+  make-in-reads.Learnt,
+  remember-in-reads.Asked,
+  remember-in-reads.Learnt,
+)
 
 branch-result-gap-word-requires : (t : ℕ) → branch-result-lts.Need-gap-word-requires (branch-result-claims t) (branch-result-at t) branch-result.Post
 branch-result-gap-word-requires t c κs = operands-more _ _ _ _ _ _ ((c .before .before) .pre .1 .0 .rest)
 
 branch-result-rest-result-requires : (t : ℕ) → branch-result-lts.Need-rest-result-requires (branch-result-claims t) (branch-result-at t) branch-result.Post
-branch-result-rest-result-requires t c κs = let a = (c .before .before .before .before .before) in
-    (omega arith, (subst (λ (z : ℤ). Operands (plain (a .args .t .now)) (a .args .o) (a .args .k) (a .args .a .to) (a .args .b .to) z) (sym ((c .before .before .gap-word) .ensures)) (a .pre .1 .0 .rest), a .pre .1 .1))
-
-branch-result-enum-known-z : (t : ℕ) → branch-result-lts.Need-enum-known-z (branch-result-claims t) (branch-result-at t) branch-result.Post
-branch-result-enum-known-z t c = search needs
-
-branch-result-enum-told : (t : ℕ) → branch-result-lts.Need-enum-told (branch-result-claims t) (branch-result-at t) branch-result.Post
-branch-result-enum-told t c = search needs
-
-branch-result-same-length : (t : ℕ) → branch-result-lts.Need-same-length (branch-result-claims t) (branch-result-at t) branch-result.Post
-branch-result-same-length t c = search needs
-
-branch-result-same-length-2 : (t : ℕ) → branch-result-lts.Need-same-length-2 (branch-result-claims t) (branch-result-at t) branch-result.Post
-branch-result-same-length-2 t c = search needs
+branch-result-rest-result-requires t c κs =
+    let a = c .before .before .before .before .before in (
+      omega arith,
+      (
+        subst (λ (z : ℤ). Operands (plain (a .args .t .now)) (a .args .o) (a .args .k) (a .args .a .to) (a .args .b .to) z)
+            (sym (c .before .before .gap-word .ensures)) (a .pre .1 .0 .rest),
+        a .pre .1 .1,
+      ),
+    )
 
 branch-result-returns : (t : ℕ) → branch-result-lts.Need-returns (branch-result-claims t) (branch-result-at t) branch-result.Post
-branch-result-returns t c = let a = (c .before .before .before .before .before .before .before .before .before .before .before .before) in
-    let r = at-gap (plain (a .args .t .now)) _ _ _ _ _ _ _ ((c .before .before .before .before .before .before .rest-result) .result) ((c .before .before .before .before .before .before .before .before .before .gap-word) .ensures) ((c .before .before .before .before .before .before .rest-result) .ensures .0) in
-    (joint-stopped (plain (a .args .t .now)) _ _ _ _ _ _ _ (a .pre .1 .0) _ (gives-none ((c .enum-told) .given .1) r), tt)
+branch-result-returns t c =
+    let c6 = c .before .before .before .before .before .before in let c9 = c6 .before .before .before in let a = c9 .before .before .before in
+    let r = at-gap (plain (a .args .t .now)) _ _ _ _ _ _ _ (c6 .rest-result .result) (c9 .gap-word .ensures) (c6 .rest-result .ensures .0) in
+    (joint-stopped (plain (a .args .t .now)) _ _ _ _ _ _ _ (a .pre .1 .0) _ (gives-none (c .enum-told .given .1) r), tt)
 
 branch-result-ahead-word-requires : (t : ℕ) → branch-result-lts.Need-ahead-word-requires (branch-result-claims t) (branch-result-at t) branch-result.Post
 branch-result-ahead-word-requires t c κs = (c .before .before .before .before .before .before .before .before .before .before .before .before .before) .pre .1 .0 .lead
 
 branch-result-sum-word-requires : (t : ℕ) → branch-result-lts.Need-sum-word-requires (branch-result-claims t) (branch-result-at t) branch-result.Post
-branch-result-sum-word-requires t c κs = let a = (c .before .before .before .before .before .before .before .before .before .before .before .before .before .before) in
-    let r = at-gap (plain (a .args .t .now)) _ _ _ _ _ _ _ ((c .before .before .before .before .before .before .before .before .rest-result) .result) ((c .before .before .before .before .before .before .before .before .before .before .before .gap-word) .ensures) ((c .before .before .before .before .before .before .before .before .rest-result) .ensures .0) in
-    sum-fits (plain (a .args .t .now)) _ _ _ _ _ _ _ (a .pre .1 .0) _ ((c .ahead-word) .result) _ _ ((c .ahead-word) .ensures) (gives-is ((c .before .before .z) .given .1) r)
-
-branch-result-same-length-3 : (t : ℕ) → branch-result-lts.Need-same-length-3 (branch-result-claims t) (branch-result-at t) branch-result.Post
-branch-result-same-length-3 t c = search needs
-
-branch-result-same-length-4 : (t : ℕ) → branch-result-lts.Need-same-length-4 (branch-result-claims t) (branch-result-at t) branch-result.Post
-branch-result-same-length-4 t c = search needs
+branch-result-sum-word-requires t c κs =
+    let c8 = c .before .before .before .before .before .before .before .before in let c11 = c8 .before .before .before in let a = c11 .before .before .before in
+    let r = at-gap (plain (a .args .t .now)) _ _ _ _ _ _ _ (c8 .rest-result .result) (c11 .gap-word .ensures) (c8 .rest-result .ensures .0) in
+    sum-fits (plain (a .args .t .now)) _ _ _ _ _ _ _ (a .pre .1 .0) _ (c .ahead-word .result) _ _ (c .ahead-word .ensures) (gives-is (c .before .before .z .given .1) r)
 
 branch-result-returns-2 : (t : ℕ) → branch-result-lts.Need-returns-2 (branch-result-claims t) (branch-result-at t) branch-result.Post
-branch-result-returns-2 t c = let a = (c .before .before .before .before .before .before .before .before .before .before .before .before .before .before .before) in
-    let r = at-gap (plain (a .args .t .now)) _ _ _ _ _ _ _ ((c .before .before .before .before .before .before .before .before .before .rest-result) .result) ((c .before .before .before .before .before .before .before .before .before .before .before .before .gap-word) .ensures) ((c .before .before .before .before .before .before .before .before .before .rest-result) .ensures .0) in (
-      joint-raised (plain (a .args .t .now)) _ _ _ _ _ _ _ (a .pre .1 .0) _ ((c .before .ahead-word) .result) _ _ _ ((c .before .ahead-word) .ensures) ((c .sum-word) .ensures) (gives-is ((c .before .before .before .z) .given .1) r),
-      still _ _ _ _ _ _ ((c .before .before .before .z) .given .1) ((c .before .before .before .before .before .before .before .before .before .rest-result) .ensures .1),
+branch-result-returns-2 t c =
+    let c9 = c .before .before .before .before .before .before .before .before .before in let c12 = c9 .before .before .before in let a = c12 .before .before .before in
+    let r = at-gap (plain (a .args .t .now)) _ _ _ _ _ _ _ (c9 .rest-result .result) (c12 .gap-word .ensures) (c9 .rest-result .ensures .0) in (
+      joint-raised (plain (a .args .t .now)) _ _ _ _ _ _ _ (a .pre .1 .0) _ (c .before .ahead-word .result) _ _ _ (c .before .ahead-word .ensures) (c .sum-word .ensures)
+          (gives-is (c .before .before .before .z .given .1) r),
+      still _ _ _ _ _ _ (c .before .before .before .z .given .1) (c9 .rest-result .ensures .1),
     )
 
 abbrev fill-branches-Inv-loop : fill-branches-lts.InvT-loop
-fill-branches-Inv-loop t₀ s₀ o k x y d m goes₀ adds₀ v₀ t s goes adds v = (m ≡ size (plain t₀) k) × (v ≤ m) × Filling (plain t₀) (plain t) k (jointFrom o (nodes (plain t₀)) k (target x) (target y) (int d)) v goes adds × Noted t o s × (length t ≡ length t₀) × (length s ≡ length s₀)
+fill-branches-Inv-loop t₀ s₀ o k x y d m goes₀ adds₀ v₀ t s goes adds v = (m ≡ size (plain t₀) k) × (v ≤ m) × Filling (plain t₀) (plain t) k
+    (jointFrom o (nodes (plain t₀)) k (target x) (target y) (int d)) v goes adds × Noted t o s × (length t ≡ length t₀) × (length s ≡ length s₀)
 
 abbrev fill-branches-μ-loop : fill-branches-lts.MeasureT-loop
 fill-branches-μ-loop t₀ s₀ o k x y d m goes₀ adds₀ v₀ t s goes adds v = m - v
 
 fill-branches-size-word-requires : (t : ℕ) → fill-branches-lts.Need-size-word-requires (fill-branches-claims t) (fill-branches-at t) fill-branches.Post fill-branches-Inv-loop fill-branches-μ-loop
-fill-branches-size-word-requires t c κs = let a = (c .before .before .before) in omega (arith, a .pre .1 .0 .holds .laid .laid .few, a .pre .1 .2, a .pre .1 .0 .holds .laid .laid .room, length-plain (a .args .t .now))
-
-fill-branches-wide-requires : (t : ℕ) → fill-branches-lts.Need-wide-requires (fill-branches-claims t) (fill-branches-at t) fill-branches.Post fill-branches-Inv-loop fill-branches-μ-loop
-fill-branches-wide-requires t c κs = search needs
+fill-branches-size-word-requires t c κs =
+    let a = c .before .before .before in
+    omega (arith, a .pre .1 .0 .holds .laid .laid .few, a .pre .1 .2, a .pre .1 .0 .holds .laid .laid .room, length-plain (a .args .t .now))
 
 fill-branches-loop-holds : (t : ℕ) → fill-branches-lts.Need-loop-holds (fill-branches-claims t) (fill-branches-at t) fill-branches.Post fill-branches-Inv-loop fill-branches-μ-loop
-fill-branches-loop-holds t c = let a = (c .before .before .before .before .before) in
-    let e : (c .wide) .result ≡ size (plain (a .args .t .now)) (a .args .k) = (c .wide) .ensures .0 ∙ (c .before .size-word) .ensures ∙ sym (plain-head (a .args .t .now) (3 + a .args .k) (omega (arith, a .pre .1 .0 .holds .laid .laid .few, a .pre .1 .2))) in
+fill-branches-loop-holds t c =
+    let a = c .before .before .before .before .before in
+    let e : (c .wide) .result ≡ size (plain (a .args .t .now)) (a .args .k) = c .wide .ensures .0 ∙ c .before .size-word .ensures
+    ∙ sym (plain-head (a .args .t .now) (3 + a .args .k) (omega (arith, a .pre .1 .0 .holds .laid .laid .few, a .pre .1 .2))) in
     (e, omega arith, fill-start _ (a .args .k) _ (a .pre .1 .0 .holds) (a .pre .1 .2) _ _ refl refl (λ u h. getD-replicate 8 u 0 0 h), a .pre .1 .1, refl, refl)
 
 fill-branches-arm-in-requires : (t : ℕ) → fill-branches-lts.Need-arm-in-requires (fill-branches-claims t) (fill-branches-at t) fill-branches.Post fill-branches-Inv-loop fill-branches-μ-loop
@@ -186,79 +211,66 @@ fill-branches-arm-in-requires-2 t c κs = let a = (c .before .before .before .be
       omega (arith, kept-size _ _ kp (a .pre .1 .0 .holds .laid .laid .few) (a .args .k) (a .pre .1 .2), l .inv .0, (c .before .before .before .loop-test)),
     )
 
-fill-branches-add-branch-result : (t : ℕ) → fill-branches-lts.Need-add-branch-result (fill-branches-claims t) (fill-branches-at t) fill-branches.Post fill-branches-Inv-loop fill-branches-μ-loop
-fill-branches-add-branch-result t c = search needs
-
-fill-branches-branch-result-requires : (t : ℕ) → fill-branches-lts.Need-branch-result-requires (fill-branches-claims t) (fill-branches-at t) fill-branches.Post fill-branches-Inv-loop fill-branches-μ-loop
-fill-branches-branch-result-requires t c κs = let a = (c .before .before .before .before .before .before .before .before .before .before .before .before .before) in
-    let l = (c .before .before .before .before .before .before .before .loop) in
+fill-branches-branch-result-requires : (t : ℕ) → fill-branches-lts.Need-branch-result-requires (fill-branches-claims t)
+    (fill-branches-at t) fill-branches.Post fill-branches-Inv-loop fill-branches-μ-loop
+fill-branches-branch-result-requires t c κs =
+    let c6 = c .before .before .before .before .before .before in let c7 = c6 .before in let a = c7 .before .before .before .before .before .before in
+    let l = c7 .loop in
     let fl = l .inv .2 in
     let kp = fl .filled .grown .kept in
     let n = kept-features _ _ kp in
-    let hk = a .pre .1 .2 in
-    (omega arith, (operands-step _ _ _ _ _ _ (operands-ext (plain (a .args .t .now)) _ (a .args .k) _ _ _ (a .pre .1 .0) _ (l .v) (l .goes) (l .adds) fl hk (omega (arith, l .inv .0, l .inv .1))) (l .v) _ _ _ _ (omega arith) (omega (arith, kept-size _ _ kp (a .pre .1 .0 .holds .laid .laid .few) (a .args .k) hk, l .inv .0, (c .before .before .before .before .before .before .loop-test))) ((c .before .before .before .before .arm-in) .ensures) ((c .before .before .arm-in2) .ensures), l .inv .3))
-
-fill-branches-enum-known-z : (t : ℕ) → fill-branches-lts.Need-enum-known-z (fill-branches-claims t) (fill-branches-at t) fill-branches.Post fill-branches-Inv-loop fill-branches-μ-loop
-fill-branches-enum-known-z t c = search needs
-
-fill-branches-enum-told : (t : ℕ) → fill-branches-lts.Need-enum-told (fill-branches-claims t) (fill-branches-at t) fill-branches.Post fill-branches-Inv-loop fill-branches-μ-loop
-fill-branches-enum-told t c = search needs
-
-fill-branches-same-length : (t : ℕ) → fill-branches-lts.Need-same-length (fill-branches-claims t) (fill-branches-at t) fill-branches.Post fill-branches-Inv-loop fill-branches-μ-loop
-fill-branches-same-length t c = search needs
-
-fill-branches-same-length-2 : (t : ℕ) → fill-branches-lts.Need-same-length-2 (fill-branches-claims t) (fill-branches-at t) fill-branches.Post fill-branches-Inv-loop fill-branches-μ-loop
-fill-branches-same-length-2 t c = search needs
+    let hk = a .pre .1 .2 in (
+      omega arith,
+      (
+        operands-step _ _ _ _ _ _ (operands-ext (plain (a .args .t .now)) _ (a .args .k) _ _ _ (a .pre .1 .0) _ (l .v) (l .goes) (l .adds) fl hk
+            (omega (arith, l .inv .0, l .inv .1))) (l .v) _ _ _ _ (omega arith) (omega
+            (arith, kept-size _ _ kp (a .pre .1 .0 .holds .laid .laid .few) (a .args .k) hk, l .inv .0, (c6 .loop-test))) (c .before .before .before .before .arm-in .ensures)
+            (c .before .before .arm-in2 .ensures),
+        l .inv .3,
+      ),
+    )
 
 fill-branches-returns : (t : ℕ) → fill-branches-lts.Need-returns (fill-branches-claims t) (fill-branches-at t) fill-branches.Post fill-branches-Inv-loop fill-branches-μ-loop
-fill-branches-returns t c = let a = (c .before .before .before .before .before .before .before .before .before .before .before .before .before .before .before .before .before .before .before .before) in
-    let l = (c .before .before .before .before .before .before .before .before .before .before .before .before .before .before .loop) in
+fill-branches-returns t c =
+    let c6 = c .before .before .before .before .before .before in let c9 = c6 .before .before .before in let c11 = c9 .before .before in let c13 = c11 .before .before in
+    let c14 = c13 .before in let a = c14 .before .before .before .before .before .before in
+    let l = c14 .loop in
     let fl = l .inv .2 in (
-      fill-stop (plain (a .args .t .now)) (a .args .k) _ (a .pre .1 .0 .holds) (a .pre .1 .2) (plain (l .t)) _ (l .v) (l .goes) (l .adds) _ _ fl (omega (arith, l .inv .0, (c .before .before .before .before .before .before .before .before .before .before .before .before .before .loop-test)))
-          (joint-held (plain (a .args .t .now)) _ (a .args .k) _ _ _ (a .pre .1 .0) (plain (l .t)) (l .v) _ _ _ _ (filling-ext (plain (a .args .t .now)) (a .args .k) _ (a .pre .1 .0 .holds) (a .pre .1 .2) (plain (l .t)) (l .v) (l .goes) (l .adds) fl) ((c .before .before .before .before .before .before .before .before .before .before .before .arm-in) .ensures) ((c .before .before .before .before .before .before .before .before .before .arm-in2) .ensures))
-          ((c .before .before .before .before .before .before .branch-result) .ensures .0) ((c .enum-told) .given .1),
+      fill-stop (plain (a .args .t .now)) (a .args .k) _ (a .pre .1 .0 .holds) (a .pre .1 .2) (plain (l .t)) _ (l .v) (l .goes) (l .adds) _ _ fl (omega (arith, l .inv .0, (c13 .loop-test)))
+          (joint-held (plain (a .args .t .now)) _ (a .args .k) _ _ _ (a .pre .1 .0) (plain (l .t)) (l .v) _ _ _ _
+          (filling-ext (plain (a .args .t .now)) (a .args .k) _ (a .pre .1 .0 .holds) (a .pre .1 .2) (plain (l .t)) (l .v) (l .goes) (l .adds) fl) (c11 .arm-in .ensures) (c9 .arm-in2 .ensures))
+          (c6 .branch-result .ensures .0) (c .enum-told .given .1),
       tt,
     )
 
-fill-branches-mul-goes : (t : ℕ) → fill-branches-lts.Need-mul-goes (fill-branches-claims t) (fill-branches-at t) fill-branches.Post fill-branches-Inv-loop fill-branches-μ-loop
-fill-branches-mul-goes t c = search needs
-
 fill-branches-array-write-goes : (t : ℕ) → fill-branches-lts.Need-array-write-goes (fill-branches-claims t) (fill-branches-at t) fill-branches.Post fill-branches-Inv-loop fill-branches-μ-loop
-fill-branches-array-write-goes t c = let a = (c .before .before .before .before .before .before .before .before .before .before .before .before .before .before .before .before .before .before .before .before .before) in
-    omega (arith, a .pre .1 .0 .holds .laid .laid .large (a .args .k) (a .pre .1 .2), (c .before .before .before .before .before .before .before .before .before .before .before .before .before .before .before .loop) .inv .0, (c .before .before .before .before .before .before .before .before .before .before .before .before .before .before .before .loop) .inv .2 .targets, (c .before .before .before .before .before .before .before .before .before .before .before .before .before .before .loop-test))
-
-fill-branches-mul-adds : (t : ℕ) → fill-branches-lts.Need-mul-adds (fill-branches-claims t) (fill-branches-at t) fill-branches.Post fill-branches-Inv-loop fill-branches-μ-loop
-fill-branches-mul-adds t c = search needs
+fill-branches-array-write-goes t c =
+    let c14 = c .before .before .before .before .before .before .before .before .before .before .before .before .before .before in let c15 = c14 .before in
+    let a = c15 .before .before .before .before .before .before in
+    omega (arith, a .pre .1 .0 .holds .laid .laid .large (a .args .k) (a .pre .1 .2), c15 .loop .inv .0, c15 .loop .inv .2 .targets, (c14 .loop-test))
 
 fill-branches-array-write-adds : (t : ℕ) → fill-branches-lts.Need-array-write-adds (fill-branches-claims t) (fill-branches-at t) fill-branches.Post fill-branches-Inv-loop fill-branches-μ-loop
-fill-branches-array-write-adds t c = let a = (c .before .before .before .before .before .before .before .before .before .before .before .before .before .before .before .before .before .before .before .before .before) in
-    omega (arith, a .pre .1 .0 .holds .laid .laid .large (a .args .k) (a .pre .1 .2), (c .before .before .before .before .before .before .before .before .before .before .before .before .before .before .before .loop) .inv .0, (c .before .before .before .before .before .before .before .before .before .before .before .before .before .before .before .loop) .inv .2 .addeds, (c .before .before .before .before .before .before .before .before .before .before .before .before .before .before .loop-test))
-
-fill-branches-add-v : (t : ℕ) → fill-branches-lts.Need-add-v (fill-branches-claims t) (fill-branches-at t) fill-branches.Post fill-branches-Inv-loop fill-branches-μ-loop
-fill-branches-add-v t c = search needs
-
-fill-branches-loop-less : (t : ℕ) → fill-branches-lts.Need-loop-less (fill-branches-claims t) (fill-branches-at t) fill-branches.Post fill-branches-Inv-loop fill-branches-μ-loop
-fill-branches-loop-less t c = search needs
+fill-branches-array-write-adds t c =
+    let c14 = c .before .before .before .before .before .before .before .before .before .before .before .before .before .before in let c15 = c14 .before in
+    let a = c15 .before .before .before .before .before .before in
+    omega (arith, a .pre .1 .0 .holds .laid .laid .large (a .args .k) (a .pre .1 .2), c15 .loop .inv .0, c15 .loop .inv .2 .addeds, (c14 .loop-test))
 
 fill-branches-loop-again : (t : ℕ) → fill-branches-lts.Need-loop-again (fill-branches-claims t) (fill-branches-at t) fill-branches.Post fill-branches-Inv-loop fill-branches-μ-loop
-fill-branches-loop-again t c = let a = (c .before .before .before .before .before .before .before .before .before .before .before .before .before .before .before .before .before .before .before .before .before) in
-    let l = (c .before .before .before .before .before .before .before .before .before .before .before .before .before .before .before .loop) in
+fill-branches-loop-again t c =
+    let c7 = c .before .before .before .before .before .before .before in let c10 = c7 .before .before .before in let c12 = c10 .before .before in
+    let c14 = c12 .before .before in let c15 = c14 .before in let a = c15 .before .before .before .before .before .before in
+    let l = c15 .loop in
     let fl = l .inv .2 in (
       l .inv .0,
-      omega (arith, (c .before .before .before .before .before .before .before .before .before .before .before .before .before .before .loop-test)),
-      fill-more (plain (a .args .t .now)) (a .args .k) _ (a .pre .1 .0 .holds) (a .pre .1 .2) (plain (l .t)) _ (l .v) _ _ (l .goes) (l .adds) _ _ fl (omega (arith, l .inv .0, (c .before .before .before .before .before .before .before .before .before .before .before .before .before .before .loop-test)))
-          (joint-held (plain (a .args .t .now)) _ (a .args .k) _ _ _ (a .pre .1 .0) (plain (l .t)) (l .v) _ _ _ _ (filling-ext (plain (a .args .t .now)) (a .args .k) _ (a .pre .1 .0 .holds) (a .pre .1 .2) (plain (l .t)) (l .v) (l .goes) (l .adds) fl) ((c .before .before .before .before .before .before .before .before .before .before .before .before .arm-in) .ensures) ((c .before .before .before .before .before .before .before .before .before .before .arm-in2) .ensures))
-          ((c .before .before .before .before .before .before .before .branch-result) .ensures .0) ((c .before .z) .given .1),
-      still _ _ _ _ _ _ ((c .before .z) .given .1) ((c .before .before .before .before .before .before .before .branch-result) .ensures .1),
+      omega (arith, (c14 .loop-test)),
+      fill-more (plain (a .args .t .now)) (a .args .k) _ (a .pre .1 .0 .holds) (a .pre .1 .2) (plain (l .t)) _ (l .v) _ _ (l .goes) (l .adds) _ _ fl (omega (arith, l .inv .0, (c14 .loop-test)))
+          (joint-held (plain (a .args .t .now)) _ (a .args .k) _ _ _ (a .pre .1 .0) (plain (l .t)) (l .v) _ _ _ _
+          (filling-ext (plain (a .args .t .now)) (a .args .k) _ (a .pre .1 .0 .holds) (a .pre .1 .2) (plain (l .t)) (l .v) (l .goes) (l .adds) fl) (c12 .arm-in .ensures) (c10 .arm-in2 .ensures))
+          (c7 .branch-result .ensures .0) (c .before .z .given .1),
+      still _ _ _ _ _ _ (c .before .z .given .1) (c7 .branch-result .ensures .1),
       search needs,
       search needs,
     )
-
-fill-branches-same-length-3 : (t : ℕ) → fill-branches-lts.Need-same-length-3 (fill-branches-claims t) (fill-branches-at t) fill-branches.Post fill-branches-Inv-loop fill-branches-μ-loop
-fill-branches-same-length-3 t c = search needs
-
-fill-branches-same-length-4 : (t : ℕ) → fill-branches-lts.Need-same-length-4 (fill-branches-claims t) (fill-branches-at t) fill-branches.Post fill-branches-Inv-loop fill-branches-μ-loop
-fill-branches-same-length-4 t c = search needs
 
 fill-branches-returns-2 : (t : ℕ) → fill-branches-lts.Need-returns-2 (fill-branches-claims t) (fill-branches-at t) fill-branches.Post fill-branches-Inv-loop fill-branches-μ-loop
 fill-branches-returns-2 t c = let a = (c .before .before .before .before .before .before .before) in
@@ -280,29 +292,26 @@ rest-result-returns t c = let a = (c .before .before .before .before) in (joint-
 rest-result-lowest-requires : (t : ℕ) → rest-result-lts.Need-lowest-requires (rest-result-claims t) (rest-result-at t) rest-result.Post
 rest-result-lowest-requires t c κs = let a = (c .before .before .before .before) in (a .pre .1 .0 .holds .laid .laid, good-small _ _ _ (a .pre .1 .0 .first), good-small _ _ _ (a .pre .1 .0 .second))
 
-rest-result-add-rest-result : (t : ℕ) → rest-result-lts.Need-add-rest-result (rest-result-claims t) (rest-result-at t) rest-result.Post
-rest-result-add-rest-result t c = search needs
-
 rest-result-rest-result-requires : (t : ℕ) → rest-result-lts.Need-rest-result-requires (rest-result-claims t) (rest-result-at t) rest-result.Post
-rest-result-rest-result-requires t c κs = let a = (c .before .before .before .before .before .before .before .before) in
-    let hk = skip-left _ _ _ _ _ _ (a .pre .1 .0) ((c .before .before .before .lowest) .result) ((c .before .before .before .lowest) .ensures .0) ((c .before .before .before .lowest) .ensures .1) (omega arith) in
-    (omega arith, (operands-skip _ _ _ _ _ _ (a .pre .1 .0) ((c .before .before .before .lowest) .result) ((c .before .before .before .lowest) .ensures .0) ((c .before .before .before .lowest) .ensures .1) (omega arith), a .pre .1 .1))
-
-rest-result-same-length : (t : ℕ) → rest-result-lts.Need-same-length (rest-result-claims t) (rest-result-at t) rest-result.Post
-rest-result-same-length t c = search needs
-
-rest-result-same-length-2 : (t : ℕ) → rest-result-lts.Need-same-length-2 (rest-result-claims t) (rest-result-at t) rest-result.Post
-rest-result-same-length-2 t c = search needs
+rest-result-rest-result-requires t c κs =
+    let a = c .before .before .before .before .before .before .before .before in
+    let hk = skip-left _ _ _ _ _ _ (a .pre .1 .0) (c .before .before .before .lowest .result) (c .before .before .before .lowest .ensures .0)
+    (c .before .before .before .lowest .ensures .1) (omega arith) in (
+      omega arith,
+      (
+        operands-skip _ _ _ _ _ _ (a .pre .1 .0) (c .before .before .before .lowest .result) (c .before .before .before .lowest .ensures .0)
+            (c .before .before .before .lowest .ensures .1) (omega arith),
+        a .pre .1 .1,
+      ),
+    )
 
 rest-result-returns-2 : (t : ℕ) → rest-result-lts.Need-returns-2 (rest-result-claims t) (rest-result-at t) rest-result.Post
-rest-result-returns-2 t c = let a = (c .before .before .before .before .before .before .before .before .before .before .before .before .before) in
-    (joint-skip _ _ _ _ _ _ (a .pre .1 .0) ((c .before .before .before .before .before .before .before .before .lowest) .result) ((c .before .before .before .before .before .before .before .before .lowest) .ensures .0) ((c .before .before .before .before .before .before .before .before .lowest) .ensures .1) (omega (arith, (c .before .before .before .before .before .before .before .if2))) _ ((c .before .before .before .before .rest-result) .result) ((c .before .before .before .before .rest-result) .ensures .0), (c .before .before .before .before .rest-result) .ensures .1)
-
-rest-result-number-of-requires : (t : ℕ) → rest-result-lts.Need-number-of-requires (rest-result-claims t) (rest-result-at t) rest-result.Post
-rest-result-number-of-requires t c κs = search needs
-
-rest-result-add-narrow : (t : ℕ) → rest-result-lts.Need-add-narrow (rest-result-claims t) (rest-result-at t) rest-result.Post
-rest-result-add-narrow t c = search needs
+rest-result-returns-2 t c =
+    let c7 = c .before .before .before .before .before .before .before in let c8 = c7 .before in let a = c8 .before .before .before .before .before in (
+      joint-skip _ _ _ _ _ _ (a .pre .1 .0) (c8 .lowest .result) (c8 .lowest .ensures .0) (c8 .lowest .ensures .1) (omega (arith, (c7 .if2))) _
+          (c .before .before .before .before .rest-result .result) (c .before .before .before .before .rest-result .ensures .0),
+      c .before .before .before .before .rest-result .ensures .1,
+    )
 
 rest-result-narrow-requires : (t : ℕ) → rest-result-lts.Need-narrow-requires (rest-result-claims t) (rest-result-at t) rest-result.Post
 rest-result-narrow-requires t c κs = let a = (c .before .before .before .before .before .before .before) in
@@ -312,22 +321,12 @@ rest-result-narrow-requires t c κs = let a = (c .before .before .before .before
 rest-result-recall-in-requires : (t : ℕ) → rest-result-lts.Need-recall-in-requires (rest-result-claims t) (rest-result-at t) rest-result.Post
 rest-result-recall-in-requires t c κs = (c .before .before .before .before .before .before .before .before .before .before) .pre .1 .1 .room
 
-rest-result-enum-known-memo : (t : ℕ) → rest-result-lts.Need-enum-known-memo (rest-result-claims t) (rest-result-at t) rest-result.Post
-rest-result-enum-known-memo t c = search needs
-
-rest-result-same-length-3 : (t : ℕ) → rest-result-lts.Need-same-length-3 (rest-result-claims t) (rest-result-at t) rest-result.Post
-rest-result-same-length-3 t c = search needs
-
-rest-result-same-length-4 : (t : ℕ) → rest-result-lts.Need-same-length-4 (rest-result-claims t) (rest-result-at t) rest-result.Post
-rest-result-same-length-4 t c = search needs
-
 rest-result-returns-3 : (t : ℕ) → rest-result-lts.Need-returns-3 (rest-result-claims t) (rest-result-at t) rest-result.Post
-rest-result-returns-3 t c = let a = (c .before .before .before .before .before .before .before .before .before .before .before .before .before .before) in
-    let h = hit (memory (a .args .t .now) (a .args .s .now)) ((c .before .before .before .before .before .before .narrow) .result) (a .args .x) (a .args .y) (a .args .d) _ _ _ (a .pre .1 .1 .right) ((c .before .before .before .recall-in) .ensures) ((c .before .memo) .given .1) (omega (arith, (c .before .before .before .before .before .before .narrow) .ensures)) in
-    (recalled-result _ _ ((c .before .before .before .before .before .before .narrow) .result) (a .args .k) _ _ (a .args .d) _ _ (a .pre .1 .0) ((c .before .before .before .before .before .before .narrow) .ensures) h, a .pre .1 .1)
-
-rest-result-enum-told : (t : ℕ) → rest-result-lts.Need-enum-told (rest-result-claims t) (rest-result-at t) rest-result.Post
-rest-result-enum-told t c = search needs
+rest-result-returns-3 t c =
+    let c6 = c .before .before .before .before .before .before in let a = c6 .before .before .before .before .before .before .before .before in
+    let h = hit (memory (a .args .t .now) (a .args .s .now)) (c6 .narrow .result) (a .args .x) (a .args .y) (a .args .d) _ _ _ (a .pre .1 .1 .right)
+    (c .before .before .before .recall-in .ensures) (c .before .memo .given .1) (omega (arith, c6 .narrow .ensures)) in
+    (recalled-result _ _ (c6 .narrow .result) (a .args .k) _ _ (a .args .d) _ _ (a .pre .1 .0) (c6 .narrow .ensures) h, a .pre .1 .1)
 
 rest-result-fill-branches-requires : (t : ℕ) → rest-result-lts.Need-fill-branches-requires (rest-result-claims t) (rest-result-at t) rest-result.Post
 rest-result-fill-branches-requires t c κs = let a = (c .before .before .before .before .before .before .before .before .before .before .before .before .before .before .before) in
@@ -335,71 +334,73 @@ rest-result-fill-branches-requires t c κs = let a = (c .before .before .before 
     (omega arith, (a .pre .1 .0, a .pre .1 .1, hk))
 
 rest-result-make-in-requires : (t : ℕ) → rest-result-lts.Need-make-in-requires (rest-result-claims t) (rest-result-at t) rest-result.Post
-rest-result-make-in-requires t c κs = let a = (c .before .before .before .before .before .before .before .before .before .before .before .before .before .before .before .before .before .before .before .before .before .before .before .before) in
+rest-result-make-in-requires t c κs =
+    let c8 = c .before .before .before .before .before .before .before .before in
+    let c21 = c8 .before .before .before .before .before .before .before .before .before .before .before .before .before in let a = c21 .before .before .before in
     let g : Cost = jointFrom (a .args .o) (nodes (plain (a .args .t .now))) (a .args .k) (target (a .args .x)) (target (a .args .y)) (int (a .args .d)) in
-    let hk = still-left _ _ _ _ _ _ (a .pre .1 .0) ((c .before .before .before .before .before .before .before .before .before .before .before .before .before .before .before .before .before .before .before .before .before .if1) .left) in
-    let fl = filled _ _ _ g _ _ _ ((c .before .before .before .if3) .taken) ((c .before .before .before .before .before .before .before .before .fill-branches) .ensures .0) in
+    let hk = still-left _ _ _ _ _ _ (a .pre .1 .0) (c21 .if1 .left) in
+    let fl = filled _ _ _ g _ _ _ (c .before .before .before .if3 .taken) (c8 .fill-branches .ensures .0) in
     let nr = filling-narrow (plain (a .args .t .now)) (a .args .k) g (a .pre .1 .0 .holds) hk _ _ _ _ fl (le-refl _) (a .pre .1 .0 .bounded .spread) (a .pre .1 .0 .narrow) in
     let paired = holds-passed _ (fl .filled .grown .well) nr in (
-      still-if _ _ _ _ ((c .before .before .before .if3) .taken) ((c .before .before .before .before .before .before .before .before .fill-branches) .ensures .1) .room,
+      still-if _ _ _ _ (c .before .before .before .if3 .taken) (c8 .fill-branches .ensures .1) .room,
       fl .filled .grown .well,
       omega (arith, kept-features _ _ (fl .filled .grown .kept)),
-      fill-armed (plain (a .args .t .now)) (a .args .k) g (a .pre .1 .0 .holds) hk _ _ _ fl (fill-near (plain (a .args .t .now)) (a .args .k) g (a .pre .1 .0 .holds) hk _ _ _ fl (a .pre .1 .0 .bounded .spread))
+      fill-armed (plain (a .args .t .now)) (a .args .k) g (a .pre .1 .0 .holds) hk _ _ _ fl
+          (fill-near (plain (a .args .t .now)) (a .args .k) g (a .pre .1 .0 .holds) hk _ _ _ fl (a .pre .1 .0 .bounded .spread))
           (λ up. fill-sums (plain (a .args .t .now)) (a .args .k) g (a .pre .1 .0 .holds) hk _ _ _ fl (a .pre .1 .0 .bounded .spread) up (paired up)) paired,
     )
 
-rest-result-enum-known-z : (t : ℕ) → rest-result-lts.Need-enum-known-z (rest-result-claims t) (rest-result-at t) rest-result.Post
-rest-result-enum-known-z t c = search needs
-
-rest-result-enum-told-2 : (t : ℕ) → rest-result-lts.Need-enum-told-2 (rest-result-claims t) (rest-result-at t) rest-result.Post
-rest-result-enum-told-2 t c = search needs
-
-rest-result-same-length-5 : (t : ℕ) → rest-result-lts.Need-same-length-5 (rest-result-claims t) (rest-result-at t) rest-result.Post
-rest-result-same-length-5 t c = search needs
-
-rest-result-same-length-6 : (t : ℕ) → rest-result-lts.Need-same-length-6 (rest-result-claims t) (rest-result-at t) rest-result.Post
-rest-result-same-length-6 t c = search needs
-
 rest-result-returns-4 : (t : ℕ) → rest-result-lts.Need-returns-4 (rest-result-claims t) (rest-result-at t) rest-result.Post
-rest-result-returns-4 t c = let a = (c .before .before .before .before .before .before .before .before .before .before .before .before .before .before .before .before .before .before .before .before .before .before .before .before .before .before .before .before .before) in
+rest-result-returns-4 t c =
+    let c8 = c .before .before .before .before .before .before .before .before in let c13 = c8 .before .before .before .before .before in
+    let c26 = c13 .before .before .before .before .before .before .before .before .before .before .before .before .before in let a = c26 .before .before .before in
     let g : Cost = jointFrom (a .args .o) (nodes (plain (a .args .t .now))) (a .args .k) (target (a .args .x)) (target (a .args .y)) (int (a .args .d)) in
-    let hk = still-left _ _ _ _ _ _ (a .pre .1 .0) ((c .before .before .before .before .before .before .before .before .before .before .before .before .before .before .before .before .before .before .before .before .before .before .before .before .before .before .if1) .left) in
-    let fl = filled _ _ _ g _ _ _ ((c .before .before .before .before .before .before .before .before .if3) .taken) ((c .before .before .before .before .before .before .before .before .before .before .before .before .before .fill-branches) .ensures .0) in
-    (gives-none ((c .enum-told2) .given .1) (fill-make (plain (a .args .t .now)) (a .args .k) g (a .pre .1 .0 .holds) hk _ _ _ _ ((c .before .before .before .before .make-in) .result) fl ((c .before .before .before .before .make-in) .ensures .0)), tt)
-
-rest-result-remember-in-requires : (t : ℕ) → rest-result-lts.Need-remember-in-requires (rest-result-claims t) (rest-result-at t) rest-result.Post
-rest-result-remember-in-requires t c κs = let fl = filled _ _ _ _ _ _ _ ((c .before .before .before .before .before .before .before .before .before .before .before .if3) .taken) ((c .before .before .before .before .before .before .before .before .before .before .before .before .before .before .before .before .fill-branches) .ensures .0) in
-    (noted-made _ _ _ ((c .before .before .before .before .before .before .before .before .before .before .before .before .before .before .before .before .fill-branches) .result .goes) ((c .before .before .before .before .before .before .before .before .before .before .before .before .before .before .before .before .fill-branches) .result .adds) _ _ _ _ _ (fl .filled .grown .well) ((c .before .before .before .before .before .before .before .make-in) .ensures) ((c .before .before .before .z) .given .1) (still-if _ _ _ _ ((c .before .before .before .before .before .before .before .before .before .before .before .if3) .taken) ((c .before .before .before .before .before .before .before .before .before .before .before .before .before .before .before .before .fill-branches) .ensures .1)) .room, omega (arith, (c .before .before .before .before .before .before .before .before .before .before .before .before .before .before .before .before .before .before .before .before .before .before .before .before .narrow) .ensures))
-
-rest-result-same-length-7 : (t : ℕ) → rest-result-lts.Need-same-length-7 (rest-result-claims t) (rest-result-at t) rest-result.Post
-rest-result-same-length-7 t c = search needs
-
-rest-result-same-length-8 : (t : ℕ) → rest-result-lts.Need-same-length-8 (rest-result-claims t) (rest-result-at t) rest-result.Post
-rest-result-same-length-8 t c = search needs
-
-rest-result-returns-5 : (t : ℕ) → rest-result-lts.Need-returns-5 (rest-result-claims t) (rest-result-at t) rest-result.Post
-rest-result-returns-5 t c = let a = (c .before .before .before .before .before .before .before .before .before .before .before .before .before .before .before .before .before .before .before .before .before .before .before .before .before .before .before .before .before .before .before .before .before .before .before .before .before) in
-    let g : Cost = jointFrom (a .args .o) (nodes (plain (a .args .t .now))) (a .args .k) (target (a .args .x)) (target (a .args .y)) (int (a .args .d)) in
-    let hk = still-left _ _ _ _ _ _ (a .pre .1 .0) ((c .before .before .before .before .before .before .before .before .before .before .before .before .before .before .before .before .before .before .before .before .before .before .before .before .before .before .before .before .before .before .before .before .before .before .if1) .left) in
-    let fl = filled _ _ _ g _ _ _ ((c .before .before .before .before .before .before .before .before .before .before .before .before .before .before .before .before .if3) .taken) ((c .before .before .before .before .before .before .before .before .before .before .before .before .before .before .before .before .before .before .before .before .before .fill-branches) .ensures .0) in
-    let q = (c .before .before .before .before .before .before .before .before .z) .given .1 in
-    let re = gives-is q (fill-make (plain (a .args .t .now)) (a .args .k) g (a .pre .1 .0 .holds) hk _ _ _ _ ((c .before .before .before .before .before .before .before .before .before .before .before .before .make-in) .result) fl ((c .before .before .before .before .before .before .before .before .before .before .before .before .make-in) .ensures .0)) in
-    let nm = noted-made _ _ (a .args .k) ((c .before .before .before .before .before .before .before .before .before .before .before .before .before .before .before .before .before .before .before .before .before .fill-branches) .result .goes) ((c .before .before .before .before .before .before .before .before .before .before .before .before .before .before .before .before .before .before .before .before .before .fill-branches) .result .adds) _ _ _ _ _ (fl .filled .grown .well) ((c .before .before .before .before .before .before .before .before .before .before .before .before .make-in) .ensures) q (still-if _ _ _ _ ((c .before .before .before .before .before .before .before .before .before .before .before .before .before .before .before .before .if3) .taken) ((c .before .before .before .before .before .before .before .before .before .before .before .before .before .before .before .before .before .before .before .before .before .fill-branches) .ensures .1)) in (
-      subst (λ (u : List ℕ). Result (plain (a .args .t .now)) u (a .args .k) (jointFrom (a .args .o) (nodes (plain (a .args .t .now))) (a .args .k) (target (a .args .x)) (target (a .args .y)) (int (a .args .d))) (Is ((c .before .before .before .before .before .before .before .before .z) .given .0 .0) ((c .before .before .before .before .before .before .before .before .z) .given .0 .1 .0))) (sym ((c .before .before .before .before .remember-in) .ensures .0)) re,
-      noted-stored _ _ _ _ ((c .before .before .before .before .before .before .before .before .before .before .before .before .before .before .before .before .before .before .before .before .before .before .before .before .before .before .before .before .before .narrow) .result) (a .args .x) (a .args .y) (a .args .d) _ _ nm ((c .before .before .before .before .remember-in) .ensures) (right-here _ _ ((c .before .before .before .before .before .before .before .before .before .before .before .before .before .before .before .before .before .before .before .before .before .before .before .before .before .before .before .before .before .narrow) .result) (a .args .k) _ _ (a .args .d) _ _ ((c .before .before .before .before .before .before .before .before .before .before .before .before .before .before .before .before .before .before .before .before .before .before .before .before .before .before .before .before .before .narrow) .ensures) (result-recalled _ _ _ (a .args .k) _ _ (a .args .d) _ _ (a .pre .1 .0) re)),
+    let hk = still-left _ _ _ _ _ _ (a .pre .1 .0) (c26 .if1 .left) in
+    let fl = filled _ _ _ g _ _ _ (c8 .if3 .taken) (c13 .fill-branches .ensures .0) in (
+      gives-none (c .enum-told2 .given .1) (fill-make (plain (a .args .t .now)) (a .args .k) g (a .pre .1 .0 .holds) hk _ _ _ _
+          (c .before .before .before .before .make-in .result) fl (c .before .before .before .before .make-in .ensures .0)),
+      tt,
     )
 
-rest-result-same-length-9 : (t : ℕ) → rest-result-lts.Need-same-length-9 (rest-result-claims t) (rest-result-at t) rest-result.Post
-rest-result-same-length-9 t c = search needs
+rest-result-remember-in-requires : (t : ℕ) → rest-result-lts.Need-remember-in-requires (rest-result-claims t) (rest-result-at t) rest-result.Post
+rest-result-remember-in-requires t c κs =
+    let c7 = c .before .before .before .before .before .before .before in let c11 = c7 .before .before .before .before in
+    let c16 = c11 .before .before .before .before .before in let c24 = c16 .before .before .before .before .before .before .before .before in
+    let fl = filled _ _ _ _ _ _ _ (c11 .if3 .taken) (c16 .fill-branches .ensures .0) in (
+      noted-made _ _ _ (c16 .fill-branches .result .goes) (c16 .fill-branches .result .adds) _ _ _ _ _ (fl .filled .grown .well) (c7 .make-in .ensures)
+          (c .before .before .before .z .given .1) (still-if _ _ _ _ (c11 .if3 .taken) (c16 .fill-branches .ensures .1)) .room,
+      omega (arith, c24 .narrow .ensures),
+    )
 
-rest-result-same-length-10 : (t : ℕ) → rest-result-lts.Need-same-length-10 (rest-result-claims t) (rest-result-at t) rest-result.Post
-rest-result-same-length-10 t c = search needs
+rest-result-returns-5 : (t : ℕ) → rest-result-lts.Need-returns-5 (rest-result-claims t) (rest-result-at t) rest-result.Post
+rest-result-returns-5 t c =
+    let c8 = c .before .before .before .before .before .before .before .before in let c12 = c8 .before .before .before .before in
+    let c16 = c12 .before .before .before .before in let c21 = c16 .before .before .before .before .before in
+    let c29 = c21 .before .before .before .before .before .before .before .before in let c34 = c29 .before .before .before .before .before in
+    let a = c34 .before .before .before in
+    let g : Cost = jointFrom (a .args .o) (nodes (plain (a .args .t .now))) (a .args .k) (target (a .args .x)) (target (a .args .y)) (int (a .args .d)) in
+    let hk = still-left _ _ _ _ _ _ (a .pre .1 .0) (c34 .if1 .left) in
+    let fl = filled _ _ _ g _ _ _ (c16 .if3 .taken) (c21 .fill-branches .ensures .0) in
+    let q = c8 .z .given .1 in
+    let re = gives-is q (fill-make (plain (a .args .t .now)) (a .args .k) g (a .pre .1 .0 .holds) hk _ _ _ _ (c12 .make-in .result) fl (c12 .make-in .ensures .0)) in
+    let nm = noted-made _ _ (a .args .k) (c21 .fill-branches .result .goes) (c21 .fill-branches .result .adds) _ _ _ _ _ (fl .filled .grown .well) (c12 .make-in .ensures) q
+    (still-if _ _ _ _ (c16 .if3 .taken) (c21 .fill-branches .ensures .1)) in (
+      subst (λ (u : List ℕ). Result (plain (a .args .t .now)) u (a .args .k) (jointFrom (a .args .o) (nodes (plain (a .args .t .now))) (a .args .k) (target (a .args .x))
+          (target (a .args .y)) (int (a .args .d))) (Is (c8 .z .given .0 .0) (c8 .z .given .0 .1 .0))) (sym (c .before .before .before .before .remember-in .ensures .0)) re,
+      noted-stored _ _ _ _ (c29 .narrow .result) (a .args .x) (a .args .y) (a .args .d) _ _ nm (c .before .before .before .before .remember-in .ensures)
+          (right-here _ _ (c29 .narrow .result) (a .args .k) _ _ (a .args .d) _ _ (c29 .narrow .ensures) (result-recalled _ _ _ (a .args .k) _ _ (a .args .d) _ _ (a .pre .1 .0) re)),
+    )
 
 rest-result-returns-6 : (t : ℕ) → rest-result-lts.Need-returns-6 (rest-result-claims t) (rest-result-at t) rest-result.Post
-rest-result-returns-6 t c = let a = (c .before .before .before .before .before .before .before .before .before .before .before .before .before .before .before .before .before .before .before .before .before) in
+rest-result-returns-6 t c =
+    let c18 = c .before .before .before .before .before .before .before .before .before .before .before .before .before .before .before .before .before .before in
+    let a = c18 .before .before .before in
     let g : Cost = jointFrom (a .args .o) (nodes (plain (a .args .t .now))) (a .args .k) (target (a .args .x)) (target (a .args .y)) (int (a .args .d)) in
-    let hk = still-left _ _ _ _ _ _ (a .pre .1 .0) ((c .before .before .before .before .before .before .before .before .before .before .before .before .before .before .before .before .before .before .if1) .left) in
-    (stop-result (plain (a .args .t .now)) (a .args .k) g (a .pre .1 .0 .holds) hk _ (not-filled _ _ _ g _ _ _ ((c .if3) .left) ((c .before .before .before .before .before .fill-branches) .ensures .0)), tt)
+    let hk = still-left _ _ _ _ _ _ (a .pre .1 .0) (c18 .if1 .left) in (
+      stop-result (plain (a .args .t .now)) (a .args .k) g (a .pre .1 .0 .holds) hk _
+          (not-filled _ _ _ g _ _ _ (c .if3 .left) (c .before .before .before .before .before .fill-branches .ensures .0)),
+      tt,
+    )
 
 pub +branch-result+fill-branches+rest-result-spec : {M : Type 1} → statement M
 +branch-result+fill-branches+rest-result-spec =
@@ -408,15 +409,15 @@ pub +branch-result+fill-branches+rest-result-spec : {M : Type 1} → statement M
     branch-result.Post
     (branch-result-gap-word-requires t)
     (branch-result-rest-result-requires t)
-    (branch-result-enum-known-z t)
-    (branch-result-enum-told t)
-    (branch-result-same-length t)
-    (branch-result-same-length-2 t)
+    (λ c. search needs)
+    (λ c. search needs)
+    (λ c. search needs)
+    (λ c. search needs)
     (branch-result-returns t)
     (branch-result-ahead-word-requires t)
     (branch-result-sum-word-requires t)
-    (branch-result-same-length-3 t)
-    (branch-result-same-length-4 t)
+    (λ c. search needs)
+    (λ c. search needs)
     (branch-result-returns-2 t))
     (λ t. fill-branches-lts.spec (fill-branches-claims t)
     (fill-branches-at t)
@@ -424,26 +425,26 @@ pub +branch-result+fill-branches+rest-result-spec : {M : Type 1} → statement M
     fill-branches-Inv-loop
     fill-branches-μ-loop
     (fill-branches-size-word-requires t)
-    (fill-branches-wide-requires t)
+    (λ c κs. search needs)
     (fill-branches-loop-holds t)
     (fill-branches-arm-in-requires t)
     (fill-branches-arm-in-requires-2 t)
-    (fill-branches-add-branch-result t)
+    (λ c. search needs)
     (fill-branches-branch-result-requires t)
-    (fill-branches-enum-known-z t)
-    (fill-branches-enum-told t)
-    (fill-branches-same-length t)
-    (fill-branches-same-length-2 t)
+    (λ c. search needs)
+    (λ c. search needs)
+    (λ c. search needs)
+    (λ c. search needs)
     (fill-branches-returns t)
-    (fill-branches-mul-goes t)
+    (λ c. search needs)
     (fill-branches-array-write-goes t)
-    (fill-branches-mul-adds t)
+    (λ c. search needs)
     (fill-branches-array-write-adds t)
-    (fill-branches-add-v t)
-    (fill-branches-loop-less t)
+    (λ c. search needs)
+    (λ c. search needs)
     (fill-branches-loop-again t)
-    (fill-branches-same-length-3 t)
-    (fill-branches-same-length-4 t)
+    (λ c. search needs)
+    (λ c. search needs)
     (fill-branches-returns-2 t))
     λ t. rest-result-lts.spec (rest-result-claims t)
     (rest-result-at t)
@@ -452,31 +453,31 @@ pub +branch-result+fill-branches+rest-result-spec : {M : Type 1} → statement M
     (rest-result-end-word-requires t)
     (rest-result-returns t)
     (rest-result-lowest-requires t)
-    (rest-result-add-rest-result t)
+    (λ c. search needs)
     (rest-result-rest-result-requires t)
-    (rest-result-same-length t)
-    (rest-result-same-length-2 t)
+    (λ c. search needs)
+    (λ c. search needs)
     (rest-result-returns-2 t)
-    (rest-result-number-of-requires t)
-    (rest-result-add-narrow t)
+    (λ c κs. search needs)
+    (λ c. search needs)
     (rest-result-narrow-requires t)
     (rest-result-recall-in-requires t)
-    (rest-result-enum-known-memo t)
-    (rest-result-same-length-3 t)
-    (rest-result-same-length-4 t)
+    (λ c. search needs)
+    (λ c. search needs)
+    (λ c. search needs)
     (rest-result-returns-3 t)
-    (rest-result-enum-told t)
+    (λ c. search needs)
     (rest-result-fill-branches-requires t)
     (rest-result-make-in-requires t)
-    (rest-result-enum-known-z t)
-    (rest-result-enum-told-2 t)
-    (rest-result-same-length-5 t)
-    (rest-result-same-length-6 t)
+    (λ c. search needs)
+    (λ c. search needs)
+    (λ c. search needs)
+    (λ c. search needs)
     (rest-result-returns-4 t)
     (rest-result-remember-in-requires t)
-    (rest-result-same-length-7 t)
-    (rest-result-same-length-8 t)
+    (λ c. search needs)
+    (λ c. search needs)
     (rest-result-returns-5 t)
-    (rest-result-same-length-9 t)
-    (rest-result-same-length-10 t)
+    (λ c. search needs)
+    (λ c. search needs)
     (rest-result-returns-6 t)

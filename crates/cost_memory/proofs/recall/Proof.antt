@@ -6,44 +6,20 @@ use borrow.Author.Needs.{needs}
 use Rattle.cost_memory.proofs.recall.Statement.{statement}
 use Rattle.cost_memory.proofs.recall.Tie as tie
 
-returns : tie.Need-returns
-returns c = search needs
-
-slot-of-requires : tie.Need-slot-of-requires
-slot-of-requires c κs = search needs
-
-recall-at-requires : tie.Need-recall-at-requires
-recall-at-requires c κs = search needs
-
-enum-known-memo : tie.Need-enum-known-memo
-enum-known-memo c = search needs
-
 returns-2 : tie.Need-returns-2
 returns-2 c = let a = (c .before .before .before .before .before .before .before) .args in
     subst (λ (m : Memo). Recalls (a .s .now) (a .tag) (a .x) (a .y) (a .d) m) ((c .before .memo) .given .1) ((c .before .before .before .recall-at) .ensures)
-
-enum-told : tie.Need-enum-told
-enum-told c = search needs
-
-slot-after-requires : tie.Need-slot-after-requires
-slot-after-requires c κs = search needs
-
-recall-at-requires-2 : tie.Need-recall-at-requires-2
-recall-at-requires-2 c κs = search needs
-
-returns-3 : tie.Need-returns-3
-returns-3 c = search needs
 
 pub recall-spec : {M : Type 1} → statement M
 recall-spec =
     tie.close
     (tie.spec
-    returns
-    slot-of-requires
-    recall-at-requires
-    enum-known-memo
+    (λ c. search needs)
+    (λ c κs. search needs)
+    (λ c κs. search needs)
+    (λ c. search needs)
     returns-2
-    enum-told
-    slot-after-requires
-    recall-at-requires-2
-    returns-3)
+    (λ c. search needs)
+    (λ c κs. search needs)
+    (λ c κs. search needs)
+    (λ c. search needs))

@@ -1,5 +1,5 @@
 -- `cost_nodes::all_same` meets its contract: in the loop the first v targets and added words of the body equal the first. Assumes nothing.
-use Rattle.words.specs.Words.{listed}
+use Rattle.table_words.specs.Words.{listed}
 use borrow.Author.Count.{below-more}
 use native.Mathlib.Omega.{arith}
 use Prim.Native.Nat.{ℕ, _-_, _≤_, _<_}
@@ -10,52 +10,20 @@ use Rattle.cost_nodes.proofs.all_same.Tie as tie
 use Rattle.promises.specs.CostWords.{goes as goesAt, added}
 
 abbrev Inv-loop : tie.InvT-loop
-Inv-loop m list goes adds v₀ v = (v ≤ m) × (goes ≡ goesAt (listed list) 0) × (adds ≡ listed list 4) × ((u : ℕ) → u < v → goesAt (listed list) u ≡ goesAt (listed list) 0) × ((u : ℕ) → u < v → added (listed list) u ≡ listed list 4)
+Inv-loop m list goes adds v₀ v = (v ≤ m) × (goes ≡ goesAt (listed list) 0) × (adds ≡ listed list 4) × ((u : ℕ) → u < v → goesAt (listed list) u ≡ goesAt (listed list) 0) ×
+    ((u : ℕ) → u < v → added (listed list) u ≡ listed list 4)
 
 abbrev μ-loop : tie.MeasureT-loop
 μ-loop m list goes adds v₀ v = m - v
 
-array-read-half-of : tie.Need-array-read-half-of Inv-loop μ-loop
-array-read-half-of c = search needs
-
-half-of-requires : tie.Need-half-of-requires Inv-loop μ-loop
-half-of-requires c κs = search needs
-
-array-read-adds : tie.Need-array-read-adds Inv-loop μ-loop
-array-read-adds c = search needs
-
 loop-holds : tie.Need-loop-holds Inv-loop μ-loop
 loop-holds c = (omega arith, (c .half-of) .ensures, search needs, (λ u h. absurd (omega arith)), (λ u h. absurd (omega arith)))
-
-mul-half-of : tie.Need-mul-half-of Inv-loop μ-loop
-mul-half-of c = search needs
-
-array-read-half-of-2 : tie.Need-array-read-half-of-2 Inv-loop μ-loop
-array-read-half-of-2 c = search needs
-
-half-of-requires-2 : tie.Need-half-of-requires-2 Inv-loop μ-loop
-half-of-requires-2 c κs = search needs
 
 returns : tie.Need-returns Inv-loop μ-loop
 returns c = let l = (c .before .before .before .loop) in λ al. (c .if1) .taken ((c .before .half-of2) .ensures ∙ al .targets (l .v) (omega arith) ∙ sym (l .inv .1))
 
-add-if2 : tie.Need-add-if2 Inv-loop μ-loop
-add-if2 c = search needs
-
-mul-if2 : tie.Need-mul-if2 Inv-loop μ-loop
-mul-if2 c = search needs
-
-array-read-if2 : tie.Need-array-read-if2 Inv-loop μ-loop
-array-read-if2 c = search needs
-
 returns-2 : tie.Need-returns-2 Inv-loop μ-loop
 returns-2 c = let l = (c .before .before .before .before .loop) in λ al. (c .if2) .taken (al .addeds (l .v) (omega arith) ∙ sym (l .inv .2))
-
-add-v : tie.Need-add-v Inv-loop μ-loop
-add-v c = search needs
-
-loop-less : tie.Need-loop-less Inv-loop μ-loop
-loop-less c = search needs
 
 loop-again : tie.Need-loop-again Inv-loop μ-loop
 loop-again c = let l = (c .before .before .before .before .loop) in (
@@ -75,19 +43,19 @@ all-same-spec =
     (tie.spec
     Inv-loop
     μ-loop
-    array-read-half-of
-    half-of-requires
-    array-read-adds
+    (λ c. search needs)
+    (λ c κs. search needs)
+    (λ c. search needs)
     loop-holds
-    mul-half-of
-    array-read-half-of-2
-    half-of-requires-2
+    (λ c. search needs)
+    (λ c. search needs)
+    (λ c κs. search needs)
     returns
-    add-if2
-    mul-if2
-    array-read-if2
+    (λ c. search needs)
+    (λ c. search needs)
+    (λ c. search needs)
     returns-2
-    add-v
-    loop-less
+    (λ c. search needs)
+    (λ c. search needs)
     loop-again
     returns-3)

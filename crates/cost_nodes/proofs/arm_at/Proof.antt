@@ -13,9 +13,6 @@ top-of-requires c κs = ((c .before) .pre .0 .holds .laid .laid, good-small _ _ 
 sub-wide : tie.Need-sub-wide
 sub-wide c = omega (arith, is-node ((c .before .before .before) .args .t .now) ((c .before .before .before) .args .x) (omega arith))
 
-wide-requires : tie.Need-wide-requires
-wide-requires c κs = search needs
-
 goes-to-requires : tie.Need-goes-to-requires
 goes-to-requires c κs = let a = (c .before .before .before .before) in
     let n = is-node (a .args .t .now) (a .args .x) (omega arith) in
@@ -33,9 +30,12 @@ adds-at-requires c κs = let a = (c .before .before .before .before .before) in
     (omega (arith, d .room, d .within), omega (arith, d .most, d .within), omega arith)
 
 returns : tie.Need-returns
-returns c = let a = (c .before .before .before .before .before .before) in
-    ap₂ branch ((c .before .goes-to) .ensures) ((c .adds-at) .ensures)
-    ∙ arm-here (a .args .t .now) (a .args .k) (a .args .x) ((c .before .before .wide) .result) (a .args .v) (a .pre .0) (a .pre .2) (sym ((c .before .before .before .before .top-of) .ensures) ∙ (c .before .before .before .if1) .taken) (omega (arith, (c .before .before .wide) .ensures .0, is-node (a .args .t .now) (a .args .x) (omega arith)))
+returns c =
+    let a = c .before .before .before .before .before .before in
+    ap₂ branch (c .before .goes-to .ensures) (c .adds-at .ensures)
+    ∙ arm-here (a .args .t .now) (a .args .k) (a .args .x) (c .before .before .wide .result) (a .args .v) (a .pre .0) (a .pre .2)
+    (sym (c .before .before .before .before .top-of .ensures) ∙ c .before .before .before .if1 .taken)
+    (omega (arith, c .before .before .wide .ensures .0, is-node (a .args .t .now) (a .args .x) (omega arith)))
 
 returns-2 : tie.Need-returns-2
 returns-2 c = let a = (c .before .before .before) in arm-skip (a .args .t .now) (a .args .k) (a .args .x) (a .args .v) (a .pre .0) (λ d. (c .if1) .left ((c .before .top-of) .ensures ∙ d))
@@ -46,7 +46,7 @@ arm-at-spec =
     (tie.spec
     top-of-requires
     sub-wide
-    wide-requires
+    (λ c κs. search needs)
     goes-to-requires
     adds-at-requires
     returns

@@ -4,14 +4,8 @@ use Rattle.cost_nodes.proofs.arm_of.Statement.{statement}
 use Rattle.cost_nodes.proofs.arm_of.Tie as tie
 use Rattle.promises.specs.CostWords.{costBranch as branch}
 
-root-word-requires : tie.Need-root-word-requires
-root-word-requires c κs = search needs
-
-base-word-requires : tie.Need-base-word-requires
-base-word-requires c κs = search needs
-
 returns : tie.Need-returns
 returns c = λ i. branch ((c .before .root-word) .ensures i) ((c .base-word) .ensures i)
 
 pub arm-of-spec : {M : Type 1} → statement M
-arm-of-spec = tie.close (tie.spec root-word-requires base-word-requires returns)
+arm-of-spec = tie.close (tie.spec (λ c κs. search needs) (λ c κs. search needs) returns)

@@ -11,51 +11,30 @@ use Rattle.cost_nodes.proofs.find.Tie as tie
 use Rattle.promises.specs.Words.{size}
 use Rattle.promises.specs.CostWords.{target}
 
-size-word-requires : tie.Need-size-word-requires
-size-word-requires c κs = search needs
-
-wide-requires : tie.Need-wide-requires
-wide-requires c κs = search needs
-
 all-same-requires : tie.Need-all-same-requires
 all-same-requires c κs = omega (arith, (c .before .before .before) .pre .0 .laid .laid .large ((c .before .before .before) .args .k) ((c .before .before .before) .pre .1))
 
-array-read-half-of : tie.Need-array-read-half-of
-array-read-half-of c = search needs
-
-half-of-requires : tie.Need-half-of-requires
-half-of-requires c κs = search needs
-
-target-at-requires : tie.Need-target-at-requires
-target-at-requires c κs = search needs
-
 returns : tie.Need-returns
-returns c = let a = (c .before .before .before .before .before .before .before) in
+returns c =
+    let a = c .before .before .before .before .before .before .before in
     let w = a .args .t .now in
     let k = a .args .k in
     let l = a .args .t3 in
-    let e : (c .before .before .before .before .wide) .result ≡ size w k = (c .before .before .before .before .wide) .ensures .0 ∙ (c .before .before .before .before .before .size-word) .ensures in
-    found-same w k l (a .pre .0) (a .pre .1) (a .pre .2) ((c .target-at) .result) ((c .target-at) .ensures ∙ ap target ((c .before .half-of) .ensures)) (subst (λ (n : ℕ). AllSame n l) e (sure ((c .before .before .if1) .taken) ((c .before .before .before .all-same) .ensures)))
-
-find-record-requires : tie.Need-find-record-requires
-find-record-requires c κs = search needs
-
-sub-narrow : tie.Need-sub-narrow
-sub-narrow c = search needs
-
-narrow-requires : tie.Need-narrow-requires
-narrow-requires c κs = search needs
+    let e : (c .before .before .before .before .wide) .result ≡ size w k = c .before .before .before .before .wide .ensures .0 ∙ c .before .before .before .before .before .size-word .ensures in
+    found-same w k l (a .pre .0) (a .pre .1) (a .pre .2) (c .target-at .result) (c .target-at .ensures ∙ ap target (c .before .half-of .ensures))
+    (subst (λ (n : ℕ). AllSame n l) e (sure (c .before .before .if1 .taken) (c .before .before .before .all-same .ensures)))
 
 returns-2 : tie.Need-returns-2
-returns-2 c = let a = (c .before .before .before .before .before .before .before .before) in
+returns-2 c =
+    let c6 = c .before .before .before .before .before .before in let a = c6 .before .before in
     let w = a .args .t .now in
     let k = a .args .k in
     let l = a .args .t3 in
-    let e : (c .before .before .before .before .before .wide) .result ≡ size w k = (c .before .before .before .before .before .wide) .ensures .0 ∙ (c .before .before .before .before .before .before .size-word) .ensures in
-    let f = (c .before .before .find-record) .ensures in
-    rw ((c .narrow) .ensures)
-    (found-node w k l (a .pre .0) (a .pre .1) (a .pre .2) ((c .before .before .find-record) .result - 1) (omega (arith, f .within))
-    (λ s. sure-not ((c .before .before .before .if1) .left) ((c .before .before .before .before .all-same) .ensures) (subst (λ (n : ℕ). AllSame n l) (sym e) s)) (f .there (omega arith)))
+    let e : (c .before .before .before .before .before .wide) .result ≡ size w k = c .before .before .before .before .before .wide .ensures .0 ∙ c6 .size-word .ensures in
+    let f = c .before .before .find-record .ensures in
+    rw (c .narrow .ensures)
+    (found-node w k l (a .pre .0) (a .pre .1) (a .pre .2) (c .before .before .find-record .result - 1) (omega (arith, f .within))
+    (λ s. sure-not (c .before .before .before .if1 .left) (c .before .before .before .before .all-same .ensures) (subst (λ (n : ℕ). AllSame n l) (sym e) s)) (f .there (omega arith)))
 
 returns-3 : tie.Need-returns-3
 returns-3 c = let a = (c .before .before .before .before .before .before .before) in
@@ -71,15 +50,15 @@ pub find-spec : {M : Type 1} → statement M
 find-spec =
     tie.close
     (tie.spec
-    size-word-requires
-    wide-requires
+    (λ c κs. search needs)
+    (λ c κs. search needs)
     all-same-requires
-    array-read-half-of
-    half-of-requires
-    target-at-requires
+    (λ c. search needs)
+    (λ c κs. search needs)
+    (λ c κs. search needs)
     returns
-    find-record-requires
-    sub-narrow
-    narrow-requires
+    (λ c κs. search needs)
+    (λ c. search needs)
+    (λ c κs. search needs)
     returns-2
     returns-3)

@@ -1,6 +1,6 @@
 -- `cost_nodes::lowered` meets its contract: in the loop the first v are lowered, and the others are 0. Assumes nothing.
-use Rattle.words.specs.Words.{listed}
-use Rattle.words.proofs.Tab.{same}
+use Rattle.table_words.specs.Words.{listed}
+use Rattle.table_words.proofs.Tab.{same}
 use lib.IntN.{_-ℤ_}
 use lib.Seq.{getD-set-same, getD-set-other}
 use lib.ListN.{length, length-set, getD-replicate}
@@ -22,29 +22,8 @@ abbrev μ-loop : tie.MeasureT-loop
 loop-holds : tie.Need-loop-holds Inv-loop μ-loop
 loop-holds c = (refl, omega arith, (λ u h. absurd (omega arith)), λ u a b. getD-replicate 8 u 0 0 b)
 
-mul-difference-word : tie.Need-mul-difference-word Inv-loop μ-loop
-mul-difference-word c = search needs
-
-array-read-difference-word : tie.Need-array-read-difference-word Inv-loop μ-loop
-array-read-difference-word c = search needs
-
-array-read-difference-word-2 : tie.Need-array-read-difference-word-2 Inv-loop μ-loop
-array-read-difference-word-2 c = search needs
-
 difference-word-requires : tie.Need-difference-word-requires Inv-loop μ-loop
 difference-word-requires c κs = (c .before .before) .pre .1 ((c .before .loop) .v) (omega arith)
-
-mul-list : tie.Need-mul-list Inv-loop μ-loop
-mul-list c = search needs
-
-array-write-list : tie.Need-array-write-list Inv-loop μ-loop
-array-write-list c = search needs
-
-add-v : tie.Need-add-v Inv-loop μ-loop
-add-v c = search needs
-
-loop-less : tie.Need-loop-less Inv-loop μ-loop
-loop-less c = search needs
 
 loop-again : tie.Need-loop-again Inv-loop μ-loop
 loop-again c = let l = (c .before .before .loop) in (
@@ -67,13 +46,13 @@ lowered-spec =
     Inv-loop
     μ-loop
     loop-holds
-    mul-difference-word
-    array-read-difference-word
-    array-read-difference-word-2
+    (λ c. search needs)
+    (λ c. search needs)
+    (λ c. search needs)
     difference-word-requires
-    mul-list
-    array-write-list
-    add-v
-    loop-less
+    (λ c. search needs)
+    (λ c. search needs)
+    (λ c. search needs)
+    (λ c. search needs)
     loop-again
     returns)

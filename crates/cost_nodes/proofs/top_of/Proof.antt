@@ -7,24 +7,6 @@ use borrow.Author.Needs.{needs}
 use Rattle.cost_nodes.proofs.top_of.Statement.{statement}
 use Rattle.cost_nodes.proofs.top_of.Tie as tie
 
-features-word-requires : tie.Need-features-word-requires
-features-word-requires c κs = search needs
-
-wide-requires : tie.Need-wide-requires
-wide-requires c κs = search needs
-
-sub-wide : tie.Need-sub-wide
-sub-wide c = search needs
-
-wide-requires-2 : tie.Need-wide-requires-2
-wide-requires-2 c κs = search needs
-
-record-word-requires : tie.Need-record-word-requires
-record-word-requires c κs = search needs
-
-wide-requires-3 : tie.Need-wide-requires-3
-wide-requires-3 c κs = search needs
-
 returns : tie.Need-returns
 returns c = (c .wide) .ensures .0 ∙ (c .before .features-word) .ensures ∙ sym (top-end ((c .before .before .before .before) .args .t .now) ((c .before .before .before .before) .args .x) (omega arith))
 
@@ -37,11 +19,11 @@ pub top-of-spec : {M : Type 1} → statement M
 top-of-spec =
     tie.close
     (tie.spec
-    features-word-requires
-    wide-requires
-    sub-wide
-    wide-requires-2
-    record-word-requires
-    wide-requires-3
+    (λ c κs. search needs)
+    (λ c κs. search needs)
+    (λ c. search needs)
+    (λ c κs. search needs)
+    (λ c κs. search needs)
+    (λ c κs. search needs)
     returns
     returns-2)

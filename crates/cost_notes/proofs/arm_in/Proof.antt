@@ -6,7 +6,7 @@ use mathlib.Core.List.{List}
 use mathlib.Core.Path.{_∙_, ap}
 use Rattle.theory.specs.Costs.{costs}
 use Rattle.theory.specs.Diagrams.{Node}
-use Rattle.cost_laws.specs.Relative.{branchAt}
+use Rattle.theory_costs.specs.Relative.{branchAt}
 use Rattle.cost_notes.proofs.arm_in.Statement.{statement}
 use Rattle.cost_notes.proofs.arm_in.Tie as tie
 use Rattle.promises.specs.CostWords.{target}

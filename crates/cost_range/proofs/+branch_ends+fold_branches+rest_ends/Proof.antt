@@ -4,7 +4,7 @@ use mathlib.Core.Bool.{true, false}
 use Prim.Native.Nat.{ℕ, _+_, _-_, _*_, _≤_, _<_}
 use native.Mathlib.Omega.{arith}
 use lib.ListN.{length, drop}
-use Rattle.notes.specs.Plain.{plain}
+use Rattle.table_notes.specs.Plain.{plain}
 use Rattle.cost_notes.proofs.Reading.{plain-head}
 use Rattle.cost_nodes.proofs.Stepping.{good-small}
 use Rattle.cost_range.specs.Ends.{ofTargets, Folded, Noted}
@@ -36,10 +36,10 @@ use Rattle.cost_range.proofs.furthest.Reads as furthest-reads
 use Rattle.cost_range.proofs.met_ends.Reads as met-ends-reads
 use Rattle.cost_range.proofs.tied_word.Reads as tied-word-reads
 use Rattle.cost_words.proofs.sum_or_lost.Reads as sum-or-lost-reads
-use Rattle.words.proofs.size_word.Reads as size-word-reads
+use Rattle.table_words.proofs.size_word.Reads as size-word-reads
 use Rattle.cost_range.proofs.number_of.Reads as number-of-reads
-use Rattle.words.proofs.narrow.Reads as narrow-reads
-use Rattle.words.proofs.wide.Reads as wide-reads
+use Rattle.table_words.proofs.narrow.Reads as narrow-reads
+use Rattle.table_words.proofs.wide.Reads as wide-reads
 use Rattle.cost_range.proofs.+branch_ends+fold_branches+rest_ends.{statement}
 use Rattle.cost_range.proofs.+branch_ends+fold_branches+rest_ends.Tie.{close}
 use Rattle.promises.specs.Words.{features, size, sizes}
@@ -84,13 +84,38 @@ abbrev branch-ends-claims : ℕ → branch-ends-lts.Claims
 branch-ends-claims t = (tied-word-reads.Asked, tied-word-reads.Learnt, rest-ends-below t, rest-ends.Post, sum-or-lost-reads.Asked, sum-or-lost-reads.Learnt)
 
 abbrev fold-branches-claims : ℕ → fold-branches-lts.Claims
-fold-branches-claims t = (size-word-reads.Asked, size-word-reads.Learnt, wide-reads.Asked, wide-reads.Learnt, arm-in-reads.Asked, arm-in-reads.Learnt, branch-ends-below t, branch-ends.Post, furthest-reads.Asked, furthest-reads.Learnt)
+fold-branches-claims t = (
+  size-word-reads.Asked,
+  size-word-reads.Learnt,
+  wide-reads.Asked,
+  wide-reads.Learnt,
+  arm-in-reads.Asked,
+  arm-in-reads.Learnt,
+  branch-ends-below t,
+  branch-ends.Post,
+  furthest-reads.Asked,
+  furthest-reads.Learnt,
+)
 
 abbrev rest-ends-claims : ℕ → rest-ends-lts.Claims
-rest-ends-claims t = (kept-in-reads.Asked, kept-in-reads.Learnt, met-ends-reads.Asked, met-ends-reads.Learnt, lowest-reads.Asked, lowest-reads.Learnt, number-of-reads.Asked, number-of-reads.Learnt, narrow-reads.Asked, narrow-reads.Learnt, recall-in-reads.Asked, recall-in-reads.Learnt, fold-branches-below t, fold-branches.Post, remember-in-reads.Asked, remember-in-reads.Learnt)
-
-branch-ends-tied-word-requires : (t : ℕ) → branch-ends-lts.Need-tied-word-requires (branch-ends-claims t) (branch-ends-at t) branch-ends.Post
-branch-ends-tied-word-requires t c κs = search needs
+rest-ends-claims t = (
+  kept-in-reads.Asked,
+  kept-in-reads.Learnt,
+  met-ends-reads.Asked,
+  met-ends-reads.Learnt,
+  lowest-reads.Asked,
+  lowest-reads.Learnt,
+  number-of-reads.Asked,
+  number-of-reads.Learnt,
+  narrow-reads.Asked,
+  narrow-reads.Learnt,
+  recall-in-reads.Asked,
+  recall-in-reads.Learnt,
+  fold-branches-below t,
+  fold-branches.Post,
+  remember-in-reads.Asked,
+  remember-in-reads.Learnt,
+)
 
 branch-ends-returns : (t : ℕ) → branch-ends-lts.Need-returns (branch-ends-claims t) (branch-ends-at t) branch-ends.Post
 branch-ends-returns t c = let a = (c .before .before .before .before) in
@@ -99,67 +124,53 @@ branch-ends-returns t c = let a = (c .before .before .before .before) in
 branch-ends-rest-ends-requires : (t : ℕ) → branch-ends-lts.Need-rest-ends-requires (branch-ends-claims t) (branch-ends-at t) branch-ends.Post
 branch-ends-rest-ends-requires t c κs = let a = (c .before .before .before .before .before .before) in (omega arith, (a .pre .1 .0, a .pre .1 .1))
 
-branch-ends-enum-known-l : (t : ℕ) → branch-ends-lts.Need-enum-known-l (branch-ends-claims t) (branch-ends-at t) branch-ends.Post
-branch-ends-enum-known-l t c = search needs
-
-branch-ends-enum-told : (t : ℕ) → branch-ends-lts.Need-enum-told (branch-ends-claims t) (branch-ends-at t) branch-ends.Post
-branch-ends-enum-told t c = search needs
-
-branch-ends-same-length : (t : ℕ) → branch-ends-lts.Need-same-length (branch-ends-claims t) (branch-ends-at t) branch-ends.Post
-branch-ends-same-length t c = search needs
-
-branch-ends-same-length-2 : (t : ℕ) → branch-ends-lts.Need-same-length-2 (branch-ends-claims t) (branch-ends-at t) branch-ends.Post
-branch-ends-same-length-2 t c = search needs
-
 branch-ends-returns-2 : (t : ℕ) → branch-ends-lts.Need-returns-2 (branch-ends-claims t) (branch-ends-at t) branch-ends.Post
-branch-ends-returns-2 t c = let a = (c .before .before .before .before .before .before .before .before .before .before .before .before .before) in let z = (c .before .before .before .before .before .before .rest-ends) in
-    (rest-lost _ _ _ (a .args .a .adds) _ (a .args .b .adds) (a .pre .1 .0) (a .args .minus) (ends-lost (z .result) ((c .enum-told) .given .1) (z .ensures .0)), z .ensures .1, z .ensures .2)
-
-branch-ends-sum-or-lost-requires : (t : ℕ) → branch-ends-lts.Need-sum-or-lost-requires (branch-ends-claims t) (branch-ends-at t) branch-ends.Post
-branch-ends-sum-or-lost-requires t c κs = search needs
-
-branch-ends-same-length-3 : (t : ℕ) → branch-ends-lts.Need-same-length-3 (branch-ends-claims t) (branch-ends-at t) branch-ends.Post
-branch-ends-same-length-3 t c = search needs
-
-branch-ends-same-length-4 : (t : ℕ) → branch-ends-lts.Need-same-length-4 (branch-ends-claims t) (branch-ends-at t) branch-ends.Post
-branch-ends-same-length-4 t c = search needs
+branch-ends-returns-2 t c =
+    let c6 = c .before .before .before .before .before .before in let a = c6 .before .before .before .before .before .before .before in
+    let z = c6 .rest-ends in
+    (rest-lost _ _ _ (a .args .a .adds) _ (a .args .b .adds) (a .pre .1 .0) (a .args .minus) (ends-lost (z .result) (c .enum-told .given .1) (z .ensures .0)), z .ensures .1, z .ensures .2)
 
 branch-ends-returns-3 : (t : ℕ) → branch-ends-lts.Need-returns-3 (branch-ends-claims t) (branch-ends-at t) branch-ends.Post
-branch-ends-returns-3 t c = let a = (c .before .before .before .before .before .before .before .before .before .before .before .before .before .before .before .before) in let z = (c .before .before .before .before .before .before .before .before .before .rest-ends) in let w = (c .before .before .before .before .before .before .before .before .before .before .before .before .before .tied-word) in
-    let q = ends-are (z .result) ((c .before .before .before .l) .given .1) (z .ensures .0) in
-    (low-lost _ _ _ (a .args .a .adds) _ (a .args .b .adds) (a .pre .1 .0) (a .args .minus) (w .result) _ _ (w .ensures) (omega (arith, (c .before .before .before .before .before .before .before .before .before .before .before .before .if1) .left)) q ((c .before .sum-or-lost) .result) ((c .if2) .taken) ((c .before .sum-or-lost) .ensures), z .ensures .1, z .ensures .2)
-
-branch-ends-sum-or-lost-requires-2 : (t : ℕ) → branch-ends-lts.Need-sum-or-lost-requires-2 (branch-ends-claims t) (branch-ends-at t) branch-ends.Post
-branch-ends-sum-or-lost-requires-2 t c κs = search needs
-
-branch-ends-same-length-5 : (t : ℕ) → branch-ends-lts.Need-same-length-5 (branch-ends-claims t) (branch-ends-at t) branch-ends.Post
-branch-ends-same-length-5 t c = search needs
-
-branch-ends-same-length-6 : (t : ℕ) → branch-ends-lts.Need-same-length-6 (branch-ends-claims t) (branch-ends-at t) branch-ends.Post
-branch-ends-same-length-6 t c = search needs
+branch-ends-returns-3 t c =
+    let c9 = c .before .before .before .before .before .before .before .before .before in let c12 = c9 .before .before .before in let c13 = c12 .before in
+    let a = c13 .before .before .before in
+    let z = c9 .rest-ends in let w = c13 .tied-word in
+    let q = ends-are (z .result) (c .before .before .before .l .given .1) (z .ensures .0) in (
+      low-lost _ _ _ (a .args .a .adds) _ (a .args .b .adds) (a .pre .1 .0) (a .args .minus) (w .result) _ _ (w .ensures) (omega (arith, c12 .if1 .left)) q
+          (c .before .sum-or-lost .result) (c .if2 .taken) (c .before .sum-or-lost .ensures),
+      z .ensures .1,
+      z .ensures .2,
+    )
 
 branch-ends-returns-4 : (t : ℕ) → branch-ends-lts.Need-returns-4 (branch-ends-claims t) (branch-ends-at t) branch-ends.Post
-branch-ends-returns-4 t c = let a = (c .before .before .before .before .before .before .before .before .before .before .before .before .before .before .before .before .before .before) in let z = (c .before .before .before .before .before .before .before .before .before .before .before .rest-ends) in let w = (c .before .before .before .before .before .before .before .before .before .before .before .before .before .before .before .tied-word) in
-    let q = ends-are (z .result) ((c .before .before .before .before .before .l) .given .1) (z .ensures .0) in
-    (high-lost _ _ _ (a .args .a .adds) _ (a .args .b .adds) (a .pre .1 .0) (a .args .minus) (w .result) _ _ (w .ensures) (omega (arith, (c .before .before .before .before .before .before .before .before .before .before .before .before .before .before .if1) .left)) q ((c .before .sum-or-lost2) .result) ((c .if3) .taken) ((c .before .sum-or-lost2) .ensures), z .ensures .1, z .ensures .2)
-
-branch-ends-same-length-7 : (t : ℕ) → branch-ends-lts.Need-same-length-7 (branch-ends-claims t) (branch-ends-at t) branch-ends.Post
-branch-ends-same-length-7 t c = search needs
-
-branch-ends-same-length-8 : (t : ℕ) → branch-ends-lts.Need-same-length-8 (branch-ends-claims t) (branch-ends-at t) branch-ends.Post
-branch-ends-same-length-8 t c = search needs
+branch-ends-returns-4 t c =
+    let c11 = c .before .before .before .before .before .before .before .before .before .before .before in let c14 = c11 .before .before .before in let c15 = c14 .before in
+    let a = c15 .before .before .before in
+    let z = c11 .rest-ends in let w = c15 .tied-word in
+    let q = ends-are (z .result) (c .before .before .before .before .before .l .given .1) (z .ensures .0) in (
+      high-lost _ _ _ (a .args .a .adds) _ (a .args .b .adds) (a .pre .1 .0) (a .args .minus) (w .result) _ _ (w .ensures) (omega (arith, c14 .if1 .left)) q
+          (c .before .sum-or-lost2 .result) (c .if3 .taken) (c .before .sum-or-lost2 .ensures),
+      z .ensures .1,
+      z .ensures .2,
+    )
 
 branch-ends-returns-5 : (t : ℕ) → branch-ends-lts.Need-returns-5 (branch-ends-claims t) (branch-ends-at t) branch-ends.Post
-branch-ends-returns-5 t c = let a = (c .before .before .before .before .before .before .before .before .before .before .before .before .before .before .before .before .before .before) in let z = (c .before .before .before .before .before .before .before .before .before .before .before .rest-ends) in let w = (c .before .before .before .before .before .before .before .before .before .before .before .before .before .before .before .tied-word) in
-    let q = ends-are (z .result) ((c .before .before .before .before .before .l) .given .1) (z .ensures .0) in (
-      both-stand _ _ _ (a .args .a .adds) _ (a .args .b .adds) (a .pre .1 .0) (a .args .minus) (w .result) _ _ (w .ensures) (omega (arith, (c .before .before .before .before .before .before .before .before .before .before .before .before .before .before .if1) .left)) q ((c .before .before .before .sum-or-lost) .result) ((c .before .sum-or-lost2) .result)
-          (omega (arith, (c .before .before .if2) .left)) (omega (arith, (c .if3) .left)) ((c .before .before .before .sum-or-lost) .ensures) ((c .before .sum-or-lost2) .ensures),
+branch-ends-returns-5 t c =
+    let c11 = c .before .before .before .before .before .before .before .before .before .before .before in let c14 = c11 .before .before .before in let c15 = c14 .before in
+    let a = c15 .before .before .before in
+    let z = c11 .rest-ends in let w = c15 .tied-word in
+    let q = ends-are (z .result) (c .before .before .before .before .before .l .given .1) (z .ensures .0) in (
+      both-stand _ _ _ (a .args .a .adds) _ (a .args .b .adds) (a .pre .1 .0) (a .args .minus) (w .result) _ _ (w .ensures) (omega (arith, c14 .if1 .left)) q
+          (c .before .before .before .sum-or-lost .result) (c .before .sum-or-lost2 .result)
+          (omega (arith, c .before .before .if2 .left)) (omega (arith, c .if3 .left)) (c .before .before .before .sum-or-lost .ensures) (c .before .sum-or-lost2 .ensures),
       z .ensures .1,
       z .ensures .2,
     )
 
 abbrev fold-branches-Inv-loop : fold-branches-lts.InvT-loop
-fold-branches-Inv-loop t₀ s₀ minus k x y m low₀ high₀ v₀ t s low high v = (m ≡ size (plain t₀) k) × (v ≤ m) × Folded false (drop (k + 1) (sizes (plain t₀))) (ofTargets minus (plain t₀) k x y) v low × Folded true (drop (k + 1) (sizes (plain t₀))) (ofTargets minus (plain t₀) k x y) v high × (plain t ≡ plain t₀) × Noted minus t s × (length t ≡ length t₀) × (length s ≡ length s₀)
+fold-branches-Inv-loop t₀ s₀ minus k x y m low₀ high₀ v₀ t s low high v = (m ≡ size (plain t₀) k) × (v ≤ m) × Folded false (drop (k + 1) (sizes (plain t₀)))
+    (ofTargets minus (plain t₀) k x y) v low × Folded true (drop (k + 1) (sizes (plain t₀))) (ofTargets minus (plain t₀) k x y) v high ×
+    (plain t ≡ plain t₀) × Noted minus t s × (length t ≡ length t₀) × (length s ≡ length s₀)
 
 abbrev fold-branches-μ-loop : fold-branches-lts.MeasureT-loop
 fold-branches-μ-loop t₀ s₀ minus k x y m low₀ high₀ v₀ t s low high v = m - v
@@ -167,76 +178,69 @@ fold-branches-μ-loop t₀ s₀ minus k x y m low₀ high₀ v₀ t s low high v
 fold-branches-size-word-requires : (t : ℕ) → fold-branches-lts.Need-size-word-requires (fold-branches-claims t) (fold-branches-at t) fold-branches.Post fold-branches-Inv-loop fold-branches-μ-loop
 fold-branches-size-word-requires t c κs = let a = (c .before .before .before) in omega (arith, a .pre .1 .1 .room .room, a .pre .1 .2, a .pre .1 .0 .holds .laid .laid .few)
 
-fold-branches-wide-requires : (t : ℕ) → fold-branches-lts.Need-wide-requires (fold-branches-claims t) (fold-branches-at t) fold-branches.Post fold-branches-Inv-loop fold-branches-μ-loop
-fold-branches-wide-requires t c κs = search needs
-
 fold-branches-loop-holds : (t : ℕ) → fold-branches-lts.Need-loop-holds (fold-branches-claims t) (fold-branches-at t) fold-branches.Post fold-branches-Inv-loop fold-branches-μ-loop
-fold-branches-loop-holds t c = let a = (c .before .before .before .before .before) in
-    ((c .wide) .ensures .0 ∙ (c .before .size-word) .ensures ∙ sym (plain-head _ _ (omega (arith, a .pre .1 .2, a .pre .1 .0 .holds .laid .laid .few))), omega arith, folded-none _ _ _ _, folded-none _ _ _ _, refl, a .pre .1 .1, refl, refl)
+fold-branches-loop-holds t c =
+    let a = c .before .before .before .before .before in (
+      c .wide .ensures .0 ∙ c .before .size-word .ensures ∙ sym (plain-head _ _ (omega (arith, a .pre .1 .2, a .pre .1 .0 .holds .laid .laid .few))),
+      omega arith,
+      folded-none _ _ _ _,
+      folded-none _ _ _ _,
+      refl,
+      a .pre .1 .1,
+      refl,
+      refl,
+    )
 
 fold-branches-arm-in-requires : (t : ℕ) → fold-branches-lts.Need-arm-in-requires (fold-branches-claims t) (fold-branches-at t) fold-branches.Post fold-branches-Inv-loop fold-branches-μ-loop
-fold-branches-arm-in-requires t c κs = let a = (c .before .before .before .before .before .before .before .before) in let l = (c .before .before .loop) in first-over (l .inv .4) _ _ _ (a .pre .1 .0) (a .pre .1 .2) (l .v) (omega (arith, l .inv .0, (c .before .loop-test)))
+fold-branches-arm-in-requires t c κs =
+    let a = c .before .before .before .before .before .before .before .before in
+    let l = c .before .before .loop in first-over (l .inv .4) _ _ _ (a .pre .1 .0) (a .pre .1 .2) (l .v) (omega (arith, l .inv .0, (c .before .loop-test)))
 
 fold-branches-arm-in-requires-2 : (t : ℕ) → fold-branches-lts.Need-arm-in-requires-2 (fold-branches-claims t) (fold-branches-at t) fold-branches.Post fold-branches-Inv-loop fold-branches-μ-loop
-fold-branches-arm-in-requires-2 t c κs = let a = (c .before .before .before .before .before .before .before .before .before .before) in let l = (c .before .before .before .before .loop) in second-over (l .inv .4) _ _ _ (a .pre .1 .0) (a .pre .1 .2) (l .v) (omega (arith, l .inv .0, (c .before .before .before .loop-test)))
-
-fold-branches-add-branch-ends : (t : ℕ) → fold-branches-lts.Need-add-branch-ends (fold-branches-claims t) (fold-branches-at t) fold-branches.Post fold-branches-Inv-loop fold-branches-μ-loop
-fold-branches-add-branch-ends t c = search needs
+fold-branches-arm-in-requires-2 t c κs =
+    let a = c .before .before .before .before .before .before .before .before .before .before in
+    let l = c .before .before .before .before .loop in second-over (l .inv .4) _ _ _ (a .pre .1 .0) (a .pre .1 .2) (l .v) (omega (arith, l .inv .0, (c .before .before .before .loop-test)))
 
 fold-branches-branch-ends-requires : (t : ℕ) → fold-branches-lts.Need-branch-ends-requires (fold-branches-claims t) (fold-branches-at t) fold-branches.Post fold-branches-Inv-loop fold-branches-μ-loop
-fold-branches-branch-ends-requires t c κs = let a = (c .before .before .before .before .before .before .before .before .before .before .before .before .before) in let l = (c .before .before .before .before .before .before .before .loop) in
-    (omega (arith, a .pre .1 .2, features-over (l .inv .4)), (step-over (l .inv .4) _ _ _ (a .pre .1 .0) (a .pre .1 .2) (l .v) _ _ _ _ ((c .before .before .before .before .arm-in) .ensures) ((c .before .before .arm-in2) .ensures), l .inv .5))
-
-fold-branches-enum-known-l : (t : ℕ) → fold-branches-lts.Need-enum-known-l (fold-branches-claims t) (fold-branches-at t) fold-branches.Post fold-branches-Inv-loop fold-branches-μ-loop
-fold-branches-enum-known-l t c = search needs
-
-fold-branches-enum-told : (t : ℕ) → fold-branches-lts.Need-enum-told (fold-branches-claims t) (fold-branches-at t) fold-branches.Post fold-branches-Inv-loop fold-branches-μ-loop
-fold-branches-enum-told t c = search needs
-
-fold-branches-same-length : (t : ℕ) → fold-branches-lts.Need-same-length (fold-branches-claims t) (fold-branches-at t) fold-branches.Post fold-branches-Inv-loop fold-branches-μ-loop
-fold-branches-same-length t c = search needs
-
-fold-branches-same-length-2 : (t : ℕ) → fold-branches-lts.Need-same-length-2 (fold-branches-claims t) (fold-branches-at t) fold-branches.Post fold-branches-Inv-loop fold-branches-μ-loop
-fold-branches-same-length-2 t c = search needs
+fold-branches-branch-ends-requires t c κs =
+    let c7 = c .before .before .before .before .before .before .before in let a = c7 .before .before .before .before .before .before in
+    let l = c7 .loop in (
+      omega (arith, a .pre .1 .2, features-over (l .inv .4)),
+      (
+        step-over (l .inv .4) _ _ _ (a .pre .1 .0) (a .pre .1 .2) (l .v) _ _ _ _
+            (c .before .before .before .before .arm-in .ensures) (c .before .before .arm-in2 .ensures),
+        l .inv .5,
+      ),
+    )
 
 fold-branches-returns : (t : ℕ) → fold-branches-lts.Need-returns (fold-branches-claims t) (fold-branches-at t) fold-branches.Post fold-branches-Inv-loop fold-branches-μ-loop
-fold-branches-returns t c = let a = (c .before .before .before .before .before .before .before .before .before .before .before .before .before .before .before .before .before .before .before .before) in let l = (c .before .before .before .before .before .before .before .before .before .before .before .before .before .before .loop) in let z = (c .before .before .before .before .before .before .branch-ends) in
-    let q = ends-lost (z .result) ((c .enum-told) .given .1) (z .ensures .0) in (
-      one-lost _ _ _ _ (a .pre .1 .0) (a .args .minus) (a .pre .1 .2) (l .v) (omega (arith, l .inv .0, (c .before .before .before .before .before .before .before .before .before .before .before .before .before .loop-test))) (branches-over (l .inv .4) _ _ _ (a .pre .1 .0) (a .pre .1 .2) (l .v) _ _ _ _ ((c .before .before .before .before .before .before .before .before .before .before .before .arm-in) .ensures) ((c .before .before .before .before .before .before .before .before .before .arm-in2) .ensures) (a .args .minus) Lost q),
+fold-branches-returns t c =
+    let c6 = c .before .before .before .before .before .before in let c9 = c6 .before .before .before in let c11 = c9 .before .before in let c13 = c11 .before .before in
+    let c14 = c13 .before in let a = c14 .before .before .before .before .before .before in
+    let l = c14 .loop in let z = c6 .branch-ends in
+    let q = ends-lost (z .result) (c .enum-told .given .1) (z .ensures .0) in (
+      one-lost _ _ _ _ (a .pre .1 .0) (a .args .minus) (a .pre .1 .2) (l .v) (omega (arith, l .inv .0, (c13 .loop-test)))
+          (branches-over (l .inv .4) _ _ _ (a .pre .1 .0) (a .pre .1 .2) (l .v) _ _ _ _ (c11 .arm-in .ensures) (c9 .arm-in2 .ensures) (a .args .minus) Lost q),
       z .ensures .1 ∙ l .inv .4,
       z .ensures .2,
     )
-
-fold-branches-furthest-requires : (t : ℕ) → fold-branches-lts.Need-furthest-requires (fold-branches-claims t) (fold-branches-at t) fold-branches.Post fold-branches-Inv-loop fold-branches-μ-loop
-fold-branches-furthest-requires t c κs = search needs
-
-fold-branches-furthest-requires-2 : (t : ℕ) → fold-branches-lts.Need-furthest-requires-2 (fold-branches-claims t) (fold-branches-at t) fold-branches.Post fold-branches-Inv-loop fold-branches-μ-loop
-fold-branches-furthest-requires-2 t c κs = search needs
-
-fold-branches-add-v : (t : ℕ) → fold-branches-lts.Need-add-v (fold-branches-claims t) (fold-branches-at t) fold-branches.Post fold-branches-Inv-loop fold-branches-μ-loop
-fold-branches-add-v t c = search needs
-
-fold-branches-loop-less : (t : ℕ) → fold-branches-lts.Need-loop-less (fold-branches-claims t) (fold-branches-at t) fold-branches.Post fold-branches-Inv-loop fold-branches-μ-loop
-fold-branches-loop-less t c = search needs
 
 fold-branches-loop-again : (t : ℕ) → fold-branches-lts.Need-loop-again (fold-branches-claims t) (fold-branches-at t) fold-branches.Post fold-branches-Inv-loop fold-branches-μ-loop
-fold-branches-loop-again t c = let a = (c .before .before .before .before .before .before .before .before .before .before .before .before .before .before .before .before .before .before .before .before .before .before .before) in let l = (c .before .before .before .before .before .before .before .before .before .before .before .before .before .before .before .before .before .loop) in let z = (c .before .before .before .before .before .before .before .before .before .branch-ends) in
-    let q = branches-over (l .inv .4) _ _ _ (a .pre .1 .0) (a .pre .1 .2) (l .v) _ _ _ _ ((c .before .before .before .before .before .before .before .before .before .before .before .before .before .before .arm-in) .ensures) ((c .before .before .before .before .before .before .before .before .before .before .before .before .arm-in2) .ensures) (a .args .minus) (Are _ _) (ends-are (z .result) ((c .before .before .before .l) .given .1) (z .ensures .0)) in (
+fold-branches-loop-again t c =
+    let c9 = c .before .before .before .before .before .before .before .before .before in let c12 = c9 .before .before .before in let c14 = c12 .before .before in
+    let c16 = c14 .before .before in let c17 = c16 .before in let a = c17 .before .before .before .before .before .before in
+    let l = c17 .loop in let z = c9 .branch-ends in
+    let q = branches-over (l .inv .4) _ _ _ (a .pre .1 .0) (a .pre .1 .2) (l .v) _ _ _ _ (c14 .arm-in .ensures) (c12 .arm-in2 .ensures) (a .args .minus) (Are _ _)
+    (ends-are (z .result) (c .before .before .before .l .given .1) (z .ensures .0)) in (
       l .inv .0,
-      omega (arith, (c .before .before .before .before .before .before .before .before .before .before .before .before .before .before .before .before .loop-test)),
-      folded-more false _ _ (l .v) (l .low) _ ((c .before .furthest) .result) (l .inv .2) (q .lowest) ((c .before .furthest) .ensures),
-      folded-more true _ _ (l .v) (l .high) _ ((c .furthest2) .result) (l .inv .3) (q .highest) ((c .furthest2) .ensures),
+      omega (arith, (c16 .loop-test)),
+      folded-more false _ _ (l .v) (l .low) _ (c .before .furthest .result) (l .inv .2) (q .lowest) (c .before .furthest .ensures),
+      folded-more true _ _ (l .v) (l .high) _ (c .furthest2 .result) (l .inv .3) (q .highest) (c .furthest2 .ensures),
       z .ensures .1 ∙ l .inv .4,
       z .ensures .2,
       search needs,
       search needs,
     )
-
-fold-branches-same-length-3 : (t : ℕ) → fold-branches-lts.Need-same-length-3 (fold-branches-claims t) (fold-branches-at t) fold-branches.Post fold-branches-Inv-loop fold-branches-μ-loop
-fold-branches-same-length-3 t c = search needs
-
-fold-branches-same-length-4 : (t : ℕ) → fold-branches-lts.Need-same-length-4 (fold-branches-claims t) (fold-branches-at t) fold-branches.Post fold-branches-Inv-loop fold-branches-μ-loop
-fold-branches-same-length-4 t c = search needs
 
 fold-branches-returns-2 : (t : ℕ) → fold-branches-lts.Need-returns-2 (fold-branches-claims t) (fold-branches-at t) fold-branches.Post fold-branches-Inv-loop fold-branches-μ-loop
 fold-branches-returns-2 t c = let a = (c .before .before .before .before .before .before .before) in let l = (c .before .loop) in
@@ -248,14 +252,14 @@ rest-ends-kept-in-requires t c κs = let p = (c .before .before .before .before)
 rest-ends-kept-in-requires-2 : (t : ℕ) → rest-ends-lts.Need-kept-in-requires-2 (rest-ends-claims t) (rest-ends-at t) rest-ends.Post
 rest-ends-kept-in-requires-2 t c κs = let p = (c .before .before .before .before .before .before) .pre .1 .0 in (p .holds .laid .laid, good-small _ _ _ (p .second))
 
-rest-ends-met-ends-requires : (t : ℕ) → rest-ends-lts.Need-met-ends-requires (rest-ends-claims t) (rest-ends-at t) rest-ends.Post
-rest-ends-met-ends-requires t c κs = search needs
-
-rest-ends-same-length : (t : ℕ) → rest-ends-lts.Need-same-length (rest-ends-claims t) (rest-ends-at t) rest-ends.Post
-rest-ends-same-length t c = search needs
-
 rest-ends-returns : (t : ℕ) → rest-ends-lts.Need-returns (rest-ends-claims t) (rest-ends-at t) rest-ends.Post
-rest-ends-returns t c = let a = (c .before .before .before .before .before .before .before .before) in (first-ended _ _ _ _ (a .pre .1 .0) (a .args .minus) _ _ _ _ ((c .before .before .before .kept-in) .ensures) ((c .before .kept-in2) .ensures) ((c .before .before .before .before .before .if1) .taken) ((c .met-ends) .result) ((c .met-ends) .ensures), refl, a .pre .1 .1)
+rest-ends-returns t c =
+    let a = c .before .before .before .before .before .before .before .before in (
+      first-ended _ _ _ _ (a .pre .1 .0) (a .args .minus) _ _ _ _ (c .before .before .before .kept-in .ensures) (c .before .kept-in2 .ensures)
+          (c .before .before .before .before .before .if1 .taken) (c .met-ends .result) (c .met-ends .ensures),
+      refl,
+      a .pre .1 .1,
+    )
 
 rest-ends-kept-in-requires-3 : (t : ℕ) → rest-ends-lts.Need-kept-in-requires-3 (rest-ends-claims t) (rest-ends-at t) rest-ends.Post
 rest-ends-kept-in-requires-3 t c κs = let p = (c .before .before .before .before .before) .pre .1 .0 in (p .holds .laid .laid, good-small _ _ _ (p .first))
@@ -263,20 +267,19 @@ rest-ends-kept-in-requires-3 t c κs = let p = (c .before .before .before .befor
 rest-ends-kept-in-requires-4 : (t : ℕ) → rest-ends-lts.Need-kept-in-requires-4 (rest-ends-claims t) (rest-ends-at t) rest-ends.Post
 rest-ends-kept-in-requires-4 t c κs = let p = (c .before .before .before .before .before .before .before) .pre .1 .0 in (p .holds .laid .laid, good-small _ _ _ (p .second))
 
-rest-ends-met-ends-requires-2 : (t : ℕ) → rest-ends-lts.Need-met-ends-requires-2 (rest-ends-claims t) (rest-ends-at t) rest-ends.Post
-rest-ends-met-ends-requires-2 t c κs = search needs
-
-rest-ends-same-length-2 : (t : ℕ) → rest-ends-lts.Need-same-length-2 (rest-ends-claims t) (rest-ends-at t) rest-ends.Post
-rest-ends-same-length-2 t c = search needs
-
 rest-ends-returns-2 : (t : ℕ) → rest-ends-lts.Need-returns-2 (rest-ends-claims t) (rest-ends-at t) rest-ends.Post
-rest-ends-returns-2 t c = let a = (c .before .before .before .before .before .before .before .before .before) in (second-ended _ _ _ _ (a .pre .1 .0) (a .args .minus) _ _ _ _ ((c .before .before .before .kept-in3) .ensures) ((c .before .kept-in4) .ensures) ((c .before .before .before .before .before .if2) .taken) ((c .met-ends2) .result) ((c .met-ends2) .ensures), refl, a .pre .1 .1)
+rest-ends-returns-2 t c =
+    let a = c .before .before .before .before .before .before .before .before .before in (
+      second-ended _ _ _ _ (a .pre .1 .0) (a .args .minus) _ _ _ _ (c .before .before .before .kept-in3 .ensures) (c .before .kept-in4 .ensures)
+          (c .before .before .before .before .before .if2 .taken) (c .met-ends2 .result) (c .met-ends2 .ensures),
+      refl,
+      a .pre .1 .1,
+    )
 
 rest-ends-lowest-requires : (t : ℕ) → rest-ends-lts.Need-lowest-requires (rest-ends-claims t) (rest-ends-at t) rest-ends.Post
-rest-ends-lowest-requires t c κs = let a = (c .before .before .before .before .before) in (a .pre .1 .0 .holds .laid .laid, good-small _ _ _ (a .pre .1 .0 .first), good-small _ _ _ (a .pre .1 .0 .second))
-
-rest-ends-number-of-requires : (t : ℕ) → rest-ends-lts.Need-number-of-requires (rest-ends-claims t) (rest-ends-at t) rest-ends.Post
-rest-ends-number-of-requires t c κs = search needs
+rest-ends-lowest-requires t c κs =
+    let a = c .before .before .before .before .before in
+    (a .pre .1 .0 .holds .laid .laid, good-small _ _ _ (a .pre .1 .0 .first), good-small _ _ _ (a .pre .1 .0 .second))
 
 rest-ends-add-narrow : (t : ℕ) → rest-ends-lts.Need-add-narrow (rest-ends-claims t) (rest-ends-at t) rest-ends.Post
 rest-ends-add-narrow t c = let a = (c .before .before .before .before .before .before .before) in let m = (c .before .lowest) in
@@ -291,74 +294,60 @@ rest-ends-narrow-requires t c κs = let a = (c .before .before .before .before .
 rest-ends-recall-in-requires : (t : ℕ) → rest-ends-lts.Need-recall-in-requires (rest-ends-claims t) (rest-ends-at t) rest-ends.Post
 rest-ends-recall-in-requires t c κs = (c .before .before .before .before .before .before .before .before .before .before) .pre .1 .1 .room
 
-rest-ends-enum-known-memo : (t : ℕ) → rest-ends-lts.Need-enum-known-memo (rest-ends-claims t) (rest-ends-at t) rest-ends.Post
-rest-ends-enum-known-memo t c = search needs
-
-rest-ends-same-length-3 : (t : ℕ) → rest-ends-lts.Need-same-length-3 (rest-ends-claims t) (rest-ends-at t) rest-ends.Post
-rest-ends-same-length-3 t c = search needs
-
-rest-ends-same-length-4 : (t : ℕ) → rest-ends-lts.Need-same-length-4 (rest-ends-claims t) (rest-ends-at t) rest-ends.Post
-rest-ends-same-length-4 t c = search needs
-
 rest-ends-returns-3 : (t : ℕ) → rest-ends-lts.Need-returns-3 (rest-ends-claims t) (rest-ends-at t) rest-ends.Post
-rest-ends-returns-3 t c = let a = (c .before .before .before .before .before .before .before .before .before .before .before .before .before .before) in let m = (c .before .before .before .before .before .before .before .before .lowest) in
+rest-ends-returns-3 t c =
+    let c6 = c .before .before .before .before .before .before in let c8 = c6 .before .before in let c11 = c8 .before .before .before in
+    let a = c11 .before .before .before in
+    let m = c8 .lowest in
     let p = a .pre .1 .0 in
     let j = m .result in
-    let hj = pair-left _ _ _ _ p j (m .ensures .0) (m .ensures .1) ((c .before .before .before .before .before .before .before .before .before .before .before .if1) .left) in
+    let hj = pair-left _ _ _ _ p j (m .ensures .0) (m .ensures .1) (c11 .if1 .left) in
     let kj = pair-from _ _ _ _ p j (m .ensures .0) (m .ensures .1) (m .ensures .2) in
-    let h = noted-hit (a .args .t .now) (a .args .s .now) ((c .before .before .before .before .before .before .narrow) .result) (a .args .x) (a .args .y) 0 _ _ _ (a .pre .1 .1) ((c .before .before .before .recall-in) .ensures) ((c .before .memo) .given .1) (omega (arith, (c .before .before .before .before .before .before .narrow) .ensures)) in
-    (reaches-jump _ _ _ _ p (a .args .minus) j (m .ensures .0) (m .ensures .1) kj hj (Are _ _) (h .at j ((c .before .before .before .before .before .before .narrow) .ensures)), refl, a .pre .1 .1)
-
-rest-ends-enum-told : (t : ℕ) → rest-ends-lts.Need-enum-told (rest-ends-claims t) (rest-ends-at t) rest-ends.Post
-rest-ends-enum-told t c = search needs
+    let h = noted-hit (a .args .t .now) (a .args .s .now) (c6 .narrow .result) (a .args .x) (a .args .y) 0 _ _ _ (a .pre .1 .1) (c .before .before .before .recall-in .ensures)
+    (c .before .memo .given .1) (omega (arith, c6 .narrow .ensures)) in
+    (reaches-jump _ _ _ _ p (a .args .minus) j (m .ensures .0) (m .ensures .1) kj hj (Are _ _) (h .at j (c6 .narrow .ensures)), refl, a .pre .1 .1)
 
 rest-ends-fold-branches-requires : (t : ℕ) → rest-ends-lts.Need-fold-branches-requires (rest-ends-claims t) (rest-ends-at t) rest-ends.Post
-rest-ends-fold-branches-requires t c κs = let a = (c .before .before .before .before .before .before .before .before .before .before .before .before .before .before .before) in let m = (c .before .before .before .before .before .before .before .before .before .lowest) in
+rest-ends-fold-branches-requires t c κs =
+    let c9 = c .before .before .before .before .before .before .before .before .before in let c12 = c9 .before .before .before in let a = c12 .before .before .before in
+    let m = c9 .lowest in
     let p = a .pre .1 .0 in
     let j = m .result in
-    let hj = pair-left _ _ _ _ p j (m .ensures .0) (m .ensures .1) ((c .before .before .before .before .before .before .before .before .before .before .before .before .if1) .left) in
+    let hj = pair-left _ _ _ _ p j (m .ensures .0) (m .ensures .1) (c12 .if1 .left) in
     let kj = pair-from _ _ _ _ p j (m .ensures .0) (m .ensures .1) (m .ensures .2) in
     (omega arith, (pair-jump _ _ _ _ p j (m .ensures .0) (m .ensures .1) hj, a .pre .1 .1, hj))
 
-rest-ends-enum-known-l : (t : ℕ) → rest-ends-lts.Need-enum-known-l (rest-ends-claims t) (rest-ends-at t) rest-ends.Post
-rest-ends-enum-known-l t c = search needs
-
-rest-ends-enum-told-2 : (t : ℕ) → rest-ends-lts.Need-enum-told-2 (rest-ends-claims t) (rest-ends-at t) rest-ends.Post
-rest-ends-enum-told-2 t c = search needs
-
-rest-ends-same-length-5 : (t : ℕ) → rest-ends-lts.Need-same-length-5 (rest-ends-claims t) (rest-ends-at t) rest-ends.Post
-rest-ends-same-length-5 t c = search needs
-
-rest-ends-same-length-6 : (t : ℕ) → rest-ends-lts.Need-same-length-6 (rest-ends-claims t) (rest-ends-at t) rest-ends.Post
-rest-ends-same-length-6 t c = search needs
-
 rest-ends-returns-4 : (t : ℕ) → rest-ends-lts.Need-returns-4 (rest-ends-claims t) (rest-ends-at t) rest-ends.Post
-rest-ends-returns-4 t c = let a = (c .before .before .before .before .before .before .before .before .before .before .before .before .before .before .before .before .before .before .before .before .before .before) in let m = (c .before .before .before .before .before .before .before .before .before .before .before .before .before .before .before .before .lowest) in let z = (c .before .before .before .before .before .before .fold-branches) in
+rest-ends-returns-4 t c =
+    let c6 = c .before .before .before .before .before .before in let c16 = c6 .before .before .before .before .before .before .before .before .before .before in
+    let c19 = c16 .before .before .before in let a = c19 .before .before .before in
+    let m = c16 .lowest in let z = c6 .fold-branches in
     let p = a .pre .1 .0 in
     let j = m .result in
-    let hj = pair-left _ _ _ _ p j (m .ensures .0) (m .ensures .1) ((c .before .before .before .before .before .before .before .before .before .before .before .before .before .before .before .before .before .before .before .if1) .left) in
+    let hj = pair-left _ _ _ _ p j (m .ensures .0) (m .ensures .1) (c19 .if1 .left) in
     let kj = pair-from _ _ _ _ p j (m .ensures .0) (m .ensures .1) (m .ensures .2) in
-    (reaches-jump _ _ _ _ p (a .args .minus) j (m .ensures .0) (m .ensures .1) kj hj Lost (ends-lost (z .result) ((c .enum-told2) .given .1) (z .ensures .0)), z .ensures .1, z .ensures .2)
+    (reaches-jump _ _ _ _ p (a .args .minus) j (m .ensures .0) (m .ensures .1) kj hj Lost (ends-lost (z .result) (c .enum-told2 .given .1) (z .ensures .0)), z .ensures .1, z .ensures .2)
 
 rest-ends-remember-in-requires : (t : ℕ) → rest-ends-lts.Need-remember-in-requires (rest-ends-claims t) (rest-ends-at t) rest-ends.Post
-rest-ends-remember-in-requires t c κs = ((c .before .before .before .before .before .before .before .before .before .fold-branches) .ensures .2 .room, omega (arith, (c .before .before .before .before .before .before .before .before .before .before .before .before .before .before .before .before .before .narrow) .ensures))
-
-rest-ends-same-length-7 : (t : ℕ) → rest-ends-lts.Need-same-length-7 (rest-ends-claims t) (rest-ends-at t) rest-ends.Post
-rest-ends-same-length-7 t c = search needs
-
-rest-ends-same-length-8 : (t : ℕ) → rest-ends-lts.Need-same-length-8 (rest-ends-claims t) (rest-ends-at t) rest-ends.Post
-rest-ends-same-length-8 t c = search needs
+rest-ends-remember-in-requires t c κs =
+    let c9 = c .before .before .before .before .before .before .before .before .before in let c17 = c9 .before .before .before .before .before .before .before .before in
+    (c9 .fold-branches .ensures .2 .room, omega (arith, c17 .narrow .ensures))
 
 rest-ends-returns-5 : (t : ℕ) → rest-ends-lts.Need-returns-5 (rest-ends-claims t) (rest-ends-at t) rest-ends.Post
-rest-ends-returns-5 t c = let a = (c .before .before .before .before .before .before .before .before .before .before .before .before .before .before .before .before .before .before .before .before .before .before .before .before .before .before .before .before .before .before) in let m = (c .before .before .before .before .before .before .before .before .before .before .before .before .before .before .before .before .before .before .before .before .before .before .before .before .lowest) in let z = (c .before .before .before .before .before .before .before .before .before .before .before .before .before .before .fold-branches) in let u = (c .before .before .before .before .remember-in) in
+rest-ends-returns-5 t c =
+    let c8 = c .before .before .before .before .before .before .before .before in let c14 = c8 .before .before .before .before .before .before in
+    let c22 = c14 .before .before .before .before .before .before .before .before in let c24 = c22 .before .before in let c27 = c24 .before .before .before in
+    let a = c27 .before .before .before in
+    let m = c24 .lowest in let z = c14 .fold-branches in let u = c .before .before .before .before .remember-in in
     let p = a .pre .1 .0 in
     let j = m .result in
-    let hj = pair-left _ _ _ _ p j (m .ensures .0) (m .ensures .1) ((c .before .before .before .before .before .before .before .before .before .before .before .before .before .before .before .before .before .before .before .before .before .before .before .before .before .before .before .if1) .left) in
+    let hj = pair-left _ _ _ _ p j (m .ensures .0) (m .ensures .1) (c27 .if1 .left) in
     let kj = pair-from _ _ _ _ p j (m .ensures .0) (m .ensures .1) (m .ensures .2) in
-    let q = ends-are (z .result) ((c .before .before .before .before .before .before .before .before .l) .given .1) (z .ensures .0) in (
+    let q = ends-are (z .result) (c8 .l .given .1) (z .ensures .0) in (
       reaches-jump _ _ _ _ p (a .args .minus) j (m .ensures .0) (m .ensures .1) kj hj (Are _ _) q,
       u .ensures .0 ∙ z .ensures .1,
-      noted-more (a .args .minus) _ _ _ _ _ ((c .before .before .before .before .before .before .before .before .before .before .before .before .before .before .before .before .before .before .before .before .before .before .narrow) .result) (a .args .x) (a .args .y) 0 _ _ (z .ensures .1) (u .ensures .0) (z .ensures .2) (u .ensures .1) (right-here (a .args .minus) _ ((c .before .before .before .before .before .before .before .before .before .before .before .before .before .before .before .before .before .before .before .before .before .before .narrow) .result) j _ _ 0 _ _ ((c .before .before .before .before .before .before .before .before .before .before .before .before .before .before .before .before .before .before .before .before .before .before .narrow) .ensures) q),
+      noted-more (a .args .minus) _ _ _ _ _ (c22 .narrow .result) (a .args .x) (a .args .y) 0 _ _ (z .ensures .1) (u .ensures .0) (z .ensures .2) (u .ensures .1)
+          (right-here (a .args .minus) _ (c22 .narrow .result) j _ _ 0 _ _ (c22 .narrow .ensures) q),
     )
 
 pub +branch-ends+fold-branches+rest-ends-spec : {M : Type 1} → statement M
@@ -366,24 +355,24 @@ pub +branch-ends+fold-branches+rest-ends-spec : {M : Type 1} → statement M
     close μ-branch-ends μ-fold-branches μ-rest-ends (λ t. branch-ends-lts.spec (branch-ends-claims t)
     (branch-ends-at t)
     branch-ends.Post
-    (branch-ends-tied-word-requires t)
+    (λ c κs. search needs)
     (branch-ends-returns t)
     (branch-ends-rest-ends-requires t)
-    (branch-ends-enum-known-l t)
-    (branch-ends-enum-told t)
-    (branch-ends-same-length t)
-    (branch-ends-same-length-2 t)
+    (λ c. search needs)
+    (λ c. search needs)
+    (λ c. search needs)
+    (λ c. search needs)
     (branch-ends-returns-2 t)
-    (branch-ends-sum-or-lost-requires t)
-    (branch-ends-same-length-3 t)
-    (branch-ends-same-length-4 t)
+    (λ c κs. search needs)
+    (λ c. search needs)
+    (λ c. search needs)
     (branch-ends-returns-3 t)
-    (branch-ends-sum-or-lost-requires-2 t)
-    (branch-ends-same-length-5 t)
-    (branch-ends-same-length-6 t)
+    (λ c κs. search needs)
+    (λ c. search needs)
+    (λ c. search needs)
     (branch-ends-returns-4 t)
-    (branch-ends-same-length-7 t)
-    (branch-ends-same-length-8 t)
+    (λ c. search needs)
+    (λ c. search needs)
     (branch-ends-returns-5 t))
     (λ t. fold-branches-lts.spec (fold-branches-claims t)
     (fold-branches-at t)
@@ -391,55 +380,55 @@ pub +branch-ends+fold-branches+rest-ends-spec : {M : Type 1} → statement M
     fold-branches-Inv-loop
     fold-branches-μ-loop
     (fold-branches-size-word-requires t)
-    (fold-branches-wide-requires t)
+    (λ c κs. search needs)
     (fold-branches-loop-holds t)
     (fold-branches-arm-in-requires t)
     (fold-branches-arm-in-requires-2 t)
-    (fold-branches-add-branch-ends t)
+    (λ c. search needs)
     (fold-branches-branch-ends-requires t)
-    (fold-branches-enum-known-l t)
-    (fold-branches-enum-told t)
-    (fold-branches-same-length t)
-    (fold-branches-same-length-2 t)
+    (λ c. search needs)
+    (λ c. search needs)
+    (λ c. search needs)
+    (λ c. search needs)
     (fold-branches-returns t)
-    (fold-branches-furthest-requires t)
-    (fold-branches-furthest-requires-2 t)
-    (fold-branches-add-v t)
-    (fold-branches-loop-less t)
+    (λ c κs. search needs)
+    (λ c κs. search needs)
+    (λ c. search needs)
+    (λ c. search needs)
     (fold-branches-loop-again t)
-    (fold-branches-same-length-3 t)
-    (fold-branches-same-length-4 t)
+    (λ c. search needs)
+    (λ c. search needs)
     (fold-branches-returns-2 t))
     λ t. rest-ends-lts.spec (rest-ends-claims t)
     (rest-ends-at t)
     rest-ends.Post
     (rest-ends-kept-in-requires t)
     (rest-ends-kept-in-requires-2 t)
-    (rest-ends-met-ends-requires t)
-    (rest-ends-same-length t)
+    (λ c κs. search needs)
+    (λ c. search needs)
     (rest-ends-returns t)
     (rest-ends-kept-in-requires-3 t)
     (rest-ends-kept-in-requires-4 t)
-    (rest-ends-met-ends-requires-2 t)
-    (rest-ends-same-length-2 t)
+    (λ c κs. search needs)
+    (λ c. search needs)
     (rest-ends-returns-2 t)
     (rest-ends-lowest-requires t)
-    (rest-ends-number-of-requires t)
+    (λ c κs. search needs)
     (rest-ends-add-narrow t)
     (rest-ends-narrow-requires t)
     (rest-ends-recall-in-requires t)
-    (rest-ends-enum-known-memo t)
-    (rest-ends-same-length-3 t)
-    (rest-ends-same-length-4 t)
+    (λ c. search needs)
+    (λ c. search needs)
+    (λ c. search needs)
     (rest-ends-returns-3 t)
-    (rest-ends-enum-told t)
+    (λ c. search needs)
     (rest-ends-fold-branches-requires t)
-    (rest-ends-enum-known-l t)
-    (rest-ends-enum-told-2 t)
-    (rest-ends-same-length-5 t)
-    (rest-ends-same-length-6 t)
+    (λ c. search needs)
+    (λ c. search needs)
+    (λ c. search needs)
+    (λ c. search needs)
     (rest-ends-returns-4 t)
     (rest-ends-remember-in-requires t)
-    (rest-ends-same-length-7 t)
-    (rest-ends-same-length-8 t)
+    (λ c. search needs)
+    (λ c. search needs)
     (rest-ends-returns-5 t)

@@ -5,20 +5,11 @@ use borrow.Author.Needs.{needs}
 use Rattle.cost_range.proofs.distance.Statement.{statement}
 use Rattle.cost_range.proofs.distance.Tie as tie
 
-sub-wide : tie.Need-sub-wide
-sub-wide c = search needs
-
-wide-requires : tie.Need-wide-requires
-wide-requires c κs = search needs
-
 returns : tie.Need-returns
 returns c = far-low _ _ ((c .before .before) .pre) (omega arith) ((c .wide) .ensures .0)
-
-wide-requires-2 : tie.Need-wide-requires-2
-wide-requires-2 c κs = search needs
 
 returns-2 : tie.Need-returns-2
 returns-2 c = far-high _ _ ((c .before .before) .pre) (omega arith) ((c .wide2) .ensures .0)
 
 pub distance-spec : {M : Type 1} → statement M
-distance-spec = tie.close (tie.spec sub-wide wide-requires returns wide-requires-2 returns-2)
+distance-spec = tie.close (tie.spec (λ c. search needs) (λ c κs. search needs) returns (λ c κs. search needs) returns-2)

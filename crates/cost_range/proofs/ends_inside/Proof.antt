@@ -7,12 +7,6 @@ use borrow.Author.Needs.{needs}
 use Rattle.cost_range.proofs.ends_inside.Statement.{statement}
 use Rattle.cost_range.proofs.ends_inside.Tie as tie
 
-enum-known-e : tie.Need-enum-known-e
-enum-known-e c = search needs
-
-enum-told : tie.Need-enum-told
-enum-told c = search needs
-
 returns : tie.Need-returns
 returns c = λ i. subst Inside ((c .enum-told) .given .1) i
 
@@ -23,4 +17,4 @@ returns-3 : tie.Need-returns-3
 returns-3 c = tells-leb _ 3147483648 (λ d. subst Inside (sym ((c .before .before .e) .given .1)) (omega (arith, (c .if1) .left), d)) (λ i. subst Inside ((c .before .before .e) .given .1) i .1)
 
 pub ends-inside-spec : {M : Type 1} → statement M
-ends-inside-spec = tie.close (tie.spec enum-known-e enum-told returns returns-2 returns-3)
+ends-inside-spec = tie.close (tie.spec (λ c. search needs) (λ c. search needs) returns returns-2 returns-3)

@@ -8,11 +8,8 @@ use Rattle.cost_range.proofs.furthest.Tie as tie
 returns : tie.Need-returns
 returns c = record { first = λ e. refl; more = λ h. absurd (omega arith) }
 
-further-requires : tie.Need-further-requires
-further-requires c κs = search needs
-
 returns-2 : tie.Need-returns-2
 returns-2 c = record { first = λ e. absurd (omega (arith, (c .before .if1) .left)); more = λ h. (c .further) .ensures .0 }
 
 pub furthest-spec : {M : Type 1} → statement M
-furthest-spec = tie.close (tie.spec returns further-requires returns-2)
+furthest-spec = tie.close (tie.spec returns (λ c κs. search needs) returns-2)

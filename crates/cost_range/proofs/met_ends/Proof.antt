@@ -6,21 +6,17 @@ use borrow.Author.Needs.{needs}
 use Rattle.cost_range.proofs.met_ends.Statement.{statement}
 use Rattle.cost_range.proofs.met_ends.Tie as tie
 
-met-word-requires : tie.Need-met-word-requires
-met-word-requires c κs = search needs
-
 returns : tie.Need-returns
 returns c = λ f. (c .before .met-word) .ensures .lost ((c .if1) .taken) (f false)
-
-met-word-requires-2 : tie.Need-met-word-requires-2
-met-word-requires-2 c κs = search needs
 
 returns-2 : tie.Need-returns-2
 returns-2 c = λ f. (c .before .met-word2) .ensures .lost ((c .if2) .taken) (f true)
 
 returns-3 : tie.Need-returns-3
-returns-3 c = let a = (c .before .before .before .before) .args in met-both (a .minus) (a .a .low) (a .a .high) (a .b .low) (a .b .high) ((c .before .before .before .met-word) .result) ((c .before .met-word2) .result) (omega (arith, (c .before .before .if1) .left)) (omega (arith, (c .if2) .left)) ((c .before .before .before .met-word) .ensures) ((c .before .met-word2) .ensures)
+returns-3 c =
+    let a = c .before .before .before .before .args in met-both (a .minus) (a .a .low) (a .a .high) (a .b .low) (a .b .high) (c .before .before .before .met-word .result)
+    (c .before .met-word2 .result) (omega (arith, c .before .before .if1 .left)) (omega (arith, c .if2 .left)) (c .before .before .before .met-word .ensures) (c .before .met-word2 .ensures)
 
 pub met-ends-spec : {M : Type 1} → statement M
 met-ends-spec =
-    tie.close (tie.spec met-word-requires returns met-word-requires-2 returns-2 returns-3)
+    tie.close (tie.spec (λ c κs. search needs) returns (λ c κs. search needs) returns-2 returns-3)

@@ -4,39 +4,25 @@ use borrow.Author.Needs.{needs}
 use Rattle.cost_range.proofs.met_word.Statement.{statement}
 use Rattle.cost_range.proofs.met_word.Tie as tie
 
-end-of-requires : tie.Need-end-of-requires
-end-of-requires c κs = search needs
-
-end-of-requires-2 : tie.Need-end-of-requires-2
-end-of-requires-2 c κs = search needs
-
-tied-word-requires : tie.Need-tied-word-requires
-tied-word-requires c κs = search needs
-
 returns : tie.Need-returns
-returns c = let a = (c .before .before .before .before) .args in met-minus (a .minus) (a .up) (a .a .low) (a .a .high) (a .b .low) (a .b .high) ((c .before .before .end-of) .result) ((c .before .end-of2) .result) ((c .tied-word) .result) ((c .before .before .end-of) .ensures) ((c .before .before .before .if1) .taken) ((c .before .end-of2) .ensures) ((c .tied-word) .ensures)
-
-end-of-requires-3 : tie.Need-end-of-requires-3
-end-of-requires-3 c κs = search needs
-
-end-of-requires-4 : tie.Need-end-of-requires-4
-end-of-requires-4 c κs = search needs
-
-tied-word-requires-2 : tie.Need-tied-word-requires-2
-tied-word-requires-2 c κs = search needs
+returns c =
+    let a = c .before .before .before .before .args in met-minus (a .minus) (a .up) (a .a .low) (a .a .high) (a .b .low) (a .b .high) (c .before .before .end-of .result)
+    (c .before .end-of2 .result) (c .tied-word .result) (c .before .before .end-of .ensures) (c .before .before .before .if1 .taken) (c .before .end-of2 .ensures) (c .tied-word .ensures)
 
 returns-2 : tie.Need-returns-2
-returns-2 c = let a = (c .before .before .before .before) .args in met-plus (a .minus) (a .up) (a .a .low) (a .a .high) (a .b .low) (a .b .high) ((c .before .before .end-of3) .result) ((c .before .end-of4) .result) ((c .tied-word2) .result) ((c .before .before .end-of3) .ensures) ((c .before .before .before .if1) .left) ((c .before .end-of4) .ensures) ((c .tied-word2) .ensures)
+returns-2 c =
+    let a = c .before .before .before .before .args in met-plus (a .minus) (a .up) (a .a .low) (a .a .high) (a .b .low) (a .b .high) (c .before .before .end-of3 .result)
+    (c .before .end-of4 .result) (c .tied-word2 .result) (c .before .before .end-of3 .ensures) (c .before .before .before .if1 .left) (c .before .end-of4 .ensures) (c .tied-word2 .ensures)
 
 pub met-word-spec : {M : Type 1} → statement M
 met-word-spec =
     tie.close
     (tie.spec
-    end-of-requires
-    end-of-requires-2
-    tied-word-requires
+    (λ c κs. search needs)
+    (λ c κs. search needs)
+    (λ c κs. search needs)
     returns
-    end-of-requires-3
-    end-of-requires-4
-    tied-word-requires-2
+    (λ c κs. search needs)
+    (λ c κs. search needs)
+    (λ c κs. search needs)
     returns-2)

@@ -6,17 +6,12 @@ use Rattle.cost_range.proofs.product_ok.Statement.{statement}
 use Rattle.cost_range.proofs.product_ok.Tie as tie
 use Rattle.promises.specs.Integers.{int}
 
-distance-requires : tie.Need-distance-requires
-distance-requires c κs = search needs
-
-distance-requires-2 : tie.Need-distance-requires-2
-distance-requires-2 c κs = search needs
-
 mul-result : tie.Need-mul-result
 mul-result c = omega (arith, far-small ((c .before .distance) .result) ((c .distance2) .result) ((c .before .distance) .ensures .1) ((c .distance2) .ensures .1))
 
 returns : tie.Need-returns
-returns c = let a = (c .before .before) .args in product-tells (int (a .a)) (int (a .c)) ((c .before .distance) .result) ((c .distance2) .result) ((c .before .distance) .ensures .0) ((c .distance2) .ensures .0)
+returns c =
+    let a = c .before .before .args in product-tells (int (a .a)) (int (a .c)) (c .before .distance .result) (c .distance2 .result) (c .before .distance .ensures .0) (c .distance2 .ensures .0)
 
 pub product-ok-spec : {M : Type 1} → statement M
-product-ok-spec = tie.close (tie.spec distance-requires distance-requires-2 mul-result returns)
+product-ok-spec = tie.close (tie.spec (λ c κs. search needs) (λ c κs. search needs) mul-result returns)

@@ -17,8 +17,12 @@ sum-word-requires-2 : tie.Need-sum-word-requires-2
 sum-word-requires-2 c κs = let a = (c .before .before .before) in end-fits _ (a .args .a .to) (a .args .a .adds) (a .pre) true _ ((c .before .kept-span) .ensures .keeps true)
 
 returns : tie.Need-returns
-returns c = let a = (c .before .before .before .before) in
-    record { lowest = end-side _ (a .args .a .to) (a .args .a .adds) (a .pre) false _ ((c .before .before .kept-span) .ensures .keeps false) _ ((c .before .sum-word) .ensures); highest = end-side _ (a .args .a .to) (a .args .a .adds) (a .pre) true _ ((c .before .before .kept-span) .ensures .keeps true) _ ((c .sum-word2) .ensures) }
+returns c =
+    let a = c .before .before .before .before in
+    record {
+      lowest = end-side _ (a .args .a .to) (a .args .a .adds) (a .pre) false _ (c .before .before .kept-span .ensures .keeps false) _ (c .before .sum-word .ensures);
+      highest = end-side _ (a .args .a .to) (a .args .a .adds) (a .pre) true _ (c .before .before .kept-span .ensures .keeps true) _ (c .sum-word2 .ensures);
+    }
 
 pub span-of-spec : {M : Type 1} → statement M
 span-of-spec =

@@ -8,18 +8,14 @@ use Rattle.cost_range.proofs.tied_word.Statement.{statement}
 use Rattle.cost_range.proofs.tied_word.Tie as tie
 use Rattle.promises.specs.Integers.{int}
 
-difference-or-lost-requires : tie.Need-difference-or-lost-requires
-difference-or-lost-requires c κs = search needs
-
 returns : tie.Need-returns
-returns c = let a = (c .before .before) .args in subst (λ (m : Bool). Stands (tieOf m (int (a .a)) (int (a .b))) ((c .difference-or-lost) .result)) (sym ((c .before .if1) .taken)) ((c .difference-or-lost) .ensures)
-
-sum-or-lost-requires : tie.Need-sum-or-lost-requires
-sum-or-lost-requires c κs = search needs
+returns c =
+    let a = c .before .before .args in subst (λ (m : Bool). Stands (tieOf m (int (a .a)) (int (a .b))) (c .difference-or-lost .result)) (sym (c .before .if1 .taken)) (c .difference-or-lost .ensures)
 
 returns-2 : tie.Need-returns-2
-returns-2 c = let a = (c .before .before) .args in subst (λ (m : Bool). Stands (tieOf m (int (a .a)) (int (a .b))) ((c .sum-or-lost) .result)) (sym ((c .before .if1) .left)) ((c .sum-or-lost) .ensures)
+returns-2 c =
+    let a = c .before .before .args in subst (λ (m : Bool). Stands (tieOf m (int (a .a)) (int (a .b))) (c .sum-or-lost .result)) (sym (c .before .if1 .left)) (c .sum-or-lost .ensures)
 
 pub tied-word-spec : {M : Type 1} → statement M
 tied-word-spec =
-    tie.close (tie.spec difference-or-lost-requires returns sum-or-lost-requires returns-2)
+    tie.close (tie.spec (λ c κs. search needs) returns (λ c κs. search needs) returns-2)

@@ -5,33 +5,29 @@ use borrow.Author.Needs.{needs}
 use Rattle.cost_range.proofs.whole_ends.Statement.{statement}
 use Rattle.cost_range.proofs.whole_ends.Tie as tie
 
-clear-requires : tie.Need-clear-requires
-clear-requires c κs = search needs
-
 branch-ends-requires : tie.Need-branch-ends-requires
-branch-ends-requires c κs = let a = (c .before .before .before .before .before .before .before .before) in (rest-pair _ (a .pre .1) _ _ (a .pre .0), noted-none _ _ (a .pre .1) ((c .before .before .before .before .clear) .ensures))
+branch-ends-requires c κs =
+    let a = c .before .before .before .before .before .before .before .before in
+    (rest-pair _ (a .pre .1) _ _ (a .pre .0), noted-none _ _ (a .pre .1) (c .before .before .before .before .clear .ensures))
 
 clear-far-requires : tie.Need-clear-far-requires
 clear-far-requires c κs = (c .before .before .before .before .before .branch-ends) .ensures .2 .room
 
-same-length : tie.Need-same-length
-same-length c = search needs
-
-same-length-2 : tie.Need-same-length-2
-same-length-2 c = search needs
-
 returns : tie.Need-returns
-returns c = let a = (c .before .before .before .before .before .before .before .before .before .before .before .before .before .before .before .before .before) in
-    let z = (c .before .before .before .before .before .before .before .before .branch-ends) in
-    (rest-again _ (a .pre .1) _ _ (z .ensures .1) ((c .before .before .clear-far) .ensures), rest-reaches _ (a .pre .1) (a .args .minus) _ (a .args .a .adds) _ (a .args .b .adds) (z .result) (z .ensures .0))
+returns c =
+    let c8 = c .before .before .before .before .before .before .before .before in let a = c8 .before .before .before .before .before .before .before .before .before in
+    let z = c8 .branch-ends in (
+      rest-again _ (a .pre .1) _ _ (z .ensures .1) (c .before .before .clear-far .ensures),
+      rest-reaches _ (a .pre .1) (a .args .minus) _ (a .args .a .adds) _ (a .args .b .adds) (z .result) (z .ensures .0),
+    )
 
 pub whole-ends-spec : {M : Type 1} → statement M
 whole-ends-spec =
     tie.close
     (tie.spec
-    clear-requires
+    (λ c κs. search needs)
     branch-ends-requires
     clear-far-requires
-    same-length
-    same-length-2
+    (λ c. search needs)
+    (λ c. search needs)
     returns)

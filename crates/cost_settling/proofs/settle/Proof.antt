@@ -7,39 +7,31 @@ use borrow.Author.Needs.{needs}
 use Rattle.cost_settling.proofs.settle.Statement.{statement}
 use Rattle.cost_settling.proofs.settle.Tie as tie
 
-enum-known-r : tie.Need-enum-known-r
-enum-known-r c = search needs
-
-enum-told : tie.Need-enum-told
-enum-told c = search needs
-
 roll-back-requires : tie.Need-roll-back-requires
 roll-back-requires c κs = let a = (c .before .before .before .before) in subst (λ (y : Answer). Asks (a .args .place) (a .args .n) (a .args .t .now) y) ((c .before .enum-told) .given .1) (a .pre)
 
-same-length : tie.Need-same-length
-same-length c = search needs
-
 returns : tie.Need-returns
-returns c = let a = (c .before .before .before .before .before .before .before) in settled-none (a .args .place) (a .args .r) ((c .before .before .before .before .enum-told) .given .1) ((c .before .before .roll-back) .ensures)
+returns c =
+    let a = c .before .before .before .before .before .before .before in
+    settled-none (a .args .place) (a .args .r) (c .before .before .before .before .enum-told .given .1) (c .before .before .roll-back .ensures)
 
 finish-requires : tie.Need-finish-requires
 finish-requires c κs = let a = (c .before .before .before .before .before) in subst (λ (y : Answer). Asks (a .args .place) (a .args .n) (a .args .t .now) y) ((c .before .before .r) .given .1) (a .pre)
 
-same-length-2 : tie.Need-same-length-2
-same-length-2 c = search needs
-
 returns-2 : tie.Need-returns-2
-returns-2 c = let a = (c .before .before .before .before .before .before .before .before) in settled-is (a .args .place) (a .args .n) _ _ (a .args .r) ((c .before .before .before .before .before .r) .given .1) ((c .before .before .finish) .ensures)
+returns-2 c =
+    let a = c .before .before .before .before .before .before .before .before in
+    settled-is (a .args .place) (a .args .n) _ _ (a .args .r) (c .before .before .before .before .before .r .given .1) (c .before .before .finish .ensures)
 
 pub settle-spec : {M : Type 1} → statement M
 settle-spec =
     tie.close
     (tie.spec
-    enum-known-r
-    enum-told
+    (λ c. search needs)
+    (λ c. search needs)
     roll-back-requires
-    same-length
+    (λ c. search needs)
     returns
     finish-requires
-    same-length-2
+    (λ c. search needs)
     returns-2)

@@ -1,5 +1,5 @@
 -- `cost_sound::adds_ok` meets its contract: each added integer passed lies within bounds. Assumes nothing.
-use Rattle.cost_laws.proofs.Words.{fit-words, words-fit}
+use Rattle.theory_costs.proofs.Words.{fit-words, words-fit}
 use borrow.Author.Count.{below-more}
 use native.Mathlib.Omega.{arith}
 use Prim.Native.Nat.{ℕ, _-_, _≤_, _<_}
@@ -27,32 +27,29 @@ returns c = λ z. (c .if1) .taken ((c .before .adds-at) .ensures ∙ z .level)
 record-word-requires : tie.Need-record-word-requires Inv-loop μ-loop
 record-word-requires c κs = let p = (c .before .before .before) .pre in (omega (arith, p .0 .room, p .0 .within), omega (arith, p .0 .most, p .0 .within), omega arith)
 
-wide-requires : tie.Need-wide-requires Inv-loop μ-loop
-wide-requires c κs = search needs
-
 size-word-requires : tie.Need-size-word-requires Inv-loop μ-loop
 size-word-requires c κs = let p = (c .before .before .before .before .before) .pre in omega (arith, p .0 .room, p .0 .few)
 
-wide-requires-2 : tie.Need-wide-requires-2 Inv-loop μ-loop
-wide-requires-2 c κs = search needs
-
 loop-holds : tie.Need-loop-holds Inv-loop μ-loop
-loop-holds c = (sym ((c .before .before .before .before .before .adds-at) .ensures) ∙ (c .before .before .before .before .if1) .left, (c .wide2) .ensures .0 ∙ (c .before .size-word) .ensures ∙ ap (size ((c .before .before .before .before .before .before .before) .args .t .now)) ((c .before .before .wide) .ensures .0 ∙ (c .before .before .before .record-word) .ensures), omega arith, λ x h. absurd (omega arith))
+loop-holds c =
+    let c7 = c .before .before .before .before .before .before .before in (
+      sym (c .before .before .before .before .before .adds-at .ensures) ∙ c .before .before .before .before .if1 .left,
+      c .wide2 .ensures .0 ∙ c .before .size-word .ensures ∙ ap (size (c7 .args .t .now))
+          (c .before .before .wide .ensures .0 ∙ c .before .before .before .record-word .ensures),
+      omega arith,
+      λ x h. absurd (omega arith),
+    )
 
 adds-at-requires-2 : tie.Need-adds-at-requires-2 Inv-loop μ-loop
-adds-at-requires-2 c κs = let p = (c .before .before .before .before .before .before .before .before .before) .pre in let f = p .0 .fit .large _ (p .2) .1 in let l = (c .before .loop) .inv in (omega (arith, p .0 .room, p .0 .within), omega (arith, p .0 .most, p .0 .within), omega arith)
+adds-at-requires-2 c κs =
+    let c9 = c .before .before .before .before .before .before .before .before .before in
+    let p = c9 .pre in let f = p .0 .fit .large _ (p .2) .1 in let l = c .before .loop .inv in (omega (arith, p .0 .room, p .0 .within), omega (arith, p .0 .most, p .0 .within), omega arith)
 
 returns-2 : tie.Need-returns-2 Inv-loop μ-loop
 returns-2 c = λ z. omega (arith, fit-words _ (z .fits ((c .before .before .before .loop) .v) (omega arith)), (c .before .adds-at2) .ensures)
 
 returns-3 : tie.Need-returns-3 Inv-loop μ-loop
 returns-3 c = λ z. omega (arith, fit-words _ (z .fits ((c .before .before .before .before .loop) .v) (omega arith)), (c .before .before .adds-at2) .ensures)
-
-add-v : tie.Need-add-v Inv-loop μ-loop
-add-v c = search needs
-
-loop-less : tie.Need-loop-less Inv-loop μ-loop
-loop-less c = search needs
 
 loop-again : tie.Need-loop-again Inv-loop μ-loop
 loop-again c = let l = (c .before .before .before .before .loop) in let a = (c .before .before .before .before .before .before .before .before .before .before .before .before) .args in (
@@ -75,14 +72,14 @@ adds-ok-spec =
     adds-at-requires
     returns
     record-word-requires
-    wide-requires
+    (λ c κs. search needs)
     size-word-requires
-    wide-requires-2
+    (λ c κs. search needs)
     loop-holds
     adds-at-requires-2
     returns-2
     returns-3
-    add-v
-    loop-less
+    (λ c. search needs)
+    (λ c. search needs)
     loop-again
     returns-4)

@@ -11,7 +11,8 @@ use Rattle.promises.specs.Words.{feature, size, body}
 use Rattle.promises.specs.Integers.{bias}
 
 abbrev Inv-loop : tie.InvT-loop
-Inv-loop t i s first v₀ v = (s ≡ size t (feature t i)) × (v ≤ s) × (first ≡ goes (body t i) 0) × ((x : ℕ) → x < v → goes (body t i) x ≡ goes (body t i) 0) × ((x : ℕ) → x < v → added (body t i) x ≡ bias)
+Inv-loop t i s first v₀ v = (s ≡ size t (feature t i)) × (v ≤ s) × (first ≡ goes (body t i) 0) × ((x : ℕ) → x < v → goes (body t i) x ≡ goes (body t i) 0) ×
+    ((x : ℕ) → x < v → added (body t i) x ≡ bias)
 
 abbrev μ-loop : tie.MeasureT-loop
 μ-loop t i s first v₀ v = s - v
@@ -19,47 +20,51 @@ abbrev μ-loop : tie.MeasureT-loop
 record-word-requires : tie.Need-record-word-requires Inv-loop μ-loop
 record-word-requires c κs = let p = (c .before) .pre in (omega (arith, p .0 .room, p .0 .within), omega (arith, p .0 .most, p .0 .within), omega arith)
 
-wide-requires : tie.Need-wide-requires Inv-loop μ-loop
-wide-requires c κs = search needs
-
 size-word-requires : tie.Need-size-word-requires Inv-loop μ-loop
 size-word-requires c κs = let p = (c .before .before .before) .pre in omega (arith, p .0 .room, p .0 .few)
-
-wide-requires-2 : tie.Need-wide-requires-2 Inv-loop μ-loop
-wide-requires-2 c κs = search needs
 
 goes-to-requires : tie.Need-goes-to-requires Inv-loop μ-loop
 goes-to-requires c κs = let p = (c .before .before .before .before .before) .pre in (omega (arith, p .0 .room, p .0 .within), omega (arith, p .0 .most, p .0 .within), omega arith)
 
 loop-holds : tie.Need-loop-holds Inv-loop μ-loop
-loop-holds c = ((c .before .wide2) .ensures .0 ∙ (c .before .before .size-word) .ensures ∙ ap (size ((c .before .before .before .before .before .before) .args .t .now)) ((c .before .before .before .wide) .ensures .0 ∙ (c .before .before .before .before .record-word) .ensures), omega arith, (c .goes-to) .ensures, (λ x h. absurd (omega arith)), λ x h. absurd (omega arith))
+loop-holds c =
+    let c6 = c .before .before .before .before .before .before in (
+      c .before .wide2 .ensures .0 ∙ c .before .before .size-word .ensures ∙ ap (size (c6 .args .t .now))
+          (c .before .before .before .wide .ensures .0 ∙ c .before .before .before .before .record-word .ensures),
+      omega arith,
+      c .goes-to .ensures,
+      (λ x h. absurd (omega arith)),
+      λ x h. absurd (omega arith),
+    )
 
 goes-to-requires-2 : tie.Need-goes-to-requires-2 Inv-loop μ-loop
-goes-to-requires-2 c κs = let p = (c .before .before .before .before .before .before .before .before) .pre in let f = p .0 .fit .large _ (p .2) .1 in let l = (c .before .loop) .inv in (omega (arith, p .0 .room, p .0 .within), omega (arith, p .0 .most, p .0 .within), omega arith)
+goes-to-requires-2 c κs =
+    let c8 = c .before .before .before .before .before .before .before .before in
+    let p = c8 .pre in let f = p .0 .fit .large _ (p .2) .1 in let l = c .before .loop .inv in (omega (arith, p .0 .room, p .0 .within), omega (arith, p .0 .most, p .0 .within), omega arith)
 
 returns : tie.Need-returns Inv-loop μ-loop
 returns c = λ z. (c .if1) .taken ((c .before .goes-to2) .ensures ∙ z .targets ((c .before .before .before .loop) .v) (omega arith) ∙ sym ((c .before .before .before .loop) .inv .2))
 
 adds-at-requires : tie.Need-adds-at-requires Inv-loop μ-loop
-adds-at-requires c κs = let p = (c .before .before .before .before .before .before .before .before .before .before) .pre in let f = p .0 .fit .large _ (p .2) .1 in let l = (c .before .before .before .loop) .inv in (omega (arith, p .0 .room, p .0 .within), omega (arith, p .0 .most, p .0 .within), omega arith)
+adds-at-requires c κs =
+    let c10 = c .before .before .before .before .before .before .before .before .before .before in
+    let p = c10 .pre in let f = p .0 .fit .large _ (p .2) .1 in let l = c .before .before .before .loop .inv in
+    (omega (arith, p .0 .room, p .0 .within), omega (arith, p .0 .most, p .0 .within), omega arith)
 
 returns-2 : tie.Need-returns-2 Inv-loop μ-loop
 returns-2 c = λ z. (c .if2) .taken ((c .before .adds-at) .ensures ∙ z .addeds ((c .before .before .before .before .before .loop) .v) (omega arith))
 
-add-v : tie.Need-add-v Inv-loop μ-loop
-add-v c = search needs
-
-loop-less : tie.Need-loop-less Inv-loop μ-loop
-loop-less c = search needs
-
 loop-again : tie.Need-loop-again Inv-loop μ-loop
-loop-again c = let l = (c .before .before .before .before .before .loop) in let a = (c .before .before .before .before .before .before .before .before .before .before .before .before) .args in (
-  l .inv .0,
-  omega arith,
-  l .inv .2,
-  below-more (λ x. goes (body (a .t .now) (a .i)) x ≡ goes (body (a .t .now) (a .i)) 0) (l .v) (l .inv .3) (sym ((c .before .before .before .goes-to2) .ensures) ∙ (c .before .before .if1) .left ∙ l .inv .2),
-  below-more (λ x. added (body (a .t .now) (a .i)) x ≡ bias) (l .v) (l .inv .4) (sym ((c .before .adds-at) .ensures) ∙ (c .if2) .left),
-)
+loop-again c =
+    let c12 = c .before .before .before .before .before .before .before .before .before .before .before .before in
+    let l = c .before .before .before .before .before .loop in let a = c12 .args in (
+      l .inv .0,
+      omega arith,
+      l .inv .2,
+      below-more (λ x. goes (body (a .t .now) (a .i)) x ≡ goes (body (a .t .now) (a .i)) 0) (l .v) (l .inv .3)
+          (sym (c .before .before .before .goes-to2 .ensures) ∙ c .before .before .if1 .left ∙ l .inv .2),
+      below-more (λ x. added (body (a .t .now) (a .i)) x ≡ bias) (l .v) (l .inv .4) (sym (c .before .adds-at .ensures) ∙ c .if2 .left),
+    )
 
 returns-3 : tie.Need-returns-3 Inv-loop μ-loop
 returns-3 c = let l = (c .before .loop) in record { targets = λ x h. l .inv .3 x (omega arith); addeds = λ x h. l .inv .4 x (omega arith) }
@@ -71,16 +76,16 @@ alike-spec =
     Inv-loop
     μ-loop
     record-word-requires
-    wide-requires
+    (λ c κs. search needs)
     size-word-requires
-    wide-requires-2
+    (λ c κs. search needs)
     goes-to-requires
     loop-holds
     goes-to-requires-2
     returns
     adds-at-requires
     returns-2
-    add-v
-    loop-less
+    (λ c. search needs)
+    (λ c. search needs)
     loop-again
     returns-3)

@@ -9,21 +9,6 @@ use Rattle.cost_sound.proofs.node_ok.Tie as tie
 use Rattle.promises.specs.CostWords.{Padded}
 use Rattle.promises.specs.Words.{feature, size, body}
 
-record-word-requires : tie.Need-record-word-requires
-record-word-requires c κs = search needs
-
-wide-requires : tie.Need-wide-requires
-wide-requires c κs = search needs
-
-features-word-requires : tie.Need-features-word-requires
-features-word-requires c κs = search needs
-
-wide-requires-2 : tie.Need-wide-requires-2
-wide-requires-2 c κs = search needs
-
-returns : tie.Need-returns
-returns c = search needs
-
 lower-requires : tie.Need-lower-requires
 lower-requires c κs = let p = (c .before .before .before .before .before .before) .pre in (p .0, p .1, omega arith)
 
@@ -42,46 +27,46 @@ alike-requires c κs = let p = (c .before .before .before .before .before .befor
 returns-4 : tie.Need-returns-4
 returns-4 c = λ z. z .differ (sure ((c .if4) .taken) ((c .before .alike) .ensures))
 
-size-word-requires : tie.Need-size-word-requires
-size-word-requires c κs = search needs
-
-wide-requires-3 : tie.Need-wide-requires-3
-wide-requires-3 c κs = search needs
-
 padded-ok-requires : tie.Need-padded-ok-requires
-padded-ok-requires c κs = let p = (c .before .before .before .before .before .before .before .before .before .before .before .before .before .before) .pre in let f = p .0 .fit .large ((c .before .before .before .before .before .before .before .before .before .before .before .wide) .result) (omega arith) .1 in (p .0, p .1, omega (arith, f))
+padded-ok-requires c κs =
+    let c11 = c .before .before .before .before .before .before .before .before .before .before .before in let c14 = c11 .before .before .before in
+    let p = c14 .pre in let f = p .0 .fit .large (c11 .wide .result) (omega arith) .1 in (p .0, p .1, omega (arith, f))
 
 returns-5 : tie.Need-returns-5
-returns-5 c = let a = (c .before .before .before .before .before .before .before .before .before .before .before .before .before .before .before) .args in
-    let e : (c .before .wide3) .result ≡ size (a .t .now) (feature (a .t .now) (a .i)) = (c .before .wide3) .ensures .0 ∙ (c .before .before .size-word) .ensures ∙ ap (size (a .t .now)) ((c .before .before .before .before .before .before .before .before .before .before .before .before .wide) .ensures .0 ∙ (c .before .before .before .before .before .before .before .before .before .before .before .before .before .record-word) .ensures) in
-    retell ((c .padded-ok) .result)
+returns-5 c =
+    let c6 = c .before .before .before .before .before .before in let c7 = c6 .before in let c8 = c7 .before in let c9 = c8 .before in let c10 = c9 .before in
+    let c11 = c10 .before in let c12 = c11 .before in let c13 = c12 .before in let c15 = c13 .before .before in
+    let a = c15 .args in
+    let e : (c .before .wide3) .result ≡ size (a .t .now) (feature (a .t .now) (a .i)) = c .before .wide3 .ensures .0 ∙ c .before .before .size-word .ensures
+    ∙ ap (size (a .t .now)) (c12 .wide .ensures .0 ∙ c13 .record-word .ensures) in
+    retell (c .padded-ok .result)
     (λ q.
     record {
-      known = omega (arith, (c .before .before .before .before .before .before .before .before .before .if1), (c .before .before .before .before .before .before .before .before .before .before .before .before .wide) .ensures, (c .before .before .before .before .before .before .before .before .before .before .before .before .before .record-word) .ensures, (c .before .before .before .before .before .before .before .before .before .before .wide2) .ensures, (c .before .before .before .before .before .before .before .before .before .before .before .features-word) .ensures);
-      lower = granted ((c .before .before .before .before .before .before .before .before .lower) .result) ((c .before .before .before .before .before .before .before .if2) .left) ((c .before .before .before .before .before .before .before .before .lower) .ensures);
-      adds = granted ((c .before .before .before .before .before .before .adds-ok) .result) ((c .before .before .before .before .before .if3) .left) ((c .before .before .before .before .before .before .adds-ok) .ensures);
-      differ = sure-not ((c .before .before .before .if4) .left) ((c .before .before .before .before .alike) .ensures);
+      known = omega (arith, (c9 .if1), c12 .wide .ensures, c13 .record-word .ensures, c10 .wide2 .ensures, c11 .features-word .ensures);
+      lower = granted (c8 .lower .result) (c7 .if2 .left) (c8 .lower .ensures);
+      adds = granted (c6 .adds-ok .result) (c .before .before .before .before .before .if3 .left) (c6 .adds-ok .ensures);
+      differ = sure-not (c .before .before .before .if4 .left) (c .before .before .before .before .alike .ensures);
       padded = subst (λ (m : ℕ). Padded m (body (a .t .now) (a .i))) e q;
     })
     (λ z. subst (λ (m : ℕ). Padded m (body (a .t .now) (a .i))) (sym e) (z .padded))
-    ((c .padded-ok) .ensures)
+    (c .padded-ok .ensures)
 
 pub node-ok-spec : {M : Type 1} → statement M
 node-ok-spec =
     tie.close
     (tie.spec
-    record-word-requires
-    wide-requires
-    features-word-requires
-    wide-requires-2
-    returns
+    (λ c κs. search needs)
+    (λ c κs. search needs)
+    (λ c κs. search needs)
+    (λ c κs. search needs)
+    (λ c. search needs)
     lower-requires
     returns-2
     adds-ok-requires
     returns-3
     alike-requires
     returns-4
-    size-word-requires
-    wide-requires-3
+    (λ c κs. search needs)
+    (λ c κs. search needs)
     padded-ok-requires
     returns-5)

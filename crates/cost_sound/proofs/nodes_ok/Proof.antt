@@ -19,9 +19,6 @@ abbrev μ-loop : tie.MeasureT-loop
 count-word-requires : tie.Need-count-word-requires Inv-loop μ-loop
 count-word-requires c κs = omega (arith, (c .before) .pre .room)
 
-wide-requires : tie.Need-wide-requires Inv-loop μ-loop
-wide-requires c κs = search needs
-
 loop-holds : tie.Need-loop-holds Inv-loop μ-loop
 loop-holds c = (omega arith, omega arith, λ x h. absurd (omega arith))
 
@@ -31,14 +28,15 @@ node-ok-requires c κs = let l = (c .before .loop) in ((c .before .before .befor
 returns : tie.Need-returns Inv-loop μ-loop
 returns c = let l = (c .before .before .before .loop) in λ z. denied ((c .before .node-ok) .result) ((c .if1) .taken) ((c .before .node-ok) .ensures) (z .each (l .i) (omega arith))
 
-add-i : tie.Need-add-i Inv-loop μ-loop
-add-i c = search needs
-
-loop-less : tie.Need-loop-less Inv-loop μ-loop
-loop-less c = search needs
-
 loop-again : tie.Need-loop-again Inv-loop μ-loop
-loop-again c = let l = (c .before .before .before .loop) in (l .inv .0, omega arith, below-more (NodeOk ((c .before .before .before .before .before .before .before) .args .t .now)) (l .i) (l .inv .2) (granted ((c .before .node-ok) .result) ((c .if1) .left) ((c .before .node-ok) .ensures)))
+loop-again c =
+    let c7 = c .before .before .before .before .before .before .before in
+    let l = c .before .before .before .loop in (
+      l .inv .0,
+      omega arith,
+      below-more (NodeOk (c7 .args .t .now)) (l .i) (l .inv .2)
+          (granted (c .before .node-ok .result) (c .if1 .left) (c .before .node-ok .ensures)),
+    )
 
 returns-2 : tie.Need-returns-2 Inv-loop μ-loop
 returns-2 c = record { each = λ x h. (c .before .loop) .inv .2 x (omega arith) }
@@ -50,11 +48,11 @@ nodes-ok-spec =
     Inv-loop
     μ-loop
     count-word-requires
-    wide-requires
+    (λ c κs. search needs)
     loop-holds
     node-ok-requires
     returns
-    add-i
-    loop-less
+    (λ c. search needs)
+    (λ c. search needs)
     loop-again
     returns-2)

@@ -1,5 +1,5 @@
 -- `cost_sound::padded_ok` meets its contract: the targets and added words passed are 0. Assumes nothing.
-use Rattle.words.proofs.Tab.{same}
+use Rattle.table_words.proofs.Tab.{same}
 use native.Mathlib.Omega.{arith}
 use Prim.Native.Nat.{ℕ, _-_, _≤_, _<_}
 use mathlib.Core.Logic.{⊎-elim}
@@ -29,13 +29,8 @@ adds-at-requires : tie.Need-adds-at-requires Inv-loop μ-loop
 adds-at-requires c κs = let p = (c .before .before .before .before .before) .pre in (omega (arith, p .0 .room, p .0 .within), omega (arith, p .0 .most, p .0 .within), omega arith)
 
 returns-2 : tie.Need-returns-2 Inv-loop μ-loop
-returns-2 c = λ z. (c .if2) .taken ((c .before .adds-at) .ensures ∙ z .addeds ((c .before .before .before .before .before .loop) .v) ((c .before .before .before .before .before .loop) .inv .0) (omega arith))
-
-add-v : tie.Need-add-v Inv-loop μ-loop
-add-v c = search needs
-
-loop-less : tie.Need-loop-less Inv-loop μ-loop
-loop-less c = search needs
+returns-2 c =
+    λ z. c .if2 .taken (c .before .adds-at .ensures ∙ z .addeds (c .before .before .before .before .before .loop .v) (c .before .before .before .before .before .loop .inv .0) (omega arith))
 
 loop-again : tie.Need-loop-again Inv-loop μ-loop
 loop-again c = let l = (c .before .before .before .before .before .loop) in (
@@ -59,7 +54,7 @@ padded-ok-spec =
     returns
     adds-at-requires
     returns-2
-    add-v
-    loop-less
+    (λ c. search needs)
+    (λ c. search needs)
     loop-again
     returns-3)

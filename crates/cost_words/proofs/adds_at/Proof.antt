@@ -7,14 +7,8 @@ use Rattle.cost_words.proofs.adds_at.Statement.{statement}
 use Rattle.cost_words.proofs.adds_at.Tie as tie
 use Rattle.promises.specs.Words.{word}
 
-add-record-word : tie.Need-add-record-word
-add-record-word c = search needs
-
-record-word-requires : tie.Need-record-word-requires
-record-word-requires c κs = search needs
-
 returns : tie.Need-returns
 returns c = let a = c .before .before .args in c .record-word .ensures ∙ ap (word (a .t .now) (a .i)) (let e : 5 + a .v ≡ 1 + (4 + a .v) = omega arith in e)
 
 pub adds-at-spec : {M : Type 1} → statement M
-adds-at-spec = tie.close (tie.spec add-record-word record-word-requires returns)
+adds-at-spec = tie.close (tie.spec (λ c. search needs) (λ c κs. search needs) returns)

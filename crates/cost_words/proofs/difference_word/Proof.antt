@@ -1,18 +1,9 @@
 -- `cost_words::difference_word` meets its contract: the difference within bounds has a word. Assumes nothing.
-use Rattle.cost_laws.proofs.Words.{minus-room, int-minus}
+use Rattle.theory_costs.proofs.Words.{minus-room, int-minus}
 use native.Mathlib.Omega.{arith}
 use borrow.Author.Needs.{needs}
 use Rattle.cost_words.proofs.difference_word.Statement.{statement}
 use Rattle.cost_words.proofs.difference_word.Tie as tie
-
-wider-requires : tie.Need-wider-requires
-wider-requires c κs = search needs
-
-add-result : tie.Need-add-result
-add-result c = search needs
-
-wider-requires-2 : tie.Need-wider-requires-2
-wider-requires-2 c κs = search needs
 
 sub-result : tie.Need-sub-result
 sub-result c = let a = (c .before .before) in let h = minus-room (a .args .a) (a .args .b) (a .pre) .least in omega arith
@@ -25,4 +16,4 @@ returns c = let a = (c .before .before) in let h = minus-room (a .args .a) (a .a
 
 pub difference-word-spec : {M : Type 1} → statement M
 difference-word-spec =
-    tie.close (tie.spec wider-requires add-result wider-requires-2 sub-result cast-result returns)
+    tie.close (tie.spec (λ c κs. search needs) (λ c. search needs) (λ c κs. search needs) sub-result cast-result returns)

@@ -6,17 +6,8 @@ use Rattle.cost_words.proofs.goes_to.Statement.{statement}
 use Rattle.cost_words.proofs.goes_to.Tie as tie
 use Rattle.promises.specs.CostWords.{half}
 
-add-record-word : tie.Need-add-record-word
-add-record-word c = search needs
-
-record-word-requires : tie.Need-record-word-requires
-record-word-requires c κs = search needs
-
-half-of-requires : tie.Need-half-of-requires
-half-of-requires c κs = search needs
-
 returns : tie.Need-returns
 returns c = c .half-of .ensures ∙ ap (λ (y : ℕ). half y (c .before .before .before .args .v)) (c .before .record-word .ensures)
 
 pub goes-to-spec : {M : Type 1} → statement M
-goes-to-spec = tie.close (tie.spec add-record-word record-word-requires half-of-requires returns)
+goes-to-spec = tie.close (tie.spec (λ c. search needs) (λ c κs. search needs) (λ c κs. search needs) returns)

@@ -1,7 +1,7 @@
 -- `cost_words::pack` meets its contract: the words passed stand in the list. Assumes nothing.
 use Rattle.cost_words.specs.Words.{packed}
-use Rattle.words.specs.Words.{listed}
-use Rattle.words.proofs.Tab.{same}
+use Rattle.table_words.specs.Words.{listed}
+use Rattle.table_words.proofs.Tab.{same}
 use lib.Seq.{getD-set-same, getD-set-other}
 use lib.ListN.{length, getD, length-set}
 use native.Mathlib.Omega.{arith}
@@ -18,23 +18,8 @@ Inv-loop to adds list₀ v₀ list v = (length list ≡ 12) × (v ≤ 12) × ((u
 abbrev μ-loop : tie.MeasureT-loop
 μ-loop to adds list₀ v₀ list v = 12 - v
 
-loop-holds : tie.Need-loop-holds Inv-loop μ-loop
-loop-holds c = search needs
-
 packed-word-requires : tie.Need-packed-word-requires Inv-loop μ-loop
 packed-word-requires c κs = (c .before .before .pre, omega arith)
-
-mul-list : tie.Need-mul-list Inv-loop μ-loop
-mul-list c = search needs
-
-array-write-list : tie.Need-array-write-list Inv-loop μ-loop
-array-write-list c = search needs
-
-add-v : tie.Need-add-v Inv-loop μ-loop
-add-v c = search needs
-
-loop-less : tie.Need-loop-less Inv-loop μ-loop
-loop-less c = search needs
 
 loop-again : tie.Need-loop-again Inv-loop μ-loop
 loop-again c = let l = c .before .before .loop in (
@@ -52,11 +37,11 @@ pack-spec =
     (tie.spec
     Inv-loop
     μ-loop
-    loop-holds
+    (λ c. search needs)
     packed-word-requires
-    mul-list
-    array-write-list
-    add-v
-    loop-less
+    (λ c. search needs)
+    (λ c. search needs)
+    (λ c. search needs)
+    (λ c. search needs)
     loop-again
     returns)

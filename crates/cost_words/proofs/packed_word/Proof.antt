@@ -1,6 +1,6 @@
 -- `cost_words::packed_word` meets its contract: two targets fit a word. Assumes nothing.
 use Rattle.cost_words.proofs.Packing.{packed-low, packed-high}
-use Rattle.words.specs.Words.{listed}
+use Rattle.table_words.specs.Words.{listed}
 use native.Mathlib.Omega.{arith}
 use Prim.Native.Nat.{_+_, _*_}
 use mathlib.Core.Path.{sym}
@@ -8,38 +8,11 @@ use borrow.Author.Needs.{needs}
 use Rattle.cost_words.proofs.packed_word.Statement.{statement}
 use Rattle.cost_words.proofs.packed_word.Tie as tie
 
-mul-result : tie.Need-mul-result
-mul-result c = search needs
-
-mul-result-2 : tie.Need-mul-result-2
-mul-result-2 c = search needs
-
-array-read-result : tie.Need-array-read-result
-array-read-result c = search needs
-
-mul-result-3 : tie.Need-mul-result-3
-mul-result-3 c = search needs
-
-add-result : tie.Need-add-result
-add-result c = search needs
-
-mul-result-4 : tie.Need-mul-result-4
-mul-result-4 c = search needs
-
-array-read-result-2 : tie.Need-array-read-result-2
-array-read-result-2 c = search needs
-
 mul-result-5 : tie.Need-mul-result-5
 mul-result-5 c = let a = (c .before) in omega (arith, a .pre .0 (2 * a .args .v + 1) (omega arith))
 
 add-result-2 : tie.Need-add-result-2
 add-result-2 c = let a = (c .before) in omega (arith, a .pre .0 (2 * a .args .v) (omega arith), a .pre .0 (2 * a .args .v + 1) (omega arith))
-
-mul-result-6 : tie.Need-mul-result-6
-mul-result-6 c = search needs
-
-array-read-result-3 : tie.Need-array-read-result-3
-array-read-result-3 c = search needs
 
 returns : tie.Need-returns
 returns c = let a = c .before .args in sym (packed-low (listed (a .t1)) (listed (a .t2)) (a .v) (omega arith))
@@ -51,16 +24,16 @@ pub packed-word-spec : {M : Type 1} → statement M
 packed-word-spec =
     tie.close
     (tie.spec
-    mul-result
-    mul-result-2
-    array-read-result
-    mul-result-3
-    add-result
-    mul-result-4
-    array-read-result-2
+    (λ c. search needs)
+    (λ c. search needs)
+    (λ c. search needs)
+    (λ c. search needs)
+    (λ c. search needs)
+    (λ c. search needs)
+    (λ c. search needs)
     mul-result-5
     add-result-2
-    mul-result-6
-    array-read-result-3
+    (λ c. search needs)
+    (λ c. search needs)
     returns
     returns-2)

@@ -1,18 +1,9 @@
 -- `cost_words::sum_word` meets its contract: the sum within bounds has a word. Assumes nothing.
-use Rattle.cost_laws.proofs.Words.{sum-room, int-sum}
+use Rattle.theory_costs.proofs.Words.{sum-room, int-sum}
 use native.Mathlib.Omega.{arith}
 use borrow.Author.Needs.{needs}
 use Rattle.cost_words.proofs.sum_word.Statement.{statement}
 use Rattle.cost_words.proofs.sum_word.Tie as tie
-
-wider-requires : tie.Need-wider-requires
-wider-requires c κs = search needs
-
-wider-requires-2 : tie.Need-wider-requires-2
-wider-requires-2 c κs = search needs
-
-add-result : tie.Need-add-result
-add-result c = search needs
 
 sub-result : tie.Need-sub-result
 sub-result c = let a = (c .before .before) in let h = sum-room (a .args .a) (a .args .b) (a .pre) .least in omega arith
@@ -25,4 +16,4 @@ returns c = let a = (c .before .before) in let h = sum-room (a .args .a) (a .arg
 
 pub sum-word-spec : {M : Type 1} → statement M
 sum-word-spec =
-    tie.close (tie.spec wider-requires wider-requires-2 add-result sub-result cast-result returns)
+    tie.close (tie.spec (λ c κs. search needs) (λ c κs. search needs) (λ c. search needs) sub-result cast-result returns)

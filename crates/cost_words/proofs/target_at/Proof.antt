@@ -10,11 +10,8 @@ use Rattle.cost_words.proofs.target_at.Tie as tie
 returns : tie.Need-returns
 returns c = sym (target-end (c .before .args .w) (omega arith))
 
-sub-t4 : tie.Need-sub-t4
-sub-t4 c = search needs
-
 returns-2 : tie.Need-returns-2
 returns-2 c = let w = c .before .args .w in sym (target-node w (w - 1) (omega arith))
 
 pub target-at-spec : {M : Type 1} → statement M
-target-at-spec = tie.close (tie.spec sub-t4 returns returns-2)
+target-at-spec = tie.close (tie.spec (λ c. search needs) returns returns-2)

@@ -5,12 +5,6 @@ use borrow.Author.Needs.{needs}
 use Rattle.cost_words.proofs.target_word.Statement.{statement}
 use Rattle.cost_words.proofs.target_word.Tie as tie
 
-enum-told : tie.Need-enum-told
-enum-told c = search needs
-
-enum-known-x : tie.Need-enum-known-x
-enum-known-x c = search needs
-
 add-result : tie.Need-add-result
 add-result c = let a = c .before .before .before in omega (arith, node-fits (a .args .x) _ (c .before .x .given .1) (a .pre))
 
@@ -21,4 +15,4 @@ returns-2 : tie.Need-returns-2
 returns-2 c = word-node (c .before .before .before .args .x) _ _ (c .before .x .given .1) (omega arith)
 
 pub target-word-spec : {M : Type 1} → statement M
-target-word-spec = tie.close (tie.spec enum-told enum-known-x add-result returns returns-2)
+target-word-spec = tie.close (tie.spec (λ c. search needs) (λ c. search needs) add-result returns returns-2)

@@ -1,5 +1,5 @@
 -- `rule_collect::collect` meets its contract: cleared heads mark no node, the roots are copied, the copies stand in the nodes' place. Assumes nothing.
-use Rattle.sweep.proofs.Collecting.{cleared-loose, rooted-from, full-of, collected}
+use Rattle.table_sweep.proofs.Collecting.{cleared-loose, rooted-from, full-of, collected}
 use Rattle.rule_collect.proofs.Forming.{regular}
 use native.Mathlib.Omega.{arith}
 use borrow.Author.Needs.{needs}
@@ -15,13 +15,12 @@ copy-roots-requires c κs = cleared-loose regular ((c .before .before .before .b
 bring-back-requires : tie.Need-bring-back-requires
 bring-back-requires c κs = full-of ((c .before .before .before .copy-roots) .ensures .ready)
 
-same-length : tie.Need-same-length
-same-length c = search needs
-
 returns : tie.Need-returns
-returns c = collected regular ((c .before .before .before .before .before .before .before .before .before .before .before .before .before) .pre) (rooted-from regular ((c .before .before .before .before .before .before .before .before .before .before .before .before .before) .pre) ((c .before .before .before .before .before .before .before .before .before .before .clear-heads) .ensures) ((c .before .before .before .before .before .before .copy-roots) .ensures)) ((c .before .before .bring-back) .ensures)
+returns c =
+    let c6 = c .before .before .before .before .before .before in let c10 = c6 .before .before .before .before in let c13 = c10 .before .before .before in
+    collected regular (c13 .pre) (rooted-from regular (c13 .pre) (c10 .clear-heads .ensures) (c6 .copy-roots .ensures)) (c .before .before .bring-back .ensures)
 
 pub collect-spec : {M : Type 1} → statement M
 collect-spec =
     tie.close
-    (tie.spec clear-heads-requires copy-roots-requires bring-back-requires same-length returns)
+    (tie.spec clear-heads-requires copy-roots-requires bring-back-requires (λ c. search needs) returns)

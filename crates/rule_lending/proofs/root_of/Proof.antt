@@ -4,11 +4,8 @@ use borrow.Author.Needs.{needs}
 use Rattle.rule_lending.proofs.root_of.Statement.{statement}
 use Rattle.rule_lending.proofs.root_of.Tie as tie
 
-root-word-requires : tie.Need-root-word-requires
-root-word-requires c κs = search needs
-
 returns : tie.Need-returns
 returns c = let s = c .before .before in lent-roots (s .pre .0) (s .pre .1) (c .root-word .ensures)
 
 pub root-of-spec : {M : Type 1} → statement M
-root-of-spec = tie.close (tie.spec root-word-requires returns)
+root-of-spec = tie.close (tie.spec (λ c κs. search needs) returns)

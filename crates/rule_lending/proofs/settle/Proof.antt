@@ -4,26 +4,14 @@ use borrow.Author.Needs.{needs}
 use Rattle.rule_lending.proofs.settle.Statement.{statement}
 use Rattle.rule_lending.proofs.settle.Tie as tie
 
-enum-known-r : tie.Need-enum-known-r
-enum-known-r c = search needs
-
-enum-told : tie.Need-enum-told
-enum-told c = search needs
-
 settle-requires : tie.Need-settle-requires
 settle-requires c κs = asks-none (c .before .enum-told .given .1) (c .before .before .before .before .pre)
-
-same-length : tie.Need-same-length
-same-length c = search needs
 
 returns : tie.Need-returns
 returns c = settled-none (c .before .before .before .before .enum-told .given .1) (c .before .before .settle .ensures)
 
 settle-requires-2 : tie.Need-settle-requires-2
 settle-requires-2 c κs = asks-is (c .before .before .r .given .1) (c .before .before .before .before .before .pre)
-
-same-length-2 : tie.Need-same-length-2
-same-length-2 c = search needs
 
 returns-2 : tie.Need-returns-2
 returns-2 c = settled-is (c .before .before .before .before .before .r .given .1) (c .before .before .settle2 .ensures)
@@ -32,11 +20,11 @@ pub settle-spec : {M : Type 1} → statement M
 settle-spec =
     tie.close
     (tie.spec
-    enum-known-r
-    enum-told
+    (λ c. search needs)
+    (λ c. search needs)
     settle-requires
-    same-length
+    (λ c. search needs)
     returns
     settle-requires-2
-    same-length-2
+    (λ c. search needs)
     returns-2)

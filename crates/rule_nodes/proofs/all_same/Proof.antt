@@ -14,26 +14,8 @@ Inv-loop m list first v₀ v = (v ≤ m) × (first ≡ getD list 0 0) × ((u : �
 abbrev μ-loop : tie.MeasureT-loop
 μ-loop m list first v₀ v = m - v
 
-array-read-first : tie.Need-array-read-first Inv-loop μ-loop
-array-read-first c = search needs
-
-loop-holds : tie.Need-loop-holds Inv-loop μ-loop
-loop-holds c = search needs
-
-mul-if1 : tie.Need-mul-if1 Inv-loop μ-loop
-mul-if1 c = search needs
-
-array-read-if1 : tie.Need-array-read-if1 Inv-loop μ-loop
-array-read-if1 c = search needs
-
 returns : tie.Need-returns Inv-loop μ-loop
 returns c = λ al. (c .if1) .taken (al .each ((c .before .before .loop) .v) (omega arith) ∙ sym ((c .before .before .loop) .inv .1))
-
-add-v : tie.Need-add-v Inv-loop μ-loop
-add-v c = search needs
-
-loop-less : tie.Need-loop-less Inv-loop μ-loop
-loop-less c = search needs
 
 loop-again : tie.Need-loop-again Inv-loop μ-loop
 loop-again c = (search needs, search needs, below-more _ _ ((c .before .before .loop) .inv .2) ((c .if1) .left ∙ (c .before .before .loop) .inv .1))
@@ -47,12 +29,12 @@ all-same-spec =
     (tie.spec
     Inv-loop
     μ-loop
-    array-read-first
-    loop-holds
-    mul-if1
-    array-read-if1
+    (λ c. search needs)
+    (λ c. search needs)
+    (λ c. search needs)
+    (λ c. search needs)
     returns
-    add-v
-    loop-less
+    (λ c. search needs)
+    (λ c. search needs)
     loop-again
     returns-2)

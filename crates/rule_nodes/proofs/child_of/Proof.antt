@@ -14,9 +14,6 @@ top-of-requires c κs = ((c .before) .pre .0 .holds .laid .laid, good-small _ _ 
 sub-wide : tie.Need-sub-wide
 sub-wide c = omega (arith, is-node ((c .before .before .before) .args .t .now) ((c .before .before .before) .args .b) (omega arith))
 
-wide-requires : tie.Need-wide-requires
-wide-requires c κs = search needs
-
 add-record-word : tie.Need-add-record-word
 add-record-word c = omega (arith, (c .before .before .before .before) .pre .0 .holds .laid .laid .large ((c .before .before .before .before) .args .k) ((c .before .before .before .before) .pre .1))
 
@@ -29,9 +26,11 @@ record-word-requires c κs = let a = (c .before .before .before .before) in
     (omega (arith, d .room, d .within), omega (arith, d .most, d .within), omega arith)
 
 returns : tie.Need-returns
-returns c = let a = (c .before .before .before .before .before) in
+returns c =
+    let a = c .before .before .before .before .before in
     let e : (c .before .wide) .result ≡ a .args .b - 65536 = omega arith in
-    rw ((c .record-word) .ensures) (rw e (child-here (a .args .t .now) (a .args .k) (a .args .b) (a .args .v) (a .pre .0) (a .pre .1) (a .pre .2) (sym ((c .before .before .before .top-of) .ensures) ∙ (c .before .before .if1) .taken)))
+    rw (c .record-word .ensures) (rw e (child-here (a .args .t .now) (a .args .k) (a .args .b) (a .args .v) (a .pre .0) (a .pre .1) (a .pre .2)
+    (sym (c .before .before .before .top-of .ensures) ∙ c .before .before .if1 .taken)))
 
 returns-2 : tie.Need-returns-2
 returns-2 c = let a = (c .before .before .before) in child-skip (a .args .t .now) (a .args .k) (a .args .b) (a .args .v) (a .pre .0) (λ d. (c .if1) .left ((c .before .top-of) .ensures ∙ d))
@@ -42,7 +41,7 @@ child-of-spec =
     (tie.spec
     top-of-requires
     sub-wide
-    wide-requires
+    (λ c κs. search needs)
     add-record-word
     record-word-requires
     returns

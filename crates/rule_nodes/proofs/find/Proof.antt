@@ -8,65 +8,49 @@ use Rattle.rule_nodes.proofs.find.Statement.{statement}
 use Rattle.rule_nodes.proofs.find.Tie as tie
 use Rattle.promises.specs.Words.{size}
 
-size-word-requires : tie.Need-size-word-requires
-size-word-requires c κs = search needs
-
-wide-requires : tie.Need-wide-requires
-wide-requires c κs = search needs
-
 all-same-requires : tie.Need-all-same-requires
 all-same-requires c κs = omega (arith, (c .before .before .before) .pre .0 .laid .laid .large ((c .before .before .before) .args .k) ((c .before .before .before) .pre .1))
 
-array-read-branch-at : tie.Need-array-read-branch-at
-array-read-branch-at c = search needs
-
-branch-at-requires : tie.Need-branch-at-requires
-branch-at-requires c κs = search needs
-
 returns : tie.Need-returns
-returns c = let a = (c .before .before .before .before .before .before) in
+returns c =
+    let a = c .before .before .before .before .before .before in
     let w = a .args .t .now in
     let k = a .args .k in
-    let e : (c .before .before .before .wide) .result ≡ size w k = (c .before .before .before .wide) .ensures .0 ∙ (c .before .before .before .before .size-word) .ensures in
-    found-same w k (a .args .t3) (a .pre .0) (a .pre .1) (a .pre .2) ((c .branch-at) .result) ((c .branch-at) .ensures) (rw e at (sure ((c .before .if1) .taken) ((c .before .before .all-same) .ensures)))
-
-find-record-requires : tie.Need-find-record-requires
-find-record-requires c κs = search needs
-
-sub-narrow : tie.Need-sub-narrow
-sub-narrow c = search needs
-
-narrow-requires : tie.Need-narrow-requires
-narrow-requires c κs = search needs
+    let e : (c .before .before .before .wide) .result ≡ size w k = c .before .before .before .wide .ensures .0 ∙ c .before .before .before .before .size-word .ensures in
+    found-same w k (a .args .t3) (a .pre .0) (a .pre .1) (a .pre .2) (c .branch-at .result) (c .branch-at .ensures) (rw e at (sure (c .before .if1 .taken) (c .before .before .all-same .ensures)))
 
 returns-2 : tie.Need-returns-2
-returns-2 c = let a = (c .before .before .before .before .before .before .before .before) in
+returns-2 c =
+    let c6 = c .before .before .before .before .before .before in let a = c6 .before .before in
     let w = a .args .t .now in
     let k = a .args .k in
-    let e : (c .before .before .before .before .before .wide) .result ≡ size w k = (c .before .before .before .before .before .wide) .ensures .0 ∙ (c .before .before .before .before .before .before .size-word) .ensures in
-    let f = (c .before .before .find-record) .ensures in
-    rw ((c .narrow) .ensures)
-    (found-node w k (a .args .t3) (a .pre .0) (a .pre .1) (a .pre .2) _ (omega (arith, f .within)) (rw e at (sure-not ((c .before .before .before .if1) .left) ((c .before .before .before .before .all-same) .ensures))) (f .there (omega arith)))
+    let e : (c .before .before .before .before .before .wide) .result ≡ size w k = c .before .before .before .before .before .wide .ensures .0 ∙ c6 .size-word .ensures in
+    let f = c .before .before .find-record .ensures in
+    rw (c .narrow .ensures)
+    (found-node w k (a .args .t3) (a .pre .0) (a .pre .1) (a .pre .2) _ (omega (arith, f .within))
+    (rw e at (sure-not (c .before .before .before .if1 .left) (c .before .before .before .before .all-same .ensures))) (f .there (omega arith)))
 
 returns-3 : tie.Need-returns-3
-returns-3 c = let a = (c .before .before .before .before .before .before .before) in
+returns-3 c =
+    let a = c .before .before .before .before .before .before .before in
     let w = a .args .t .now in
     let k = a .args .k in
-    let e : (c .before .before .before .before .wide) .result ≡ size w k = (c .before .before .before .before .wide) .ensures .0 ∙ (c .before .before .before .before .before .size-word) .ensures in
-    found-none w k (a .args .t3) (a .pre .0) (a .pre .1) (a .pre .2) ((c .before .find-record) .result) (omega arith) (rw e at (sure-not ((c .before .before .if1) .left) ((c .before .before .before .all-same) .ensures))) ((c .before .find-record) .ensures)
+    let e : (c .before .before .before .before .wide) .result ≡ size w k = c .before .before .before .before .wide .ensures .0 ∙ c .before .before .before .before .before .size-word .ensures in
+    found-none w k (a .args .t3) (a .pre .0) (a .pre .1) (a .pre .2) (c .before .find-record .result) (omega arith)
+    (rw e at (sure-not (c .before .before .if1 .left) (c .before .before .before .all-same .ensures))) (c .before .find-record .ensures)
 
 pub find-spec : {M : Type 1} → statement M
 find-spec =
     tie.close
     (tie.spec
-    size-word-requires
-    wide-requires
+    (λ c κs. search needs)
+    (λ c κs. search needs)
     all-same-requires
-    array-read-branch-at
-    branch-at-requires
+    (λ c. search needs)
+    (λ c κs. search needs)
     returns
-    find-record-requires
-    sub-narrow
-    narrow-requires
+    (λ c κs. search needs)
+    (λ c. search needs)
+    (λ c κs. search needs)
     returns-2
     returns-3)

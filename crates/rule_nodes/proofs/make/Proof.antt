@@ -6,75 +6,49 @@ use borrow.Author.Needs.{needs}
 use Rattle.rule_nodes.proofs.make.Statement.{statement}
 use Rattle.rule_nodes.proofs.make.Tie as tie
 
-find-requires : tie.Need-find-requires
-find-requires c κs = search needs
-
-enum-known-b : tie.Need-enum-known-b
-enum-known-b c = search needs
-
-enum-told : tie.Need-enum-told
-enum-told c = search needs
-
-count-word-requires : tie.Need-count-word-requires
-count-word-requires c κs = search needs
-
-capacity-word-requires : tie.Need-capacity-word-requires
-capacity-word-requires c κs = search needs
-
-push-requires : tie.Need-push-requires
-push-requires c κs = search needs
-
-narrow-requires : tie.Need-narrow-requires
-narrow-requires c κs = search needs
-
-branch-word-requires : tie.Need-branch-word-requires
-branch-word-requires c κs = search needs
-
-same-length : tie.Need-same-length
-same-length c = search needs
-
 returns : tie.Need-returns
-returns c = let a = (c .before .before .before .before .before .before .before .before .before .before .before .before .before .before .before .before) in
+returns c = let a = c .before .before .before .before .before .before .before .before .before .before .before .before .before .before .before .before in
     let w = a .args .t .now in
-    let ab = found-missing w (a .args .k) (a .args .list) _ ((c .before .before .before .before .before .before .before .before .before .before .before .enum-told) .given .1) ((c .before .before .before .before .before .before .before .before .before .before .before .before .before .find) .ensures) in
-    made-new w (a .args .k) (a .args .list) (a .pre .0) (a .pre .1) (a .pre .2) _ _ ((c .before .narrow) .result) ab (omega arith) ((c .branch-word) .ensures) ((c .before .narrow) .ensures ∙ (c .before .before .before .before .push) .ensures .0) ((c .before .before .before .before .push) .ensures .1)
-
-same-length-2 : tie.Need-same-length-2
-same-length-2 c = search needs
+    let ab = found-missing w (a .args .k) (a .args .list) _ (c .before .before .before .before .before .before .before .before .before .before .before .enum-told .given .1)
+    (c .before .before .before .before .before .before .before .before .before .before .before .before .before .find .ensures) in
+    made-new w (a .args .k) (a .args .list) (a .pre .0) (a .pre .1) (a .pre .2) _ _ (c .before .narrow .result) ab (omega arith) (c .branch-word .ensures)
+    (c .before .narrow .ensures ∙ c .before .before .before .before .push .ensures .0) (c .before .before .before .before .push .ensures .1)
 
 returns-2 : tie.Need-returns-2
-returns-2 c = let a = (c .before .before .before .before .before .before .before .before .before .before) in
+returns-2 c =
+    let c7 = c .before .before .before .before .before .before .before in let a = c7 .before .before .before in
     let w = a .args .t .now in
-    let ab = found-missing w (a .args .k) (a .args .list) _ ((c .before .before .before .before .before .enum-told) .given .1) ((c .before .before .before .before .before .before .before .find) .ensures) in
+    let ab = found-missing w (a .args .k) (a .args .list) _ (c .before .before .before .before .before .enum-told .given .1) (c7 .find .ensures) in
     made-none w (a .args .k) (a .args .list) (a .pre .0) (a .pre .1) (a .pre .2) ab (omega arith)
 
 branch-word-requires-2 : tie.Need-branch-word-requires-2
-branch-word-requires-2 c κs = let a = (c .before .before .before .before .before .before) in found-at (a .args .t .now) (a .args .k) (a .args .list) _ ((c .before .b) .given .0 .0) ((c .before .b) .given .1) ((c .before .before .before .find) .ensures) .1
-
-same-length-3 : tie.Need-same-length-3
-same-length-3 c = search needs
+branch-word-requires-2 c κs =
+    let a = c .before .before .before .before .before .before in
+    found-at (a .args .t .now) (a .args .k) (a .args .list) _ (c .before .b .given .0 .0) (c .before .b .given .1) (c .before .before .before .find .ensures) .1
 
 returns-3 : tie.Need-returns-3
-returns-3 c = let a = (c .before .before .before .before .before .before .before) in
+returns-3 c =
+    let a = c .before .before .before .before .before .before .before in
     let w = a .args .t .now in
-    made-there w (a .args .k) (a .args .list) (a .pre .0) (a .pre .1) (a .pre .2) _ ((c .before .before .b) .given .0 .0) ((c .branch-word2) .ensures) (found-at w (a .args .k) (a .args .list) _ ((c .before .before .b) .given .0 .0) ((c .before .before .b) .given .1) ((c .before .before .before .before .find) .ensures) .0)
+    made-there w (a .args .k) (a .args .list) (a .pre .0) (a .pre .1) (a .pre .2) _ (c .before .before .b .given .0 .0) (c .branch-word2 .ensures)
+    (found-at w (a .args .k) (a .args .list) _ (c .before .before .b .given .0 .0) (c .before .before .b .given .1) (c .before .before .before .before .find .ensures) .0)
 
 pub make-spec : {M : Type 1} → statement M
 make-spec =
     tie.close
     (tie.spec
-    find-requires
-    enum-known-b
-    enum-told
-    count-word-requires
-    capacity-word-requires
-    push-requires
-    narrow-requires
-    branch-word-requires
-    same-length
+    (λ c κs. search needs)
+    (λ c. search needs)
+    (λ c. search needs)
+    (λ c κs. search needs)
+    (λ c κs. search needs)
+    (λ c κs. search needs)
+    (λ c κs. search needs)
+    (λ c κs. search needs)
+    (λ c. search needs)
     returns
-    same-length-2
+    (λ c. search needs)
     returns-2
     branch-word-requires-2
-    same-length-3
+    (λ c. search needs)
     returns-3)

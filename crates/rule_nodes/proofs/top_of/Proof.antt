@@ -5,21 +5,6 @@ use borrow.Author.Needs.{needs}
 use Rattle.rule_nodes.proofs.top_of.Statement.{statement}
 use Rattle.rule_nodes.proofs.top_of.Tie as tie
 
-features-word-requires : tie.Need-features-word-requires
-features-word-requires c κs = search needs
-
-wide-requires : tie.Need-wide-requires
-wide-requires c κs = search needs
-
-wide-requires-2 : tie.Need-wide-requires-2
-wide-requires-2 c κs = search needs
-
-record-word-requires : tie.Need-record-word-requires
-record-word-requires c κs = search needs
-
-wide-requires-3 : tie.Need-wide-requires-3
-wide-requires-3 c κs = search needs
-
 returns : tie.Need-returns
 returns c = cc (top-phrase ((c .before .before .before .before) .args .t .now) ((c .before .before .before .before) .args .b) (omega arith))
 
@@ -30,10 +15,10 @@ pub top-of-spec : {M : Type 1} → statement M
 top-of-spec =
     tie.close
     (tie.spec
-    features-word-requires
-    wide-requires
-    wide-requires-2
-    record-word-requires
-    wide-requires-3
+    (λ c κs. search needs)
+    (λ c κs. search needs)
+    (λ c κs. search needs)
+    (λ c κs. search needs)
+    (λ c κs. search needs)
     returns
     returns-2)

@@ -1,27 +1,12 @@
 -- `rule_operators::chosen` meets its contract: the number at the selector's index among the others, 0 past them. Assumes nothing.
 use Rattle.rule_operators.proofs.Operating.{case-at, case-past}
-use Rattle.words.specs.Words.{listed}
+use Rattle.table_words.specs.Words.{listed}
 use native.Mathlib.Omega.{arith}
 use Prim.Native.Nat.{_+_}
 use mathlib.Core.Path.{_≡_, ap, _∙_}
 use borrow.Author.Needs.{needs}
 use Rattle.rule_operators.proofs.chosen.Statement.{statement}
 use Rattle.rule_operators.proofs.chosen.Tie as tie
-
-array-read-wide : tie.Need-array-read-wide
-array-read-wide c = search needs
-
-wide-requires : tie.Need-wide-requires
-wide-requires c κs = search needs
-
-add-i : tie.Need-add-i
-add-i c = search needs
-
-mul-result : tie.Need-mul-result
-mul-result c = search needs
-
-array-read-result : tie.Need-array-read-result
-array-read-result c = search needs
 
 returns : tie.Need-returns
 returns c = let a = (c .before .before) in
@@ -34,4 +19,4 @@ returns-2 c = let a = (c .before .before) in case-past (listed (a .args .t1)) (a
 pub chosen-spec : {M : Type 1} → statement M
 chosen-spec =
     tie.close
-    (tie.spec array-read-wide wide-requires add-i mul-result array-read-result returns returns-2)
+    (tie.spec (λ c. search needs) (λ c κs. search needs) (λ c. search needs) (λ c. search needs) (λ c. search needs) returns returns-2)

@@ -1,6 +1,6 @@
 -- `rule_operators::forgotten` meets its contract: the rule holds of the numbers from j on, from the last to the first. Assumes nothing.
 use Rattle.rule_operators.proofs.Operating.{forgotten-none, forgotten-more}
-use Rattle.words.specs.Words.{listed}
+use Rattle.table_words.specs.Words.{listed}
 use lib.ListN.{drop}
 use native.Mathlib.Omega.{arith}
 use Prim.Native.Nat.{ℕ, _-_, _≤_}
@@ -20,23 +20,13 @@ abbrev μ-loop : tie.MeasureT-loop
 loop-holds : tie.Need-loop-holds Inv-loop μ-loop
 loop-holds c = (omega arith, forgotten-none (listed ((c) .args .t1)) ((c) .args .n))
 
-sub-j : tie.Need-sub-j Inv-loop μ-loop
-sub-j c = search needs
-
-mul-merged : tie.Need-mul-merged Inv-loop μ-loop
-mul-merged c = search needs
-
-array-read-merged : tie.Need-array-read-merged Inv-loop μ-loop
-array-read-merged c = search needs
-
-merged-requires : tie.Need-merged-requires Inv-loop μ-loop
-merged-requires c κs = search needs
-
-loop-less : tie.Need-loop-less Inv-loop μ-loop
-loop-less c = search needs
-
 loop-again : tie.Need-loop-again Inv-loop μ-loop
-loop-again c = let l = (c .before .before .loop) in (omega arith, (c .merged) .ensures ∙ forgotten-more (listed ((c .before .before .before) .args .t1)) ((c .before .before .before) .args .n) (l .j - 1) (l .j) (l .left) (omega arith) (omega arith) (l .inv .1))
+loop-again c =
+    let l = c .before .before .loop in (
+      omega arith,
+      c .merged .ensures ∙ forgotten-more (listed (c .before .before .before .args .t1)) (c .before .before .before .args .n)
+          (l .j - 1) (l .j) (l .left) (omega arith) (omega arith) (l .inv .1),
+    )
 
 returns : tie.Need-returns Inv-loop μ-loop
 returns c = let l = (c .before .loop) in
@@ -50,10 +40,10 @@ forgotten-spec =
     Inv-loop
     μ-loop
     loop-holds
-    sub-j
-    mul-merged
-    array-read-merged
-    merged-requires
-    loop-less
+    (λ c. search needs)
+    (λ c. search needs)
+    (λ c. search needs)
+    (λ c κs. search needs)
+    (λ c. search needs)
     loop-again
     returns)

@@ -7,21 +7,6 @@ use Rattle.rule_operators.proofs.pair_op.Statement.{statement}
 use Rattle.rule_operators.proofs.pair_op.Tie as tie
 use Rattle.promises.specs.Operators.{pairOf}
 
-smaller-requires : tie.Need-smaller-requires
-smaller-requires c κs = search needs
-
-larger-requires : tie.Need-larger-requires
-larger-requires c κs = search needs
-
-truth-requires : tie.Need-truth-requires
-truth-requires c κs = search needs
-
-truth-requires-2 : tie.Need-truth-requires-2
-truth-requires-2 c κs = search needs
-
-truth-requires-3 : tie.Need-truth-requires-3
-truth-requires-3 c κs = search needs
-
 returns : tie.Need-returns
 unfolding pairOf
 returns c = (c .smaller) .ensures ∙ sym (ap (λ (o : ℕ). pairOf o (c .before .before .args .x) (c .before .before .args .y)) ((c .before .match) .keys1))
@@ -46,11 +31,11 @@ pub pair-op-spec : {M : Type 1} → statement M
 pair-op-spec =
     tie.close
     (tie.spec
-    smaller-requires
-    larger-requires
-    truth-requires
-    truth-requires-2
-    truth-requires-3
+    (λ c κs. search needs)
+    (λ c κs. search needs)
+    (λ c κs. search needs)
+    (λ c κs. search needs)
+    (λ c κs. search needs)
     returns
     returns-2
     returns-3

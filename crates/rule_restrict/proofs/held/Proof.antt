@@ -10,11 +10,10 @@ restrict-walk-requires c κs = holding-walks _ _ _ _ ((c .before .before) .pre)
 clear-notes-requires : tie.Need-clear-notes-requires
 clear-notes-requires c κs = walked-asks _ _ _ _ _ _ (holding-walks _ _ _ _ ((c .before .before .before .before .before .before) .pre)) ((c .before .before .before .restrict-walk) .ensures)
 
-same-length : tie.Need-same-length
-same-length c = search needs
-
 returns : tie.Need-returns
-returns c = rw ((c .before .before .clear-notes) .ensures) (walked-result _ _ _ _ _ _ ((c .before .before .before .before .before .before .before .before .before) .pre) ((c .before .before .before .before .before .before .restrict-walk) .ensures))
+returns c =
+    let c6 = c .before .before .before .before .before .before in let c9 = c6 .before .before .before in
+    rw (c .before .before .clear-notes .ensures) (walked-result _ _ _ _ _ _ (c9 .pre) (c6 .restrict-walk .ensures))
 
 pub held-spec : {M : Type 1} → statement M
-held-spec = tie.close (tie.spec restrict-walk-requires clear-notes-requires same-length returns)
+held-spec = tie.close (tie.spec restrict-walk-requires clear-notes-requires (λ c. search needs) returns)

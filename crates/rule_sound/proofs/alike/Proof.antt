@@ -17,38 +17,38 @@ abbrev μ-loop : tie.MeasureT-loop
 record-word-requires : tie.Need-record-word-requires Inv-loop μ-loop
 record-word-requires c κs = let p = (c .before) .pre in (omega (arith, p .0 .room, p .0 .within), omega (arith, p .0 .most, p .0 .within), omega arith)
 
-wide-requires : tie.Need-wide-requires Inv-loop μ-loop
-wide-requires c κs = search needs
-
 size-word-requires : tie.Need-size-word-requires Inv-loop μ-loop
 size-word-requires c κs = let p = (c .before .before .before) .pre in omega (arith, p .0 .room, p .0 .few)
-
-wide-requires-2 : tie.Need-wide-requires-2 Inv-loop μ-loop
-wide-requires-2 c κs = search needs
 
 record-word-requires-2 : tie.Need-record-word-requires-2 Inv-loop μ-loop
 record-word-requires-2 c κs = let p = (c .before .before .before .before .before) .pre in (omega (arith, p .0 .room, p .0 .within), omega (arith, p .0 .most, p .0 .within), omega arith)
 
 loop-holds : tie.Need-loop-holds Inv-loop μ-loop
-loop-holds c = ((c .before .wide2) .ensures .0 ∙ (c .before .before .size-word) .ensures ∙ ap (size ((c .before .before .before .before .before .before) .args .t .now)) ((c .before .before .before .wide) .ensures .0 ∙ (c .before .before .before .before .record-word) .ensures), omega arith, λ x h. absurd (omega arith))
-
-add-record-word : tie.Need-add-record-word Inv-loop μ-loop
-add-record-word c = search needs
+loop-holds c =
+    let c6 = c .before .before .before .before .before .before in (
+      c .before .wide2 .ensures .0 ∙ c .before .before .size-word .ensures ∙ ap (size (c6 .args .t .now))
+          (c .before .before .before .wide .ensures .0 ∙ c .before .before .before .before .record-word .ensures),
+      omega arith,
+      λ x h. absurd (omega arith),
+    )
 
 record-word-requires-3 : tie.Need-record-word-requires-3 Inv-loop μ-loop
-record-word-requires-3 c κs = let p = (c .before .before .before .before .before .before .before .before) .pre in let f = p .0 .fit .large _ (p .2) .1 in (omega (arith, p .0 .room, p .0 .within), omega (arith, p .0 .most, p .0 .within), omega arith)
+record-word-requires-3 c κs =
+    let c8 = c .before .before .before .before .before .before .before .before in
+    let p = c8 .pre in let f = p .0 .fit .large _ (p .2) .1 in (omega (arith, p .0 .room, p .0 .within), omega (arith, p .0 .most, p .0 .within), omega arith)
 
 returns : tie.Need-returns Inv-loop μ-loop
 returns c = λ z. (c .if1) .taken ((c .before .record-word3) .ensures ∙ z .alike ((c .before .before .before .loop) .v) (omega arith) ∙ sym ((c .before .before .before .before .record-word2) .ensures))
 
-add-v : tie.Need-add-v Inv-loop μ-loop
-add-v c = search needs
-
-loop-less : tie.Need-loop-less Inv-loop μ-loop
-loop-less c = search needs
-
 loop-again : tie.Need-loop-again Inv-loop μ-loop
-loop-again c = let l = (c .before .before .before .loop) in let a = (c .before .before .before .before .before .before .before .before .before .before) .args in (l .inv .0, omega arith, below-more (λ x. body (a .t .now) (a .i) x ≡ body (a .t .now) (a .i) 0) (l .v) (l .inv .2) (sym ((c .before .record-word3) .ensures) ∙ (c .if1) .left ∙ (c .before .before .before .before .record-word2) .ensures))
+loop-again c =
+    let c10 = c .before .before .before .before .before .before .before .before .before .before in
+    let l = c .before .before .before .loop in let a = c10 .args in (
+      l .inv .0,
+      omega arith,
+      below-more (λ x. body (a .t .now) (a .i) x ≡ body (a .t .now) (a .i) 0) (l .v) (l .inv .2)
+          (sym (c .before .record-word3 .ensures) ∙ c .if1 .left ∙ c .before .before .before .before .record-word2 .ensures),
+    )
 
 returns-2 : tie.Need-returns-2 Inv-loop μ-loop
 returns-2 c = record { alike = λ x h. (c .before .loop) .inv .2 x (omega arith) }
@@ -60,15 +60,15 @@ alike-spec =
     Inv-loop
     μ-loop
     record-word-requires
-    wide-requires
+    (λ c κs. search needs)
     size-word-requires
-    wide-requires-2
+    (λ c κs. search needs)
     record-word-requires-2
     loop-holds
-    add-record-word
+    (λ c. search needs)
     record-word-requires-3
     returns
-    add-v
-    loop-less
+    (λ c. search needs)
+    (λ c. search needs)
     loop-again
     returns-2)

@@ -1,12 +1,9 @@
 -- `rule_sound::sound` meets its contract: each test is one field of the record, in its order. Assumes nothing.
 use Rattle.settings.proofs.Answers.{granted, denied, retell}
-use Rattle.checks.proofs.Framing.{framed}
+use Rattle.table_checks.proofs.Framing.{framed}
 use borrow.Author.Needs.{needs}
 use Rattle.rule_sound.proofs.sound.Statement.{statement}
 use Rattle.rule_sound.proofs.sound.Tie as tie
-
-header-ok-requires : tie.Need-header-ok-requires
-header-ok-requires c κs = search needs
 
 returns : tie.Need-returns
 returns c = λ z. denied ((c .before .header-ok) .result) ((c .if1) .taken) ((c .before .header-ok) .ensures) (z .header)
@@ -24,39 +21,43 @@ returns-3 : tie.Need-returns-3
 returns-3 c = λ z. denied ((c .before .chains-ok) .result) ((c .if3) .taken) ((c .before .chains-ok) .ensures) (z .chained)
 
 roots-ok-requires : tie.Need-roots-ok-requires
-roots-ok-requires c κs = granted ((c .before .before .before .before .before .header-ok) .result) ((c .before .before .before .before .if1) .left) ((c .before .before .before .before .before .header-ok) .ensures)
+roots-ok-requires c κs =
+    granted (c .before .before .before .before .before .header-ok .result) (c .before .before .before .before .if1 .left) (c .before .before .before .before .before .header-ok .ensures)
 
 returns-4 : tie.Need-returns-4
 returns-4 c = λ z. denied ((c .before .roots-ok) .result) ((c .if4) .taken) ((c .before .roots-ok) .ensures) (z .roots-ok)
 
 order-ok-requires : tie.Need-order-ok-requires
-order-ok-requires c κs = (
-  record {
-    header = granted ((c .before .before .before .before .before .before .before .header-ok) .result) ((c .before .before .before .before .before .before .if1) .left) ((c .before .before .before .before .before .before .before .header-ok) .ensures);
-    nodes-ok = granted ((c .before .before .before .before .before .nodes-ok) .result) ((c .before .before .before .before .if2) .left) ((c .before .before .before .before .before .nodes-ok) .ensures);
-    chained = granted ((c .before .before .before .chains-ok) .result) ((c .before .before .if3) .left) ((c .before .before .before .chains-ok) .ensures);
-  },
-  granted ((c .before .roots-ok) .result) ((c .if4) .left) ((c .before .roots-ok) .ensures),
-)
+order-ok-requires c κs =
+    let c6 = c .before .before .before .before .before .before in let c7 = c6 .before in (
+      record {
+        header = granted (c7 .header-ok .result) (c6 .if1 .left) (c7 .header-ok .ensures);
+        nodes-ok = granted (c .before .before .before .before .before .nodes-ok .result) (c .before .before .before .before .if2 .left) (c .before .before .before .before .before .nodes-ok .ensures);
+        chained = granted (c .before .before .before .chains-ok .result) (c .before .before .if3 .left) (c .before .before .before .chains-ok .ensures);
+      },
+      granted (c .before .roots-ok .result) (c .if4 .left) (c .before .roots-ok .ensures),
+    )
 
 returns-5 : tie.Need-returns-5
-returns-5 c = retell ((c .order-ok) .result)
+returns-5 c =
+    let c6 = c .before .before .before .before .before .before in let c7 = c6 .before in let c8 = c7 .before in
+    retell (c .order-ok .result)
     (λ q.
     record {
-      header = granted ((c .before .before .before .before .before .before .before .before .header-ok) .result) ((c .before .before .before .before .before .before .before .if1) .left) ((c .before .before .before .before .before .before .before .before .header-ok) .ensures);
-      nodes-ok = granted ((c .before .before .before .before .before .before .nodes-ok) .result) ((c .before .before .before .before .before .if2) .left) ((c .before .before .before .before .before .before .nodes-ok) .ensures);
-      chained = granted ((c .before .before .before .before .chains-ok) .result) ((c .before .before .before .if3) .left) ((c .before .before .before .before .chains-ok) .ensures);
-      roots-ok = granted ((c .before .before .roots-ok) .result) ((c .before .if4) .left) ((c .before .before .roots-ok) .ensures);
+      header = granted (c8 .header-ok .result) (c7 .if1 .left) (c8 .header-ok .ensures);
+      nodes-ok = granted (c6 .nodes-ok .result) (c .before .before .before .before .before .if2 .left) (c6 .nodes-ok .ensures);
+      chained = granted (c .before .before .before .before .chains-ok .result) (c .before .before .before .if3 .left) (c .before .before .before .before .chains-ok .ensures);
+      roots-ok = granted (c .before .before .roots-ok .result) (c .before .if4 .left) (c .before .before .roots-ok .ensures);
       in-order = q;
     })
     (λ z. z .in-order)
-    ((c .order-ok) .ensures)
+    (c .order-ok .ensures)
 
 pub sound-spec : {M : Type 1} → statement M
 sound-spec =
     tie.close
     (tie.spec
-    header-ok-requires
+    (λ c κs. search needs)
     returns
     nodes-ok-requires
     returns-2

@@ -6,12 +6,6 @@ use borrow.Author.Needs.{needs}
 use Rattle.rule_words.proofs.branch_word.Statement.{statement}
 use Rattle.rule_words.proofs.branch_word.Tie as tie
 
-enum-known-b : tie.Need-enum-known-b
-enum-known-b c = search needs
-
-enum-known-b-2 : tie.Need-enum-known-b-2
-enum-known-b-2 c = search needs
-
 add-result : tie.Need-add-result
 add-result c = let a = c .before .before .before in omega (arith, node-fits (a .args .b) _ (c .before .b2 .given .1) (a .pre))
 
@@ -22,4 +16,4 @@ returns-2 : tie.Need-returns-2
 returns-2 c = word-node (c .before .before .before .args .b) _ _ (c .before .b2 .given .1) refl
 
 pub branch-word-spec : {M : Type 1} → statement M
-branch-word-spec = tie.close (tie.spec enum-known-b enum-known-b-2 add-result returns returns-2)
+branch-word-spec = tie.close (tie.spec (λ c. search needs) (λ c. search needs) add-result returns returns-2)

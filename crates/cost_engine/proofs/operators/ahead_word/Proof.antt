@@ -8,26 +8,11 @@ use Rattle.cost_engine.proofs.operators.ahead_word.Tie as tie
 use Rattle.promises.specs.Range.{addMost}
 use Rattle.promises.specs.Integers.{Fit, int}
 
-enum-told : tie.Need-enum-told
-enum-told c = search needs
-
 sum-word-requires : tie.Need-sum-word-requires
 sum-word-requires c κs = let a = (c .before .before) in subst (λ (o : Operator). Fit addMost (ahead o (int (a .args .a)) (int (a .args .b)))) ((c .enum-told) .given .1) (a .pre)
 
-enum-told-2 : tie.Need-enum-told-2
-enum-told-2 c = search needs
-
 difference-word-requires : tie.Need-difference-word-requires
 difference-word-requires c κs = let a = (c .before .before) in subst (λ (o : Operator). Fit addMost (ahead o (int (a .args .a)) (int (a .args .b)))) ((c .enum-told2) .given .1) (a .pre)
-
-enum-told-3 : tie.Need-enum-told-3
-enum-told-3 c = search needs
-
-enum-told-4 : tie.Need-enum-told-4
-enum-told-4 c = search needs
-
-enum-known-o : tie.Need-enum-known-o
-enum-known-o c = search needs
 
 product-word-requires : tie.Need-product-word-requires
 product-word-requires c κs = let a = (c .before .before .before) in subst (λ (o : Operator). Fit addMost (ahead o (int (a .args .a)) (int (a .args .b)))) ((c .before .o) .given .1) (a .pre)
@@ -51,13 +36,13 @@ pub ahead-word-spec : {M : Type 1} → statement M
 ahead-word-spec =
     tie.close
     (tie.spec
-    enum-told
+    (λ c. search needs)
     sum-word-requires
-    enum-told-2
+    (λ c. search needs)
     difference-word-requires
-    enum-told-3
-    enum-told-4
-    enum-known-o
+    (λ c. search needs)
+    (λ c. search needs)
+    (λ c. search needs)
     product-word-requires
     returns
     returns-2

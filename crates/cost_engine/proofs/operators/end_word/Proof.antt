@@ -11,35 +11,18 @@ use Rattle.cost_engine.proofs.operators.end_word.Tie as tie
 use Rattle.promises.specs.Range.{addMost}
 use Rattle.promises.specs.Integers.{Fit, int}
 
-enum-told : tie.Need-enum-told
-enum-told c = search needs
-
-enum-told-2 : tie.Need-enum-told-2
-enum-told-2 c = search needs
-
 difference-word-requires : tie.Need-difference-word-requires
-difference-word-requires c κs = let a = (c .before .before) in subst (λ (z : ℤ). Fit addMost (z -ℤ int (a .args .d))) (sym int-zero) (subst (λ (o : Operator). Fit addMost (opOf o (pos 0) (int (a .args .d)))) ((c .enum-told2) .given .1) (a .pre))
-
-enum-told-3 : tie.Need-enum-told-3
-enum-told-3 c = search needs
-
-at-most-zero-requires : tie.Need-at-most-zero-requires
-at-most-zero-requires c κs = search needs
-
-enum-told-4 : tie.Need-enum-told-4
-enum-told-4 c = search needs
-
-at-least-zero-requires : tie.Need-at-least-zero-requires
-at-least-zero-requires c κs = search needs
-
-enum-known-o : tie.Need-enum-known-o
-enum-known-o c = search needs
+difference-word-requires c κs =
+    let a = c .before .before in
+    subst (λ (z : ℤ). Fit addMost (z -ℤ int (a .args .d))) (sym int-zero) (subst (λ (o : Operator). Fit addMost (opOf o (pos 0) (int (a .args .d)))) (c .enum-told2 .given .1) (a .pre))
 
 returns : tie.Need-returns
 returns c = let a = (c .before .before) in sym (ap (λ (o : Operator). opOf o (pos 0) (int (a .args .d))) ((c .enum-told) .given .1) ∙ +ℤ-idl (int (a .args .d)))
 
 returns-2 : tie.Need-returns-2
-returns-2 c = let a = (c .before .before .before) in (c .difference-word) .ensures ∙ ap (λ (z : ℤ). z -ℤ int (a .args .d)) int-zero ∙ sym (ap (λ (o : Operator). opOf o (pos 0) (int (a .args .d))) ((c .before .enum-told2) .given .1))
+returns-2 c =
+    let a = c .before .before .before in
+    c .difference-word .ensures ∙ ap (λ (z : ℤ). z -ℤ int (a .args .d)) int-zero ∙ sym (ap (λ (o : Operator). opOf o (pos 0) (int (a .args .d))) (c .before .enum-told2 .given .1))
 
 returns-3 : tie.Need-returns-3
 returns-3 c = let a = (c .before .before .before) in (c .at-most-zero) .ensures ∙ sym (ap (λ (o : Operator). opOf o (pos 0) (int (a .args .d))) ((c .before .enum-told3) .given .1))
@@ -54,14 +37,14 @@ pub end-word-spec : {M : Type 1} → statement M
 end-word-spec =
     tie.close
     (tie.spec
-    enum-told
-    enum-told-2
+    (λ c. search needs)
+    (λ c. search needs)
     difference-word-requires
-    enum-told-3
-    at-most-zero-requires
-    enum-told-4
-    at-least-zero-requires
-    enum-known-o
+    (λ c. search needs)
+    (λ c κs. search needs)
+    (λ c. search needs)
+    (λ c κs. search needs)
+    (λ c. search needs)
     returns
     returns-2
     returns-3

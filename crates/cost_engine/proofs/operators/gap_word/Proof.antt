@@ -8,26 +8,11 @@ use Rattle.cost_engine.proofs.operators.gap_word.Tie as tie
 use Rattle.promises.specs.Range.{addMost}
 use Rattle.promises.specs.Integers.{Fit, int}
 
-enum-told : tie.Need-enum-told
-enum-told c = search needs
-
-enum-told-2 : tie.Need-enum-told-2
-enum-told-2 c = search needs
-
-enum-told-3 : tie.Need-enum-told-3
-enum-told-3 c = search needs
-
 onward-word-requires : tie.Need-onward-word-requires
 onward-word-requires c κs = let a = (c .before .before) in subst (λ (o : Operator). Fit addMost (gap o (int (a .args .d)) (int (a .args .a)) (int (a .args .b)))) ((c .enum-told3) .given .1) (a .pre)
 
-enum-told-4 : tie.Need-enum-told-4
-enum-told-4 c = search needs
-
 onward-word-requires-2 : tie.Need-onward-word-requires-2
 onward-word-requires-2 c κs = let a = (c .before .before) in subst (λ (o : Operator). Fit addMost (gap o (int (a .args .d)) (int (a .args .a)) (int (a .args .b)))) ((c .enum-told4) .given .1) (a .pre)
-
-enum-known-o : tie.Need-enum-known-o
-enum-known-o c = search needs
 
 returns : tie.Need-returns
 returns c = let a = (c .before .before) in sym (ap (λ (o : Operator). gap o (int (a .args .d)) (int (a .args .a)) (int (a .args .b))) ((c .enum-told) .given .1))
@@ -36,10 +21,14 @@ returns-2 : tie.Need-returns-2
 returns-2 c = let a = (c .before .before) in sym (ap (λ (o : Operator). gap o (int (a .args .d)) (int (a .args .a)) (int (a .args .b))) ((c .enum-told2) .given .1))
 
 returns-3 : tie.Need-returns-3
-returns-3 c = let a = (c .before .before .before) in (c .onward-word) .ensures ∙ sym (ap (λ (o : Operator). gap o (int (a .args .d)) (int (a .args .a)) (int (a .args .b))) ((c .before .enum-told3) .given .1))
+returns-3 c =
+    let a = c .before .before .before in
+    c .onward-word .ensures ∙ sym (ap (λ (o : Operator). gap o (int (a .args .d)) (int (a .args .a)) (int (a .args .b))) (c .before .enum-told3 .given .1))
 
 returns-4 : tie.Need-returns-4
-returns-4 c = let a = (c .before .before .before) in (c .onward-word2) .ensures ∙ sym (ap (λ (o : Operator). gap o (int (a .args .d)) (int (a .args .a)) (int (a .args .b))) ((c .before .enum-told4) .given .1))
+returns-4 c =
+    let a = c .before .before .before in
+    c .onward-word2 .ensures ∙ sym (ap (λ (o : Operator). gap o (int (a .args .d)) (int (a .args .a)) (int (a .args .b))) (c .before .enum-told4 .given .1))
 
 returns-5 : tie.Need-returns-5
 returns-5 c = let a = (c .before .before .before) in sym (ap (λ (o : Operator). gap o (int (a .args .d)) (int (a .args .a)) (int (a .args .b))) ((c .before .o) .given .1))
@@ -48,13 +37,13 @@ pub gap-word-spec : {M : Type 1} → statement M
 gap-word-spec =
     tie.close
     (tie.spec
-    enum-told
-    enum-told-2
-    enum-told-3
+    (λ c. search needs)
+    (λ c. search needs)
+    (λ c. search needs)
     onward-word-requires
-    enum-told-4
+    (λ c. search needs)
     onward-word-requires-2
-    enum-known-o
+    (λ c. search needs)
     returns
     returns-2
     returns-3

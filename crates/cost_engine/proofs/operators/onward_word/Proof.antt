@@ -1,21 +1,9 @@
 -- `cost_engine::operators::onward_word` meets its contract: the difference within bounds has a word. Assumes nothing.
 use native.Mathlib.Omega.{arith}
-use Rattle.cost_laws.proofs.Words.{more-room, int-more}
+use Rattle.theory_costs.proofs.Words.{more-room, int-more}
 use borrow.Author.Needs.{needs}
 use Rattle.cost_engine.proofs.operators.onward_word.Statement.{statement}
 use Rattle.cost_engine.proofs.operators.onward_word.Tie as tie
-
-wide-requires : tie.Need-wide-requires
-wide-requires c κs = search needs
-
-wide-requires-2 : tie.Need-wide-requires-2
-wide-requires-2 c κs = search needs
-
-add-result : tie.Need-add-result
-add-result c = search needs
-
-wide-requires-3 : tie.Need-wide-requires-3
-wide-requires-3 c κs = search needs
 
 sub-result : tie.Need-sub-result
 sub-result c = let a = (c .before .before .before) in let h = more-room (a .args .d) (a .args .b) (a .args .a) (a .pre) .least in omega arith
@@ -30,10 +18,10 @@ pub onward-word-spec : {M : Type 1} → statement M
 onward-word-spec =
     tie.close
     (tie.spec
-    wide-requires
-    wide-requires-2
-    add-result
-    wide-requires-3
+    (λ c κs. search needs)
+    (λ c κs. search needs)
+    (λ c. search needs)
+    (λ c κs. search needs)
     sub-result
     cast-result
     returns)

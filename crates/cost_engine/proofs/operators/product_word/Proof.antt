@@ -7,38 +7,18 @@ use borrow.Author.Needs.{needs}
 use Rattle.cost_engine.proofs.operators.product_word.Statement.{statement}
 use Rattle.cost_engine.proofs.operators.product_word.Tie as tie
 
-wide-requires : tie.Need-wide-requires
-wide-requires c κs = search needs
-
-wide-requires-2 : tie.Need-wide-requires-2
-wide-requires-2 c κs = search needs
-
-sub-times : tie.Need-sub-times
-sub-times c = search needs
-
-sub-times-2 : tie.Need-sub-times-2
-sub-times-2 c = search needs
-
 times-requires : tie.Need-times-requires
 times-requires c κs = let a = (c .before .before .before .before) in
     let x : (c .before .before .before .wide) .result ≡ a .args .a = (c .before .before .before .wide) .ensures .0 in
     let y : (c .before .before .wide2) .result ≡ a .args .c = (c .before .before .wide2) .ensures .0 in
     rw (x, y) (low-fits (a .args .a) (a .args .c) (a .pre) (below _ (omega arith)) (below _ (omega arith)))
 
-add-result : tie.Need-add-result
-add-result c = search needs
-
-cast-result : tie.Need-cast-result
-cast-result c = search needs
-
 returns : tie.Need-returns
-returns c = let a = (c .before .before .before .before .before) in
-    let x : (c .before .before .before .before .wide) .result ≡ a .args .a = (c .before .before .before .before .wide) .ensures .0 in
-    let y : (c .before .before .before .wide2) .result ≡ a .args .c = (c .before .before .before .wide2) .ensures .0 in
-    low-is (a .args .a) (a .args .c) (a .pre) (below _ (omega arith)) (below _ (omega arith)) _ ((c .times) .result) ((c .times) .ensures .0 ∙ (λ i. (2147483648 - x i) * (2147483648 - y i))) (omega arith)
-
-sub-times-3 : tie.Need-sub-times-3
-sub-times-3 c = search needs
+returns c =
+    let a = c .before .before .before .before .before in
+    let x : (c .before .before .before .before .wide) .result ≡ a .args .a = c .before .before .before .before .wide .ensures .0 in
+    let y : (c .before .before .before .wide2) .result ≡ a .args .c = c .before .before .before .wide2 .ensures .0 in
+    low-is (a .args .a) (a .args .c) (a .pre) (below _ (omega arith)) (below _ (omega arith)) _ (c .times .result) (c .times .ensures .0 ∙ (λ i. (2147483648 - x i) * (2147483648 - y i))) (omega arith)
 
 times-requires-2 : tie.Need-times-requires-2
 times-requires-2 c κs = let a = (c .before .before .before .before) in
@@ -46,20 +26,13 @@ times-requires-2 c κs = let a = (c .before .before .before .before) in
     let y : (c .before .before .wide2) .result ≡ a .args .c = (c .before .before .wide2) .ensures .0 in
     rw (x, y) (first-fits (a .args .a) (a .args .c) (a .pre) (below _ (omega arith)) (above _ (omega arith)))
 
-sub-result : tie.Need-sub-result
-sub-result c = search needs
-
-cast-result-2 : tie.Need-cast-result-2
-cast-result-2 c = search needs
-
 returns-2 : tie.Need-returns-2
-returns-2 c = let a = (c .before .before .before .before .before) in
-    let x : (c .before .before .before .before .wide) .result ≡ a .args .a = (c .before .before .before .before .wide) .ensures .0 in
-    let y : (c .before .before .before .wide2) .result ≡ a .args .c = (c .before .before .before .wide2) .ensures .0 in
-    first-is (a .args .a) (a .args .c) (a .pre) (below _ (omega arith)) (above _ (omega arith)) _ ((c .times2) .result) ((c .times2) .ensures .0 ∙ (λ i. (2147483648 - x i) * (y i - 2147483648))) (omega arith)
-
-sub-times-4 : tie.Need-sub-times-4
-sub-times-4 c = search needs
+returns-2 c =
+    let a = c .before .before .before .before .before in
+    let x : (c .before .before .before .before .wide) .result ≡ a .args .a = c .before .before .before .before .wide .ensures .0 in
+    let y : (c .before .before .before .wide2) .result ≡ a .args .c = c .before .before .before .wide2 .ensures .0 in
+    first-is (a .args .a) (a .args .c) (a .pre) (below _ (omega arith)) (above _ (omega arith)) _ (c .times2 .result)
+    (c .times2 .ensures .0 ∙ (λ i. (2147483648 - x i) * (y i - 2147483648))) (omega arith)
 
 times-requires-3 : tie.Need-times-requires-3
 times-requires-3 c κs = let a = (c .before .before .before .before) in
@@ -67,17 +40,13 @@ times-requires-3 c κs = let a = (c .before .before .before .before) in
     let y : (c .before .before .wide2) .result ≡ a .args .c = (c .before .before .wide2) .ensures .0 in
     rw (x, y) (second-fits (a .args .a) (a .args .c) (a .pre) (above _ (omega arith)) (below _ (omega arith)))
 
-sub-result-2 : tie.Need-sub-result-2
-sub-result-2 c = search needs
-
-cast-result-3 : tie.Need-cast-result-3
-cast-result-3 c = search needs
-
 returns-3 : tie.Need-returns-3
-returns-3 c = let a = (c .before .before .before .before .before) in
-    let x : (c .before .before .before .before .wide) .result ≡ a .args .a = (c .before .before .before .before .wide) .ensures .0 in
-    let y : (c .before .before .before .wide2) .result ≡ a .args .c = (c .before .before .before .wide2) .ensures .0 in
-    second-is (a .args .a) (a .args .c) (a .pre) (above _ (omega arith)) (below _ (omega arith)) _ ((c .times3) .result) ((c .times3) .ensures .0 ∙ (λ i. (x i - 2147483648) * (2147483648 - y i))) (omega arith)
+returns-3 c =
+    let a = c .before .before .before .before .before in
+    let x : (c .before .before .before .before .wide) .result ≡ a .args .a = c .before .before .before .before .wide .ensures .0 in
+    let y : (c .before .before .before .wide2) .result ≡ a .args .c = c .before .before .before .wide2 .ensures .0 in
+    second-is (a .args .a) (a .args .c) (a .pre) (above _ (omega arith)) (below _ (omega arith)) _ (c .times3 .result)
+    (c .times3 .ensures .0 ∙ (λ i. (x i - 2147483648) * (2147483648 - y i))) (omega arith)
 
 times-requires-4 : tie.Need-times-requires-4
 times-requires-4 c κs = let a = (c .before .before .before .before) in
@@ -85,41 +54,37 @@ times-requires-4 c κs = let a = (c .before .before .before .before) in
     let y : (c .before .before .wide2) .result ≡ a .args .c = (c .before .before .wide2) .ensures .0 in
     rw (x, y) (high-fits (a .args .a) (a .args .c) (a .pre) (above _ (omega arith)) (above _ (omega arith)))
 
-add-result-2 : tie.Need-add-result-2
-add-result-2 c = search needs
-
-cast-result-4 : tie.Need-cast-result-4
-cast-result-4 c = search needs
-
 returns-4 : tie.Need-returns-4
-returns-4 c = let a = (c .before .before .before .before .before) in
-    let x : (c .before .before .before .before .wide) .result ≡ a .args .a = (c .before .before .before .before .wide) .ensures .0 in
-    let y : (c .before .before .before .wide2) .result ≡ a .args .c = (c .before .before .before .wide2) .ensures .0 in
-    high-is (a .args .a) (a .args .c) (a .pre) (above _ (omega arith)) (above _ (omega arith)) _ ((c .times4) .result) ((c .times4) .ensures .0 ∙ (λ i. (x i - 2147483648) * (y i - 2147483648))) (omega arith)
+returns-4 c =
+    let a = c .before .before .before .before .before in
+    let x : (c .before .before .before .before .wide) .result ≡ a .args .a = c .before .before .before .before .wide .ensures .0 in
+    let y : (c .before .before .before .wide2) .result ≡ a .args .c = c .before .before .before .wide2 .ensures .0 in
+    high-is (a .args .a) (a .args .c) (a .pre) (above _ (omega arith)) (above _ (omega arith)) _ (c .times4 .result)
+    (c .times4 .ensures .0 ∙ (λ i. (x i - 2147483648) * (y i - 2147483648))) (omega arith)
 
 pub product-word-spec : {M : Type 1} → statement M
 product-word-spec =
     tie.close
     (tie.spec
-    wide-requires
-    wide-requires-2
-    sub-times
-    sub-times-2
+    (λ c κs. search needs)
+    (λ c κs. search needs)
+    (λ c. search needs)
+    (λ c. search needs)
     times-requires
-    add-result
-    cast-result
+    (λ c. search needs)
+    (λ c. search needs)
     returns
-    sub-times-3
+    (λ c. search needs)
     times-requires-2
-    sub-result
-    cast-result-2
+    (λ c. search needs)
+    (λ c. search needs)
     returns-2
-    sub-times-4
+    (λ c. search needs)
     times-requires-3
-    sub-result-2
-    cast-result-3
+    (λ c. search needs)
+    (λ c. search needs)
     returns-3
     times-requires-4
-    add-result-2
-    cast-result-4
+    (λ c. search needs)
+    (λ c. search needs)
     returns-4)

@@ -23,28 +23,19 @@ abbrev μ-loop : tie.MeasureT-loop
 loop-holds : tie.Need-loop-holds Inv-loop μ-loop
 loop-holds c = (omega arith, λ u h. absurd (omega arith))
 
-mul-amount-ok : tie.Need-mul-amount-ok Inv-loop μ-loop
-mul-amount-ok c = search needs
-
-shared-slice-copy-out-amount-ok : tie.Need-shared-slice-copy-out-amount-ok Inv-loop μ-loop
-shared-slice-copy-out-amount-ok c = search needs
-
-amount-ok-requires : tie.Need-amount-ok-requires Inv-loop μ-loop
-amount-ok-requires c κs = search needs
-
 returns : tie.Need-returns Inv-loop μ-loop
-returns c = let l = (c .before .before .before .before .loop) in let z = getD ((c .before .before .before .before .before) .args .prices .now) (l .v) (pos 0) in
-    λ p. denied ((c .before .amount-ok) .result) ((c .if1) .taken) (subst (λ (y : ℤ). Tells ((c .before .amount-ok) .result) (Fit costMost y)) (amount-read z ((c .before .before .amount-ok-arg) .given)) ((c .before .amount-ok) .ensures)) (p .each (l .v) (omega arith))
-
-add-v : tie.Need-add-v Inv-loop μ-loop
-add-v c = search needs
-
-loop-less : tie.Need-loop-less Inv-loop μ-loop
-loop-less c = search needs
+returns c =
+    let l = c .before .before .before .before .loop in let z = getD (c .before .before .before .before .before .args .prices .now) (l .v) (pos 0) in
+    λ p. denied (c .before .amount-ok .result) (c .if1 .taken) (subst (λ (y : ℤ). Tells (c .before .amount-ok .result) (Fit costMost y))
+    (amount-read z (c .before .before .amount-ok-arg .given)) (c .before .amount-ok .ensures)) (p .each (l .v) (omega arith))
 
 loop-again : tie.Need-loop-again Inv-loop μ-loop
-loop-again c = let l = (c .before .before .before .before .loop) in let z = getD ((c .before .before .before .before .before) .args .prices .now) (l .v) (pos 0) in
-    (omega arith, below-more _ _ (l .inv .1) (subst (Fit costMost) (amount-read z ((c .before .before .amount-ok-arg) .given)) (granted ((c .before .amount-ok) .result) ((c .if1) .left) ((c .before .amount-ok) .ensures))))
+loop-again c =
+    let l = c .before .before .before .before .loop in let z = getD (c .before .before .before .before .before .args .prices .now) (l .v) (pos 0) in (
+      omega arith,
+      below-more _ _ (l .inv .1) (subst (Fit costMost) (amount-read z (c .before .before .amount-ok-arg .given))
+          (granted (c .before .amount-ok .result) (c .if1 .left) (c .before .amount-ok .ensures))),
+    )
 
 returns-2 : tie.Need-returns-2 Inv-loop μ-loop
 returns-2 c = record { each = λ v h. (c .before .loop) .inv .1 v (omega arith) }
@@ -56,11 +47,11 @@ prices-ok-spec =
     Inv-loop
     μ-loop
     loop-holds
-    mul-amount-ok
-    shared-slice-copy-out-amount-ok
-    amount-ok-requires
+    (λ c. search needs)
+    (λ c. search needs)
+    (λ c κs. search needs)
     returns
-    add-v
-    loop-less
+    (λ c. search needs)
+    (λ c. search needs)
     loop-again
     returns-2)

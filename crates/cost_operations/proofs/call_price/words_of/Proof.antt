@@ -7,7 +7,7 @@ use lib.IntN.{pos}
 use lib.ListN.{length-set, length, getD}
 use lib.Seq.{getD-set-same, getD-set-other}
 use borrow.Author.Needs.{needs}
-use Rattle.words.proofs.Tab.{same}
+use Rattle.table_words.proofs.Tab.{same}
 use Rattle.cost_amounts.proofs.Signed.{amount-read}
 use Rattle.cost_operations.proofs.call_price.words_of.Statement.{statement}
 use Rattle.cost_operations.proofs.call_price.words_of.Tie as tie
@@ -23,27 +23,9 @@ abbrev μ-loop : tie.MeasureT-loop
 loop-holds : tie.Need-loop-holds Inv-loop μ-loop
 loop-holds c = (refl, omega arith, λ u h. absurd (omega arith))
 
-mul-word-of : tie.Need-mul-word-of Inv-loop μ-loop
-mul-word-of c = search needs
-
-shared-slice-copy-out-word-of : tie.Need-shared-slice-copy-out-word-of Inv-loop μ-loop
-shared-slice-copy-out-word-of c = search needs
-
 word-of-requires : tie.Need-word-of-requires Inv-loop μ-loop
 word-of-requires c κs = let l = (c .before .before .loop) in let z = getD ((c .before .before .before) .args .prices .now) (l .v) (pos 0) in
     subst (Fit costMost) (sym (amount-read z ((c .word-of-arg) .given))) ((c .before .before .before) .pre .0 .each (l .v) (omega arith))
-
-mul-list : tie.Need-mul-list Inv-loop μ-loop
-mul-list c = search needs
-
-array-write-list : tie.Need-array-write-list Inv-loop μ-loop
-array-write-list c = search needs
-
-add-v : tie.Need-add-v Inv-loop μ-loop
-add-v c = search needs
-
-loop-less : tie.Need-loop-less Inv-loop μ-loop
-loop-less c = search needs
 
 loop-again : tie.Need-loop-again Inv-loop μ-loop
 loop-again c = let l = (c .before .before .before .loop) in let z = getD ((c .before .before .before .before) .args .prices .now) (l .v) (pos 0) in (
@@ -65,12 +47,12 @@ words-of-spec =
     Inv-loop
     μ-loop
     loop-holds
-    mul-word-of
-    shared-slice-copy-out-word-of
+    (λ c. search needs)
+    (λ c. search needs)
     word-of-requires
-    mul-list
-    array-write-list
-    add-v
-    loop-less
+    (λ c. search needs)
+    (λ c. search needs)
+    (λ c. search needs)
+    (λ c. search needs)
     loop-again
     returns)

@@ -3,7 +3,7 @@ use mathlib.Core.Path.{_≡_, _∙_}
 use mathlib.Core.Bool.{Bool}
 use Prim.Native.Nat.{_-_, _≤_}
 use native.Mathlib.Omega.{arith}
-use Rattle.cost_laws.specs.Extremes.{Passed}
+use Rattle.theory_costs.specs.Extremes.{Passed}
 use Rattle.cost_sound.specs.Paired.{Owns}
 use Rattle.cost_sound.proofs.Ranging.{passes-no, passes-yes, pairs-none, pairs-more, pairs-all}
 use borrow.Author.Needs.{needs}
@@ -22,9 +22,6 @@ abbrev μ-loop : tie.MeasureT-loop
 count-word-requires : tie.Need-count-word-requires Inv-loop μ-loop
 count-word-requires c κs = omega (arith, (c .before) .pre .header .room)
 
-wide-requires : tie.Need-wide-requires Inv-loop μ-loop
-wide-requires c κs = search needs
-
 loop-holds : tie.Need-loop-holds Inv-loop μ-loop
 loop-holds c = ((c .wide) .ensures .0 ∙ (c .before .count-word) .ensures, omega arith, pairs-none ((c .before .before .before) .pre))
 
@@ -32,17 +29,15 @@ own-ok-requires : tie.Need-own-ok-requires Inv-loop μ-loop
 own-ok-requires c κs = ((c .before .before .before .before .before) .pre, omega (arith, (c .before .loop) .inv .0))
 
 returns : tie.Need-returns Inv-loop μ-loop
-returns c = let a = (c .before .before .before .before .before .before .before) .args in passes-no (a .t .now) (Owns (a .t .now) ((c .before .before .before .loop) .i)) ((c .before .own-ok) .result) ((c .if1) .taken) ((c .before .own-ok) .ensures)
-
-add-i : tie.Need-add-i Inv-loop μ-loop
-add-i c = search needs
-
-loop-less : tie.Need-loop-less Inv-loop μ-loop
-loop-less c = search needs
+returns c =
+    let c7 = c .before .before .before .before .before .before .before in
+    let a = c7 .args in passes-no (a .t .now) (Owns (a .t .now) (c .before .before .before .loop .i)) (c .before .own-ok .result) (c .if1 .taken) (c .before .own-ok .ensures)
 
 loop-again : tie.Need-loop-again Inv-loop μ-loop
-loop-again c = let a = (c .before .before .before .before .before .before .before) .args in let l = (c .before .before .before .loop) in
-    (l .inv .0, omega arith, pairs-more ((c .before .before .before .before .before .before .before) .pre) (l .i) (passes-yes (a .t .now) (Owns (a .t .now) (l .i)) ((c .before .own-ok) .result) ((c .if1) .left) ((c .before .own-ok) .ensures)) (l .inv .2))
+loop-again c =
+    let c7 = c .before .before .before .before .before .before .before in
+    let a = c7 .args in let l = c .before .before .before .loop in
+    (l .inv .0, omega arith, pairs-more (c7 .pre) (l .i) (passes-yes (a .t .now) (Owns (a .t .now) (l .i)) (c .before .own-ok .result) (c .if1 .left) (c .before .own-ok .ensures)) (l .inv .2))
 
 returns-2 : tie.Need-returns-2 Inv-loop μ-loop
 returns-2 c = pairs-all ((c .before .before .before .before .before) .pre) ((c .before .loop) .i) (omega (arith, (c .before .loop) .inv .0)) ((c .before .loop) .inv .2)
@@ -54,11 +49,11 @@ pairs-ok-spec =
     Inv-loop
     μ-loop
     count-word-requires
-    wide-requires
+    (λ c κs. search needs)
     loop-holds
     own-ok-requires
     returns
-    add-i
-    loop-less
+    (λ c. search needs)
+    (λ c. search needs)
     loop-again
     returns-2)

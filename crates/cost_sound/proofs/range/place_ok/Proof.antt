@@ -9,9 +9,6 @@ use Rattle.cost_sound.proofs.range.place_ok.Tie as tie
 base-word-requires : tie.Need-base-word-requires
 base-word-requires c κs = let q = (c .before) .pre in (omega (arith, q .0 .header .room), q .2)
 
-wide-requires : tie.Need-wide-requires
-wide-requires c κs = search needs
-
 root-word-requires : tie.Need-root-word-requires
 root-word-requires c κs = let q = (c .before .before .before) .pre in (omega (arith, q .0 .header .room), q .2)
 
@@ -20,35 +17,33 @@ kept-span-requires c κs = let q = (c .before .before .before .before) .pre in l
     let y = q .0 .roots-ok .rooted _ (q .2) .below in
     record { room = omega (arith, y, (c .root-word) .ensures, h .room, h .within); most = omega (arith, y, (c .root-word) .ensures, h .most, h .within) }
 
-wide-requires-2 : tie.Need-wide-requires-2
-wide-requires-2 c κs = search needs
-
-add-if1 : tie.Need-add-if1
-add-if1 c = search needs
-
 returns : tie.Need-returns
-returns c = let q = (c .before .before .before .before .before .before .before) .pre in let a = (c .before .before .before .before .before .before .before) .args in place-low (q .0) (q .1) (a .p) _ _ _ _ (q .2) ((c .before .before .before .root-word) .ensures) ((c .before .before .before .before .before .base-word) .ensures) ((c .before .before .kept-span) .ensures) _ (omega (arith, (c .before .before .before .before .wide) .ensures .0, (c .before .wide2) .ensures .0)) ((c .if1) .taken)
-
-wide-requires-3 : tie.Need-wide-requires-3
-wide-requires-3 c κs = search needs
-
-add-result : tie.Need-add-result
-add-result c = search needs
+returns c =
+    let c7 = c .before .before .before .before .before .before .before in
+    let q = c7 .pre in let a = c7 .args in place-low (q .0) (q .1) (a .p) _ _ _ _ (q .2) (c .before .before .before .root-word .ensures)
+    (c .before .before .before .before .before .base-word .ensures) (c .before .before .kept-span .ensures) _
+    (omega (arith, c .before .before .before .before .wide .ensures .0, c .before .wide2 .ensures .0)) (c .if1 .taken)
 
 returns-2 : tie.Need-returns-2
-returns-2 c = let q = (c .before .before .before .before .before .before .before .before) .pre in let a = (c .before .before .before .before .before .before .before .before) .args in place-tells (q .0) (q .1) (a .p) _ _ _ _ (q .2) ((c .before .before .before .before .root-word) .ensures) ((c .before .before .before .before .before .before .base-word) .ensures) ((c .before .before .before .kept-span) .ensures) ((c .before .before .before .before .before .wide) .result + (c .before .before .wide2) .result) ((c .before .before .before .before .before .wide) .result + (c .wide3) .result) (omega (arith, (c .before .before .before .before .before .wide) .ensures .0, (c .before .before .wide2) .ensures .0)) (λ z. omega (arith, (c .before .if1) .left)) (omega (arith, (c .before .before .before .before .before .wide) .ensures .0, (c .wide3) .ensures .0))
+returns-2 c =
+    let c6 = c .before .before .before .before .before .before in let c8 = c6 .before .before in
+    let q = c8 .pre in let a = c8 .args in place-tells (q .0) (q .1) (a .p) _ _ _ _ (q .2) (c .before .before .before .before .root-word .ensures) (c6 .base-word .ensures)
+    (c .before .before .before .kept-span .ensures) (c .before .before .before .before .before .wide .result + (c .before .before .wide2) .result)
+    (c .before .before .before .before .before .wide .result + (c .wide3) .result)
+    (omega (arith, c .before .before .before .before .before .wide .ensures .0, c .before .before .wide2 .ensures .0)) (λ z. omega (arith, c .before .if1 .left))
+    (omega (arith, c .before .before .before .before .before .wide .ensures .0, c .wide3 .ensures .0))
 
 pub place-ok-spec : {M : Type 1} → statement M
 place-ok-spec =
     tie.close
     (tie.spec
     base-word-requires
-    wide-requires
+    (λ c κs. search needs)
     root-word-requires
     kept-span-requires
-    wide-requires-2
-    add-if1
+    (λ c κs. search needs)
+    (λ c. search needs)
     returns
-    wide-requires-3
-    add-result
+    (λ c κs. search needs)
+    (λ c. search needs)
     returns-2)

@@ -25,15 +25,10 @@ place-ok-requires c κs = let q = (c .before .before .before) .pre in (q .0, q .
 returns : tie.Need-returns Inv-loop μ-loop
 returns c = λ z. denied ((c .before .place-ok) .result) ((c .if1) .taken) ((c .before .place-ok) .ensures) (z .ranged ((c .before .before .before .loop) .p) (omega arith))
 
-add-p : tie.Need-add-p Inv-loop μ-loop
-add-p c = search needs
-
-loop-less : tie.Need-loop-less Inv-loop μ-loop
-loop-less c = search needs
-
 loop-again : tie.Need-loop-again Inv-loop μ-loop
-loop-again c = let a = (c .before .before .before .before .before) .args in let l = (c .before .before .before .loop) in
-    (omega arith, below-more (λ x. Within costMost (sizes (a .t .now)) (costOf (a .t .now) x)) (l .p) (l .inv .1) (granted ((c .before .place-ok) .result) ((c .if1) .left) ((c .before .place-ok) .ensures)))
+loop-again c =
+    let a = c .before .before .before .before .before .args in let l = c .before .before .before .loop in
+    (omega arith, below-more (λ x. Within costMost (sizes (a .t .now)) (costOf (a .t .now) x)) (l .p) (l .inv .1) (granted (c .before .place-ok .result) (c .if1 .left) (c .before .place-ok .ensures)))
 
 returns-2 : tie.Need-returns-2 Inv-loop μ-loop
 returns-2 c = record { ranged = λ x h. (c .before .loop) .inv .1 x (omega arith) }
@@ -47,7 +42,7 @@ places-ok-spec =
     loop-holds
     place-ok-requires
     returns
-    add-p
-    loop-less
+    (λ c. search needs)
+    (λ c. search needs)
     loop-again
     returns-2)

@@ -8,22 +8,12 @@ use Rattle.cost_words.proofs.sides.kept_span.Tie as tie
 returns : tie.Need-returns
 returns c = let a = (c .before .before) .args in keeps-end (a .t .now) (a .x) ((c .if1) .taken)
 
-sub-wide : tie.Need-sub-wide
-sub-wide c = search needs
-
-wide-requires : tie.Need-wide-requires
-wide-requires c κs = search needs
-
-record-word-requires : tie.Need-record-word-requires
-record-word-requires c κs = search needs
-
-record-word-requires-2 : tie.Need-record-word-requires-2
-record-word-requires-2 c κs = search needs
-
 returns-2 : tie.Need-returns-2
-returns-2 c = let a = (c .before .before .before .before .before) .args in keeps-node (a .t .now) (a .x) ((c .before .before .wide) .result) _ _ (omega arith) ((c .before .before .wide) .ensures .0) ((c .before .record-word) .ensures) ((c .record-word2) .ensures)
+returns-2 c =
+    let a = c .before .before .before .before .before .args in keeps-node (a .t .now) (a .x) (c .before .before .wide .result) _ _ (omega arith)
+    (c .before .before .wide .ensures .0) (c .before .record-word .ensures) (c .record-word2 .ensures)
 
 pub kept-span-spec : {M : Type 1} → statement M
 kept-span-spec =
     tie.close
-    (tie.spec returns sub-wide wide-requires record-word-requires record-word-requires-2 returns-2)
+    (tie.spec returns (λ c. search needs) (λ c κs. search needs) (λ c κs. search needs) (λ c κs. search needs) returns-2)

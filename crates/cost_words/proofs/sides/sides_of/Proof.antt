@@ -21,32 +21,40 @@ arm-span-requires : tie.Need-arm-span-requires Inv-loop μ-loop
 arm-span-requires c κs = let p = (c .before) .pre in (p, omega (arith, p .some))
 
 returns : tie.Need-returns Inv-loop μ-loop
-returns c = let a = (c .before .before .before .before) in side-lost (a .args .t .now) (a .args .list) (a .args .m) 0 _ _ (omega (arith, a .pre .some)) ((c .if1) .taken) ((c .before .before .arm-span) .ensures)
+returns c =
+    let a = c .before .before .before .before in
+    side-lost (a .args .t .now) (a .args .list) (a .args .m) 0 _ _ (omega (arith, a .pre .some)) (c .if1 .taken) (c .before .before .arm-span .ensures)
 
 loop-holds : tie.Need-loop-holds Inv-loop μ-loop
-loop-holds c = let a = (c .before .before .before .before) in let z : 0 < (c .before .before .arm-span) .result .low = omega (arith, (c .if1) .left) in (omega arith, a .pre .some, z, side-one (a .args .t .now) (a .args .list) _ _ z ((c .before .before .arm-span) .ensures))
+loop-holds c =
+    let a = c .before .before .before .before in
+    let z : 0 < (c .before .before .arm-span) .result .low = omega (arith, c .if1 .left) in
+    (omega arith, a .pre .some, z, side-one (a .args .t .now) (a .args .list) _ _ z (c .before .before .arm-span .ensures))
 
 arm-span-requires-2 : tie.Need-arm-span-requires-2 Inv-loop μ-loop
 arm-span-requires-2 c κs = ((c .before .before .before .before .before .before) .pre, omega arith)
 
 returns-2 : tie.Need-returns-2 Inv-loop μ-loop
-returns-2 c = let a = (c .before .before .before .before .before .before .before .before .before) .args in side-lost (a .t .now) (a .list) (a .m) ((c .before .before .before .before .loop) .v) _ _ (omega arith) ((c .if2) .taken) ((c .before .before .arm-span2) .ensures)
-
-wider-requires : tie.Need-wider-requires Inv-loop μ-loop
-wider-requires c κs = search needs
-
-add-v : tie.Need-add-v Inv-loop μ-loop
-add-v c = search needs
-
-loop-less : tie.Need-loop-less Inv-loop μ-loop
-loop-less c = search needs
+returns-2 c =
+    let c9 = c .before .before .before .before .before .before .before .before .before in
+    let a = c9 .args in side-lost (a .t .now) (a .list) (a .m) (c .before .before .before .before .loop .v) _ _ (omega arith) (c .if2 .taken) (c .before .before .arm-span2 .ensures)
 
 loop-again : tie.Need-loop-again Inv-loop μ-loop
-loop-again c = let a = (c .before .before .before .before .before .before .before .before .before .before) .args in let l = (c .before .before .before .before .before .loop) in let z : 0 < (c .before .before .before .arm-span2) .result .low = omega (arith, (c .before .if2) .left) in
-    (omega arith, omega arith, (c .wider) .ensures .some (l .inv .2) z, side-more (a .t .now) (a .list) (l .v) (l .best .low) (l .best .high) ((c .before .before .before .arm-span2) .result .low) ((c .before .before .before .arm-span2) .result .high) ((c .wider) .result .low) ((c .wider) .result .high) (omega arith) (l .inv .3) z ((c .before .before .before .arm-span2) .ensures) ((c .wider) .ensures))
+loop-again c =
+    let c10 = c .before .before .before .before .before .before .before .before .before .before in
+    let a = c10 .args in let l = c .before .before .before .before .before .loop in let z : 0 < (c .before .before .before .arm-span2) .result .low = omega (arith, c .before .if2 .left) in (
+      omega arith,
+      omega arith,
+      c .wider .ensures .some (l .inv .2) z,
+      side-more (a .t .now) (a .list) (l .v) (l .best .low) (l .best .high)
+          (c .before .before .before .arm-span2 .result .low) (c .before .before .before .arm-span2 .result .high) (c .wider .result .low) (c .wider .result .high) (omega arith)
+          (l .inv .3) z (c .before .before .before .arm-span2 .ensures) (c .wider .ensures),
+    )
 
 returns-3 : tie.Need-returns-3 Inv-loop μ-loop
-returns-3 c = let a = (c .before .before .before .before .before .before) .args in let l = (c .before .loop) in side-all (a .t .now) (a .list) (a .m) (l .v) (l .best .low) (l .best .high) (omega arith) (l .inv .2) (l .inv .3)
+returns-3 c =
+    let c6 = c .before .before .before .before .before .before in
+    let a = c6 .args in let l = c .before .loop in side-all (a .t .now) (a .list) (a .m) (l .v) (l .best .low) (l .best .high) (omega arith) (l .inv .2) (l .inv .3)
 
 pub sides-of-spec : {M : Type 1} → statement M
 sides-of-spec =
@@ -59,8 +67,8 @@ sides-of-spec =
     loop-holds
     arm-span-requires-2
     returns-2
-    wider-requires
-    add-v
-    loop-less
+    (λ c κs. search needs)
+    (λ c. search needs)
+    (λ c. search needs)
     loop-again
     returns-3)

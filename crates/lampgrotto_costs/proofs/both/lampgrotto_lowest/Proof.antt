@@ -9,37 +9,30 @@ use Rattle.lampgrotto_costs.proofs.both.lampgrotto_lowest.Statement.{st
 use Rattle.lampgrotto_costs.proofs.both.lampgrotto_lowest.Tie as tie
 use Rattle.promises.specs.ForC.{placed, signed}
 
-lowest-requires : tie.Need-lowest-requires
-lowest-requires c κs = search needs
-
 put-found-requires : tie.Need-put-found-requires
-put-found-requires c κs = fits-back (found-fits ((c .before .before .before .before .before .before .before .before .before .before .before .before) .args .place) ((c .before .before .before .before .before .before .before .before .before .before .before .before) .args .rule) ((c .before .before .before .before .before .before .before .before .before .before .before .before) .args .rules .now) ((c .before .before .before .before .before .before .before .before .before .before .before .before) .args .costs .now) ((c .before .before .before .before .before .before) .lowest .result) ((c .before .before .before .before .before .before) .lowest .ensures))
-
-outcome-number-requires : tie.Need-outcome-number-requires
-outcome-number-requires c κs = search needs
-
-same-length : tie.Need-same-length
-same-length c = search needs
-
-same-length-2 : tie.Need-same-length-2
-same-length-2 c = search needs
+put-found-requires c κs =
+    let c6 = c .before .before .before .before .before .before in let c12 = c6 .before .before .before .before .before .before in
+    fits-back (found-fits (c12 .args .place) (c12 .args .rule) (c12 .args .rules .now) (c12 .args .costs .now) (c6 .lowest .result) (c6 .lowest .ensures))
 
 returns : tie.Need-returns
-returns c = record {
-  answer = (c .before .before .before .before .before .before .before .before .before .before) .lowest .result;
-  keeps = (c .before .before .before .before .before .before .before .before .before .before) .lowest .ensures;
-  number = c .outcome-number .ensures;
-  out = (c .before .before .before) .put-found .ensures ∙ ap (λ (z : ℤ). placed (signed z ∷ (c .before .before .before .before .before .before .before .before .before .before) .lowest .result .setting .values) ((c .before .before .before .before .before .before .before .before .before .before .before .before .before .before .before .before) .args .out .now)) (amount-back ((c .before .before .before .before .before .before .before .before .before .before) .lowest .result .cost) (found-fits ((c .before .before .before .before .before .before .before .before .before .before .before .before .before .before .before .before) .args .place) ((c .before .before .before .before .before .before .before .before .before .before .before .before .before .before .before .before) .args .rule) ((c .before .before .before .before .before .before .before .before .before .before .before .before .before .before .before .before) .args .rules .now) ((c .before .before .before .before .before .before .before .before .before .before .before .before .before .before .before .before) .args .costs .now) ((c .before .before .before .before .before .before .before .before .before .before) .lowest .result) ((c .before .before .before .before .before .before .before .before .before .before) .lowest .ensures)));
-  bytes = refl;
-}
+returns c =
+    let c10 = c .before .before .before .before .before .before .before .before .before .before in let c16 = c10 .before .before .before .before .before .before in
+    record {
+      answer = c10 .lowest .result;
+      keeps = c10 .lowest .ensures;
+      number = c .outcome-number .ensures;
+      out = c .before .before .before .put-found .ensures ∙ ap (λ (z : ℤ). placed (signed z ∷ c10 .lowest .result .setting .values) (c16 .args .out .now))
+          (amount-back (c10 .lowest .result .cost) (found-fits (c16 .args .place) (c16 .args .rule) (c16 .args .rules .now) (c16 .args .costs .now) (c10 .lowest .result) (c10 .lowest .ensures)));
+      bytes = refl;
+    }
 
 pub lampgrotto-lowest-spec : {M : Type 1} → statement M
 lampgrotto-lowest-spec =
     tie.close
     (tie.spec
-    lowest-requires
+    (λ c κs. search needs)
     put-found-requires
-    outcome-number-requires
-    same-length
-    same-length-2
+    (λ c κs. search needs)
+    (λ c. search needs)
+    (λ c. search needs)
     returns)

@@ -9,28 +9,24 @@ use Rattle.lampgrotto_costs.proofs.reading.lampgrotto_cost_look_up.Stat
 use Rattle.lampgrotto_costs.proofs.reading.lampgrotto_cost_look_up.Tie as tie
 use Rattle.promises.specs.ForC.{placed, signed}
 
-look-up-requires : tie.Need-look-up-requires
-look-up-requires c κs = search needs
-
 put-cost-requires : tie.Need-put-cost-requires
-put-cost-requires c κs = fits-back (looked-fits ((c .before .before .before .before .before .before) .args .place) ((c .before .before .before .before .before .before) .args .setting .now) ((c .before .before .before .before .before .before) .args .t .now) ((c .before .before) .look-up .result) ((c .before .before) .look-up .ensures))
-
-outcome-number-requires : tie.Need-outcome-number-requires
-outcome-number-requires c κs = search needs
-
-same-length : tie.Need-same-length
-same-length c = search needs
+put-cost-requires c κs =
+    let c6 = c .before .before .before .before .before .before in
+    fits-back (looked-fits (c6 .args .place) (c6 .args .setting .now) (c6 .args .t .now) (c .before .before .look-up .result) (c .before .before .look-up .ensures))
 
 returns : tie.Need-returns
-returns c = record {
-  answer = (c .before .before .before .before .before .before) .look-up .result;
-  keeps = (c .before .before .before .before .before .before) .look-up .ensures;
-  number = c .outcome-number .ensures;
-  out = (c .before .before .before) .put-cost .ensures ∙ ap (λ (z : ℤ). placed (signed z ∷ (c .before .before .before .before .before .before) .look-up .result .asked ∷ []) ((c .before .before .before .before .before .before .before .before .before .before) .args .out .now)) (amount-back ((c .before .before .before .before .before .before) .look-up .result .cost) (looked-fits ((c .before .before .before .before .before .before .before .before .before .before) .args .place) ((c .before .before .before .before .before .before .before .before .before .before) .args .setting .now) ((c .before .before .before .before .before .before .before .before .before .before) .args .t .now) ((c .before .before .before .before .before .before) .look-up .result) ((c .before .before .before .before .before .before) .look-up .ensures)));
-  bytes = refl;
-}
+returns c =
+    let c6 = c .before .before .before .before .before .before in let c10 = c6 .before .before .before .before in
+    record {
+      answer = c6 .look-up .result;
+      keeps = c6 .look-up .ensures;
+      number = c .outcome-number .ensures;
+      out = c .before .before .before .put-cost .ensures ∙ ap (λ (z : ℤ). placed (signed z ∷ c6 .look-up .result .asked ∷ []) (c10 .args .out .now))
+          (amount-back (c6 .look-up .result .cost) (looked-fits (c10 .args .place) (c10 .args .setting .now) (c10 .args .t .now) (c6 .look-up .result) (c6 .look-up .ensures)));
+      bytes = refl;
+    }
 
 pub lampgrotto-cost-look-up-spec : {M : Type 1} → statement M
 lampgrotto-cost-look-up-spec =
     tie.close
-    (tie.spec look-up-requires put-cost-requires outcome-number-requires same-length returns)
+    (tie.spec (λ c κs. search needs) put-cost-requires (λ c κs. search needs) (λ c. search needs) returns)

@@ -8,17 +8,10 @@ use Rattle.lampgrotto_costs.proofs.signed.put_cost.Statement.{statement
 use Rattle.lampgrotto_costs.proofs.signed.put_cost.Tie as tie
 use Rattle.promises.specs.ForC.{placed, signed}
 
-signed-word-requires : tie.Need-signed-word-requires
-signed-word-requires c κs = search needs
-
-put-two-requires : tie.Need-put-two-requires
-put-two-requires c κs = search needs
-
-same-length : tie.Need-same-length
-same-length c = search needs
-
 returns : tie.Need-returns
-returns c = (c .before .before) .put-two .ensures ∙ ap (λ (x : ℕ). placed (x ∷ (c .before .before .before .before .before .before) .args .asked ∷ []) ((c .before .before .before .before .before .before) .args .out .now)) ((c .before .before .before) .signed-word .ensures ∙ ap signed (toZ-ofZ ((c .before .before .before .before .before .before) .fits .z)))
+returns c =
+    let c6 = c .before .before .before .before .before .before in
+    c .before .before .put-two .ensures ∙ ap (λ (x : ℕ). placed (x ∷ c6 .args .asked ∷ []) (c6 .args .out .now)) (c .before .before .before .signed-word .ensures ∙ ap signed (toZ-ofZ (c6 .fits .z)))
 
 pub put-cost-spec : {M : Type 1} → statement M
-put-cost-spec = tie.close (tie.spec signed-word-requires put-two-requires same-length returns)
+put-cost-spec = tie.close (tie.spec (λ c κs. search needs) (λ c κs. search needs) (λ c. search needs) returns)

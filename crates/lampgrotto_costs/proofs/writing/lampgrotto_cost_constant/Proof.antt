@@ -10,24 +10,18 @@ use borrow.Author.Needs.{needs}
 use Rattle.lampgrotto_costs.proofs.writing.lampgrotto_cost_constant.Statement.{statement}
 use Rattle.lampgrotto_costs.proofs.writing.lampgrotto_cost_constant.Tie as tie
 
-constant-requires : tie.Need-constant-requires
-constant-requires c κs = search needs
-
-outcome-number-requires : tie.Need-outcome-number-requires
-outcome-number-requires c κs = search needs
-
-same-length : tie.Need-same-length
-same-length c = search needs
-
 returns : tie.Need-returns
-returns c = record {
-  answer = (c .before .before .before) .constant .result;
-  keeps = subst (λ (z : ℤ). Meets (constant costed ((c .before .before .before .before .before .before) .args .place) (amount z)) ((c .before .before .before .before .before .before) .args .t .now) ((c .before .before .before) .constant .last .0) ((c .before .before .before) .constant .result)) (toZ-ofZ ((c .before .before .before .before .before .before) .fits .amount)) ((c .before .before .before) .constant .ensures);
-  number = c .outcome-number .ensures;
-  out = refl;
-  bytes = refl;
-}
+returns c =
+    let c6 = c .before .before .before .before .before .before in
+    record {
+      answer = c .before .before .before .constant .result;
+      keeps = subst (λ (z : ℤ). Meets (constant costed (c6 .args .place) (amount z)) (c6 .args .t .now) (c .before .before .before .constant .last .0)
+          (c .before .before .before .constant .result)) (toZ-ofZ (c6 .fits .amount)) (c .before .before .before .constant .ensures);
+      number = c .outcome-number .ensures;
+      out = refl;
+      bytes = refl;
+    }
 
 pub lampgrotto-cost-constant-spec : {M : Type 1} → statement M
 lampgrotto-cost-constant-spec =
-    tie.close (tie.spec constant-requires outcome-number-requires same-length returns)
+    tie.close (tie.spec (λ c κs. search needs) (λ c κs. search needs) (λ c. search needs) returns)

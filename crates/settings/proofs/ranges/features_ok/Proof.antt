@@ -22,20 +22,11 @@ returns-2 c = λ f. omega (arith, f .few)
 loop-holds : tie.Need-loop-holds Inv-loop μ-loop
 loop-holds c = (omega arith, below-none _, below-none _)
 
-shared-slice-read-size : tie.Need-shared-slice-read-size Inv-loop μ-loop
-shared-slice-read-size c = search needs
-
 returns-3 : tie.Need-returns-3 Inv-loop μ-loop
 returns-3 c = λ f. omega (arith, f .least ((c .before .before .before .loop) .k) (omega arith))
 
 returns-4 : tie.Need-returns-4 Inv-loop μ-loop
 returns-4 c = λ f. omega (arith, f .most ((c .before .before .before .before .loop) .k) (omega arith))
-
-add-k : tie.Need-add-k Inv-loop μ-loop
-add-k c = search needs
-
-loop-less : tie.Need-loop-less Inv-loop μ-loop
-loop-less c = search needs
 
 loop-again : tie.Need-loop-again Inv-loop μ-loop
 loop-again c = (omega arith, below-more _ _ ((c .before .before .before .before .loop) .inv .1) (omega arith), below-more _ _ ((c .before .before .before .before .loop) .inv .2) (omega arith))
@@ -52,10 +43,10 @@ features-ok-spec =
     returns
     returns-2
     loop-holds
-    shared-slice-read-size
+    (λ c. search needs)
     returns-3
     returns-4
-    add-k
-    loop-less
+    (λ c. search needs)
+    (λ c. search needs)
     loop-again
     returns-5)

@@ -20,20 +20,10 @@ returns c = λ v. (c .if1) .taken (valid-length ((c .before) .args .features .no
 loop-holds : tie.Need-loop-holds Inv-loop μ-loop
 loop-holds c = (omega arith, below-none _)
 
-shared-slice-read-if2 : tie.Need-shared-slice-read-if2 Inv-loop μ-loop
-shared-slice-read-if2 c = search needs
-
-shared-slice-read-if2-2 : tie.Need-shared-slice-read-if2-2 Inv-loop μ-loop
-shared-slice-read-if2-2 c = search needs
-
 returns-2 : tie.Need-returns-2 Inv-loop μ-loop
-returns-2 c = λ v. omega (arith, valid-at ((c .before .before .before .before .before .before) .args .features .now) ((c .before .before .before .before .before .before) .args .values .now) v ((c .before .before .before .before .loop) .k) (omega arith))
-
-add-k : tie.Need-add-k Inv-loop μ-loop
-add-k c = search needs
-
-loop-less : tie.Need-loop-less Inv-loop μ-loop
-loop-less c = search needs
+returns-2 c =
+    let c6 = c .before .before .before .before .before .before in
+    λ v. omega (arith, valid-at (c6 .args .features .now) (c6 .args .values .now) v (c .before .before .before .before .loop .k) (omega arith))
 
 loop-again : tie.Need-loop-again Inv-loop μ-loop
 loop-again c = (omega arith, below-more _ _ ((c .before .before .before .before .loop) .inv .1) (omega arith))
@@ -49,10 +39,10 @@ setting-ok-spec =
     μ-loop
     returns
     loop-holds
-    shared-slice-read-if2
-    shared-slice-read-if2-2
+    (λ c. search needs)
+    (λ c. search needs)
     returns-2
-    add-k
-    loop-less
+    (λ c. search needs)
+    (λ c. search needs)
     loop-again
     returns-3)

@@ -75,7 +75,10 @@ module _ (S vs v : List ℕ) (i : ℕ) (few : length S ≤ 16) (pos : 0 < i) (in
   )
 
 returns : tie.Need-returns Inv-loop μ-loop
-returns c = grows ((c .before .before .before .before .before .before .before) .args .features .now) ((c .before .before .before .before .before .before .before) .args .values) ((c .before .before .before .before .before .loop) .v) ((c .before .before .before .before .before .loop) .i) (omega arith) (omega arith) ((c .before .before .before .before .before .loop) .inv) (omega arith)
+returns c =
+    let c7 = c .before .before .before .before .before .before .before in
+    grows (c7 .args .features .now) (c7 .args .values) (c .before .before .before .before .before .loop .v) (c .before .before .before .before .before .loop .i) (omega arith)
+    (omega arith) (c .before .before .before .before .before .loop .inv) (omega arith)
 
 array-write-v-2 : tie.Need-array-write-v-2 Inv-loop μ-loop
 array-write-v-2 c = omega arith
@@ -84,10 +87,15 @@ loop-less : tie.Need-loop-less Inv-loop μ-loop
 loop-less c = omega arith
 
 loop-again : tie.Need-loop-again Inv-loop μ-loop
-loop-again c = falls ((c .before .before .before .before .before .before .before) .args .features .now) ((c .before .before .before .before .before .before .before) .args .values) ((c .before .before .before .before .before .loop) .v) ((c .before .before .before .before .before .loop) .i) (omega arith) (omega arith) ((c .before .before .before .before .before .loop) .inv) (omega arith)
+loop-again c =
+    let c7 = c .before .before .before .before .before .before .before in
+    falls (c7 .args .features .now) (c7 .args .values) (c .before .before .before .before .before .loop .v) (c .before .before .before .before .before .loop .i) (omega arith)
+    (omega arith) (c .before .before .before .before .before .loop .inv) (omega arith)
 
 returns-2 : tie.Need-returns-2 Inv-loop μ-loop
-returns-2 c = stays ((c .before .before .before) .args .features .now) ((c .before .before .before) .args .values) ((c .before .loop) .v) ((c .before .loop) .i) (omega arith) (omega arith) ((c .before .loop) .inv .3) ((c .before .loop) .inv .4)
+returns-2 c =
+    stays (c .before .before .before .args .features .now) (c .before .before .before .args .values) (c .before .loop .v) (c .before .loop .i) (omega arith) (omega arith)
+    (c .before .loop .inv .3) (c .before .loop .inv .4)
 
 pub turn-spec : {M : Type 1} → statement M
 turn-spec =

@@ -11,9 +11,6 @@ mul-index c = omega (arith, (c .before) .pre .0 .lie .room)
 element-copy-out-index : tie.Need-element-copy-out-index
 element-copy-out-index c = omega (arith, (c .before) .pre .0 .lie .room)
 
-index-requires : tie.Need-index-requires
-index-requires c κs = search needs
-
 add-word-at : tie.Need-add-word-at
 add-word-at c = omega (arith, place-inside ((c .before .before .before) .pre .0) ((c .before .before .before) .pre .1) ((c .index) .result) ((c .index) .ensures))
 
@@ -21,13 +18,19 @@ mul-word-at : tie.Need-mul-word-at
 mul-word-at c = omega (arith, (c .before .before .before) .pre .2, width-most ((c .before .before .before) .pre .0) ((c .before .before .before) .pre .1))
 
 add-word-at-2 : tie.Need-add-word-at-2
-add-word-at-2 c = omega (arith, (c .before .before .before) .pre .2, place-inside ((c .before .before .before) .pre .0) ((c .before .before .before) .pre .1) ((c .index) .result) ((c .index) .ensures))
+add-word-at-2 c =
+    omega (arith, c .before .before .before .pre .2, place-inside (c .before .before .before .pre .0) (c .before .before .before .pre .1) (c .index .result) (c .index .ensures))
 
 word-at-requires : tie.Need-word-at-requires
-word-at-requires c κs = omega (arith, (c .before .before .before) .pre .2, place-inside ((c .before .before .before) .pre .0) ((c .before .before .before) .pre .1) ((c .index) .result) ((c .index) .ensures))
+word-at-requires c κs =
+    omega (arith, c .before .before .before .pre .2, place-inside (c .before .before .before .pre .0) (c .before .before .before .pre .1) (c .index .result) (c .index .ensures))
 
 returns : tie.Need-returns
-returns c = (known-branch ((c .before .before .before .before) .pre .0) ((c .before .before .before .before) .pre .1) ((c .before .index) .result) ((c .before .before .before .before) .args .v) ((c .word-at) .result) ((c .before .index) .ensures) ((c .word-at) .ensures .0), (c .word-at) .ensures .1)
+returns c = (
+  known-branch (c .before .before .before .before .pre .0) (c .before .before .before .before .pre .1) (c .before .index .result)
+      (c .before .before .before .before .args .v) (c .word-at .result) (c .before .index .ensures) (c .word-at .ensures .0),
+  c .word-at .ensures .1,
+)
 
 pub branch-at-spec : {M : Type 1} → statement M
 branch-at-spec =
@@ -35,7 +38,7 @@ branch-at-spec =
     (tie.spec
     mul-index
     element-copy-out-index
-    index-requires
+    (λ c κs. search needs)
     add-word-at
     mul-word-at
     add-word-at-2

@@ -10,9 +10,6 @@ use Rattle.promises.specs.Sheet.{pair}
 features-of-requires : tie.Need-features-of-requires
 features-of-requires c κs = (c .before) .pre
 
-add-pair-at : tie.Need-add-pair-at
-add-pair-at c = search needs
-
 pair-at-requires : tie.Need-pair-at-requires
 pair-at-requires c κs = omega (arith, (c .before .before) .pre .long, (c .features-of) .ensures .0)
 
@@ -20,4 +17,4 @@ returns : tie.Need-returns
 returns c = ((c .pair-at) .ensures .0 ∙ ap (λ (x : ℕ). pair ((c .before .before .before) .args .s .now) (5 + x)) ((c .before .features-of) .ensures .0), (c .pair-at) .ensures .1)
 
 pub count-of-spec : {M : Type 1} → statement M
-count-of-spec = tie.close (tie.spec features-of-requires add-pair-at pair-at-requires returns)
+count-of-spec = tie.close (tie.spec features-of-requires (λ c. search needs) pair-at-requires returns)

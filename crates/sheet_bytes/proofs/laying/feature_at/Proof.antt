@@ -11,17 +11,15 @@ mul-index c = omega (arith, (c .before) .pre .0 .lie .room)
 element-copy-out-index : tie.Need-element-copy-out-index
 element-copy-out-index c = omega (arith, (c .before) .pre .0 .lie .room)
 
-index-requires : tie.Need-index-requires
-index-requires c κs = search needs
-
 shared-slice-read-wide : tie.Need-shared-slice-read-wide
-shared-slice-read-wide c = omega (arith, place-inside ((c .before .before .before .before) .pre .0) ((c .before .before .before .before) .pre .1) ((c .before .index) .result) ((c .before .index) .ensures))
-
-wide-requires : tie.Need-wide-requires
-wide-requires c κs = search needs
+shared-slice-read-wide c =
+    omega (arith, place-inside (c .before .before .before .before .pre .0) (c .before .before .before .before .pre .1) (c .before .index .result) (c .before .index .ensures))
 
 returns : tie.Need-returns
-returns c = let e = known-feature ((c .before .before .before .before .before) .pre .0) ((c .before .before .before .before .before) .pre .1) ((c .before .before .index) .result) ((c .wide) .result) ((c .before .before .index) .ensures) ((c .wide) .ensures .0) in (e, omega (arith, feature-few ((c .before .before .before .before .before) .pre .0) ((c .before .before .before .before .before) .pre .1)))
+returns c =
+    let e = known-feature (c .before .before .before .before .before .pre .0) (c .before .before .before .before .before .pre .1) (c .before .before .index .result)
+    (c .wide .result) (c .before .before .index .ensures) (c .wide .ensures .0) in
+    (e, omega (arith, feature-few (c .before .before .before .before .before .pre .0) (c .before .before .before .before .before .pre .1)))
 
 pub feature-at-spec : {M : Type 1} → statement M
 feature-at-spec =
@@ -29,7 +27,7 @@ feature-at-spec =
     (tie.spec
     mul-index
     element-copy-out-index
-    index-requires
+    (λ c κs. search needs)
     shared-slice-read-wide
-    wide-requires
+    (λ c κs. search needs)
     returns)

@@ -26,79 +26,72 @@ count-of-requires c κs = (c .before .before) .pre .0
 returns : tie.Need-returns Inv-loop μ-loop
 returns c = lay-lost (λ l. omega (arith, l .room, (c .before .count-of) .ensures .0))
 
-add-p : tie.Need-add-p Inv-loop μ-loop
-add-p c = search needs
-
 loop-holds : tie.Need-loop-holds Inv-loop μ-loop
-loop-holds c = ((c .before .before .features-of) .ensures .0, (c .before .count-of) .ensures .0, omega arith, ap (λ (x : ℕ). 7 + x) ((c .before .before .features-of) .ensures .0) ∙ sym (place-zero ((c .before .before .before .before) .args .s .now)), omega (arith, (c .before .before .features-of) .ensures .2), (λ j l. absurd (omega arith)), holds-none _ _, (c .before .before .before .before) .pre .1)
+loop-holds c = (
+  c .before .before .features-of .ensures .0,
+  c .before .count-of .ensures .0,
+  omega arith,
+  ap (λ (x : ℕ). 7 + x) (c .before .before .features-of .ensures .0) ∙ sym (place-zero (c .before .before .before .before .args .s .now)),
+  omega (arith, c .before .before .features-of .ensures .2),
+  (λ j l. absurd (omega arith)),
+  holds-none _ _,
+  c .before .before .before .before .pre .1,
+)
 
 returns-2 : tie.Need-returns-2 Inv-loop μ-loop
-returns-2 c = let l = (c .before .before .loop) in lay-lost (λ q. omega (arith, q .ends, place-le ((c .before .before .before .before .before .before .before) .args .s .now) (l .i) (count ((c .before .before .before .before .before .before .before) .args .s .now)) (omega (arith, l .inv .1)), l .inv .3))
-
-shared-slice-read-wide : tie.Need-shared-slice-read-wide Inv-loop μ-loop
-shared-slice-read-wide c = search needs
-
-wide-requires : tie.Need-wide-requires Inv-loop μ-loop
-wide-requires c κs = search needs
+returns-2 c =
+    let c7 = c .before .before .before .before .before .before .before in
+    let l = c .before .before .loop in lay-lost (λ q. omega (arith, q .ends, place-le (c7 .args .s .now) (l .i) (count (c7 .args .s .now)) (omega (arith, l .inv .1)), l .inv .3))
 
 returns-3 : tie.Need-returns-3 Inv-loop μ-loop
-returns-3 c = let l = (c .before .before .before .before .before .loop) in lay-lost (λ q. omega (arith, q .known (l .i) (omega (arith, l .inv .1)), (c .before .wide) .ensures .0 ∙ ap (byte ((c .before .before .before .before .before .before .before .before .before .before) .args .s .now)) (l .inv .3), l .inv .0))
+returns-3 c =
+    let c10 = c .before .before .before .before .before .before .before .before .before .before in
+    let l = c .before .before .before .before .before .loop in lay-lost (λ q. omega
+    (arith, q .known (l .i) (omega (arith, l .inv .1)), c .before .wide .ensures .0 ∙ ap (byte (c10 .args .s .now)) (l .inv .3), l .inv .0))
 
 narrow-requires : tie.Need-narrow-requires Inv-loop μ-loop
 narrow-requires c κs = let l = (c .before .before .before .before .before .loop) in omega (arith, l .inv .4)
 
-mul-at : tie.Need-mul-at Inv-loop μ-loop
-mul-at c = search needs
-
-element-write-at : tie.Need-element-write-at Inv-loop μ-loop
-element-write-at c = search needs
-
-add-p-2 : tie.Need-add-p-2 Inv-loop μ-loop
-add-p-2 c = search needs
-
 size-at-requires : tie.Need-size-at-requires Inv-loop μ-loop
-size-at-requires c κs = let l = (c .before .before .before .before .before .before .loop) in ((c .before .before .before .before .before .before .before .before .before .before .before) .pre .0, omega (arith, l .inv .0))
-
-mul-p : tie.Need-mul-p Inv-loop μ-loop
-mul-p c = search needs
-
-add-p-3 : tie.Need-add-p-3 Inv-loop μ-loop
-add-p-3 c = search needs
-
-add-i : tie.Need-add-i Inv-loop μ-loop
-add-i c = search needs
-
-loop-less : tie.Need-loop-less Inv-loop μ-loop
-loop-less c = search needs
+size-at-requires c κs =
+    let c6 = c .before .before .before .before .before .before in let c11 = c6 .before .before .before .before .before in
+    let l = c6 .loop in (c11 .pre .0, omega (arith, l .inv .0))
 
 loop-again : tie.Need-loop-again Inv-loop μ-loop
-loop-again c = let l = (c .before .before .before .before .before .before .before .loop) in let s = (c .before .before .before .before .before .before .before .before .before .before .before .before) .args .s .now in
-    let f : (c .before .before .before .wide) .result ≡ feature s (l .i) = (c .before .before .before .wide) .ensures .0 ∙ ap (byte s) (l .inv .3) in
-    let z : (c .size-at) .result ≡ width s (l .i) = (c .size-at) .ensures .0 ∙ ap (size s) f in
-    let k : feature s (l .i) < features s = omega (arith, l .inv .0) in
-    (l .inv .0, l .inv .1, omega arith, omega (arith, l .inv .3, place-next s (l .i)), omega (arith, l .inv .4, (c .size-at) .ensures .2), below-more _ _ (l .inv .5) k, holds-more (omega (arith, l .inv .7)) ((c .before .narrow) .ensures ∙ l .inv .3) (l .inv .6), length-set (l .at) (l .i) ((c .before .narrow) .result) ∙ l .inv .7)
-
-add-if4 : tie.Need-add-if4 Inv-loop μ-loop
-add-if4 c = search needs
+loop-again c =
+    let c7 = c .before .before .before .before .before .before .before in let c12 = c7 .before .before .before .before .before in
+    let l = c7 .loop in let s = c12 .args .s .now in
+    let f : (c .before .before .before .wide) .result ≡ feature s (l .i) = c .before .before .before .wide .ensures .0 ∙ ap (byte s) (l .inv .3) in
+    let z : (c .size-at) .result ≡ width s (l .i) = c .size-at .ensures .0 ∙ ap (size s) f in
+    let k : feature s (l .i) < features s = omega (arith, l .inv .0) in (
+      l .inv .0,
+      l .inv .1,
+      omega arith,
+      omega (arith, l .inv .3, place-next s (l .i)),
+      omega (arith, l .inv .4, c .size-at .ensures .2),
+      below-more _ _ (l .inv .5) k,
+      holds-more (omega (arith, l .inv .7)) (c .before .narrow .ensures ∙ l .inv .3) (l .inv .6),
+      length-set (l .at) (l .i) (c .before .narrow .result) ∙ l .inv .7,
+    )
 
 returns-4 : tie.Need-returns-4 Inv-loop μ-loop
-returns-4 c = let l = (c .before .before .loop) in let e = all-passed ((c .before .before .before .before .before .before .before) .args .s .now) (l .inv .1) (l .inv .2) (omega arith) (l .inv .3) in lay-lost (λ q. (c .if4) .taken (omega (arith, q .ends, e)))
-
-shared-slice-read-if5 : tie.Need-shared-slice-read-if5 Inv-loop μ-loop
-shared-slice-read-if5 c = search needs
+returns-4 c =
+    let c7 = c .before .before .before .before .before .before .before in
+    let l = c .before .before .loop in let e = all-passed (c7 .args .s .now) (l .inv .1) (l .inv .2) (omega arith) (l .inv .3) in lay-lost (λ q. c .if4 .taken (omega (arith, q .ends, e)))
 
 returns-5 : tie.Need-returns-5 Inv-loop μ-loop
-returns-5 c = let l = (c .before .before .before .before .loop) in let e = all-passed ((c .before .before .before .before .before .before .before .before .before) .args .s .now) (l .inv .1) (l .inv .2) (omega arith) (l .inv .3) in lay-lost (λ q. (c .if5) .taken (ap (byte ((c .before .before .before .before .before .before .before .before .before) .args .s .now)) e ∙ q .zero))
-
-add-result : tie.Need-add-result Inv-loop μ-loop
-add-result c = search needs
-
-shared-slice-read-result : tie.Need-shared-slice-read-result Inv-loop μ-loop
-shared-slice-read-result c = search needs
+returns-5 c =
+    let c9 = c .before .before .before .before .before .before .before .before .before in
+    let l = c .before .before .before .before .loop in let e = all-passed (c9 .args .s .now) (l .inv .1) (l .inv .2) (omega arith) (l .inv .3) in
+    lay-lost (λ q. c .if5 .taken (ap (byte (c9 .args .s .now)) e ∙ q .zero))
 
 returns-6 : tie.Need-returns-6 Inv-loop μ-loop
-returns-6 c = let l = (c .before .before .before .before .before .loop) in let e = all-passed ((c .before .before .before .before .before .before .before .before .before .before) .args .s .now) (l .inv .1) (l .inv .2) (omega arith) (l .inv .3) in let e2 : l .i ≡ count ((c .before .before .before .before .before .before .before .before .before .before) .args .s .now) = omega (arith, l .inv .1) in
-    lay-tells (l .p) e (omega (arith, l .inv .1, (c .before .before .before .before .before .before .if1) .left)) (λ i h. l .inv .5 i (omega (arith, e2))) ((c .before .before .before .if4) .left) ((c .before .if5) .left) (record { holds = λ i h. l .inv .6 .holds i (omega (arith, e2)) })
+returns-6 c =
+    let c6 = c .before .before .before .before .before .before in let c10 = c6 .before .before .before .before in
+    let l = c .before .before .before .before .before .loop in let e = all-passed (c10 .args .s .now) (l .inv .1) (l .inv .2) (omega arith) (l .inv .3) in
+    let e2 : l .i ≡ count (c10 .args .s .now) = omega (arith, l .inv .1) in
+    lay-tells (l .p) e (omega (arith, l .inv .1, c6 .if1 .left)) (λ i h. l .inv .5 i (omega (arith, e2))) (c .before .before .before .if4 .left) (c .before .if5 .left)
+    (record { holds = λ i h. l .inv .6 .holds i (omega (arith, e2)) })
 
 pub lay-spec : {M : Type 1} → statement M
 lay-spec =
@@ -109,26 +102,26 @@ lay-spec =
     features-of-requires
     count-of-requires
     returns
-    add-p
+    (λ c. search needs)
     loop-holds
     returns-2
-    shared-slice-read-wide
-    wide-requires
+    (λ c. search needs)
+    (λ c κs. search needs)
     returns-3
     narrow-requires
-    mul-at
-    element-write-at
-    add-p-2
+    (λ c. search needs)
+    (λ c. search needs)
+    (λ c. search needs)
     size-at-requires
-    mul-p
-    add-p-3
-    add-i
-    loop-less
+    (λ c. search needs)
+    (λ c. search needs)
+    (λ c. search needs)
+    (λ c. search needs)
     loop-again
-    add-if4
+    (λ c. search needs)
     returns-4
-    shared-slice-read-if5
+    (λ c. search needs)
     returns-5
-    add-result
-    shared-slice-read-result
+    (λ c. search needs)
+    (λ c. search needs)
     returns-6)

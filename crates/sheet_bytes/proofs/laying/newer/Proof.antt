@@ -7,20 +7,11 @@ use Rattle.sheet_bytes.proofs.laying.newer.Tie as tie
 returns : tie.Need-returns
 returns c = λ n. omega (arith, n .three)
 
-shared-slice-read-if2 : tie.Need-shared-slice-read-if2
-shared-slice-read-if2 c = search needs
-
 returns-2 : tie.Need-returns-2
 returns-2 c = λ n. (c .if2) .taken (n .zero)
 
-shared-slice-read-if3 : tie.Need-shared-slice-read-if3
-shared-slice-read-if3 c = search needs
-
 returns-3 : tie.Need-returns-3
 returns-3 c = λ n. (c .if3) .taken (n .one)
-
-shared-slice-read-if4 : tie.Need-shared-slice-read-if4
-shared-slice-read-if4 c = search needs
 
 returns-4 : tie.Need-returns-4
 returns-4 c = λ n. omega (arith, n .more)
@@ -33,10 +24,10 @@ newer-spec =
     tie.close
     (tie.spec
     returns
-    shared-slice-read-if2
+    (λ c. search needs)
     returns-2
-    shared-slice-read-if3
+    (λ c. search needs)
     returns-3
-    shared-slice-read-if4
+    (λ c. search needs)
     returns-4
     returns-5)

@@ -11,11 +11,8 @@ add-wide c = let p = (c .before) .pre in omega (arith, p .0 .long)
 shared-slice-read-wide : tie.Need-shared-slice-read-wide
 shared-slice-read-wide c = let p = (c .before .before) .pre in omega (arith, p .0 .long)
 
-wide-requires : tie.Need-wide-requires
-wide-requires c κs = search needs
-
 returns : tie.Need-returns
 returns c = let p = (c .before .before .before) .pre in let e = (c .wide) .ensures .0 in (e, omega (arith, size-least (p .0) _ (p .1)), omega (arith, size-most (p .0) _ (p .1)))
 
 pub size-at-spec : {M : Type 1} → statement M
-size-at-spec = tie.close (tie.spec add-wide shared-slice-read-wide wide-requires returns)
+size-at-spec = tie.close (tie.spec add-wide shared-slice-read-wide (λ c κs. search needs) returns)

@@ -6,9 +6,6 @@ use Rattle.sheet_bytes.proofs.laying.width_at.Statement.{statement}
 use Rattle.sheet_bytes.proofs.laying.width_at.Tie as tie
 use Rattle.promises.specs.Sheet.{sheetSize as size}
 
-feature-at-requires : tie.Need-feature-at-requires
-feature-at-requires c κs = search needs
-
 size-at-requires : tie.Need-size-at-requires
 size-at-requires c κs = let p = (c .before .before) .pre in (p .0 .head, omega (arith, (c .feature-at) .ensures .0, p .0 .lie .known _ (p .1)))
 
@@ -16,4 +13,4 @@ returns : tie.Need-returns
 returns c = ((c .size-at) .ensures .0 ∙ ap (size ((c .before .before .before) .args .s .now)) ((c .before .feature-at) .ensures .0), (c .size-at) .ensures .1, (c .size-at) .ensures .2)
 
 pub width-at-spec : {M : Type 1} → statement M
-width-at-spec = tie.close (tie.spec feature-at-requires size-at-requires returns)
+width-at-spec = tie.close (tie.spec (λ c κs. search needs) size-at-requires returns)

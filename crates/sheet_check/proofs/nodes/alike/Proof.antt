@@ -14,9 +14,6 @@ Inv-loop s at i z first v₀ v = (z ≡ width s i) × (v ≤ z) × ((x : ℕ) �
 abbrev μ-loop : tie.MeasureT-loop
 μ-loop s at i z first v₀ v = z - v
 
-width-at-requires : tie.Need-width-at-requires Inv-loop μ-loop
-width-at-requires c κs = search needs
-
 branch-at-requires : tie.Need-branch-at-requires Inv-loop μ-loop
 branch-at-requires c κs = let p = (c .before .before) .pre in (p .0, p .1, omega (arith, (c .width-at) .ensures .0, (c .width-at) .ensures .1))
 
@@ -27,16 +24,18 @@ branch-at-requires-2 : tie.Need-branch-at-requires-2 Inv-loop μ-loop
 branch-at-requires-2 c κs = let p = (c .before .before .before .before .before) .pre in let l = (c .before .loop) in (p .0, p .1, omega (arith, l .inv .0))
 
 returns : tie.Need-returns Inv-loop μ-loop
-returns c = let l = (c .before .before .before .loop) in λ q. (c .if1) .taken ((c .before .branch-at2) .ensures .0 ∙ q .alike (l .v) (omega (arith, l .inv .0)) ∙ sym ((c .before .before .before .before .branch-at) .ensures .0))
-
-add-v : tie.Need-add-v Inv-loop μ-loop
-add-v c = search needs
-
-loop-less : tie.Need-loop-less Inv-loop μ-loop
-loop-less c = search needs
+returns c =
+    let l = c .before .before .before .loop in λ q. c .if1 .taken (c .before .branch-at2 .ensures .0 ∙ q .alike (l .v) (omega (arith, l .inv .0))
+    ∙ sym (c .before .before .before .before .branch-at .ensures .0))
 
 loop-again : tie.Need-loop-again Inv-loop μ-loop
-loop-again c = let l = (c .before .before .before .loop) in (l .inv .0, omega arith, below-more _ _ (l .inv .2) (sym ((c .before .branch-at2) .ensures .0) ∙ (c .if1) .left ∙ (c .before .before .before .before .branch-at) .ensures .0))
+loop-again c =
+    let l = c .before .before .before .loop in (
+      l .inv .0,
+      omega arith,
+      below-more _ _ (l .inv .2)
+          (sym (c .before .branch-at2 .ensures .0) ∙ c .if1 .left ∙ c .before .before .before .before .branch-at .ensures .0),
+    )
 
 returns-2 : tie.Need-returns-2 Inv-loop μ-loop
 returns-2 c = let l = (c .before .loop) in record { alike = λ x h. l .inv .2 x (omega (arith, l .inv .0)) }
@@ -47,12 +46,12 @@ alike-spec =
     (tie.spec
     Inv-loop
     μ-loop
-    width-at-requires
+    (λ c κs. search needs)
     branch-at-requires
     loop-holds
     branch-at-requires-2
     returns
-    add-v
-    loop-less
+    (λ c. search needs)
+    (λ c. search needs)
     loop-again
     returns-2)

@@ -16,17 +16,8 @@ Inv-loop s at i f z v₀ v = (f ≡ feature s i) × (z ≡ width s i) × (v ≤ 
 abbrev μ-loop : tie.MeasureT-loop
 μ-loop s at i f z v₀ v = z - v
 
-feature-at-requires : tie.Need-feature-at-requires Inv-loop μ-loop
-feature-at-requires c κs = search needs
-
-width-at-requires : tie.Need-width-at-requires Inv-loop μ-loop
-width-at-requires c κs = search needs
-
 loop-holds : tie.Need-loop-holds Inv-loop μ-loop
 loop-holds c = ((c .before .feature-at) .ensures .0, (c .width-at) .ensures .0, omega arith, λ x h. absurd (omega arith))
-
-add-below : tie.Need-add-below Inv-loop μ-loop
-add-below c = search needs
 
 branch-at-requires : tie.Need-branch-at-requires Inv-loop μ-loop
 branch-at-requires c κs = let p = (c .before .before .before .before .before) .pre in let l = (c .before .loop) in (p .0, p .1, omega (arith, l .inv .1))
@@ -35,16 +26,21 @@ below-requires : tie.Need-below-requires Inv-loop μ-loop
 below-requires c κs = let p = (c .before .before .before .before .before .before) .pre in (p .0, omega (arith, p .1))
 
 returns : tie.Need-returns Inv-loop μ-loop
-returns c = let l = (c .before .before .before .before .loop) in let a = (c .before .before .before .before .before .before .before .before) .args in λ q. denied ((c .before .below) .result) ((c .if1) .taken) ((c .before .below) .ensures) (same-below refl (ap (λ (x : ℕ). x + 1) (sym (l .inv .0))) (sym ((c .before .before .branch-at) .ensures .0)) (q .lower (l .v) (omega (arith, l .inv .1))))
-
-add-v : tie.Need-add-v Inv-loop μ-loop
-add-v c = search needs
-
-loop-less : tie.Need-loop-less Inv-loop μ-loop
-loop-less c = search needs
+returns c =
+    let c8 = c .before .before .before .before .before .before .before .before in
+    let l = c .before .before .before .before .loop in let a = c8 .args in λ q. denied (c .before .below .result) (c .if1 .taken) (c .before .below .ensures)
+    (same-below refl (ap (λ (x : ℕ). x + 1) (sym (l .inv .0))) (sym (c .before .before .branch-at .ensures .0)) (q .lower (l .v) (omega (arith, l .inv .1))))
 
 loop-again : tie.Need-loop-again Inv-loop μ-loop
-loop-again c = let l = (c .before .before .before .before .loop) in let a = (c .before .before .before .before .before .before .before .before) .args in (l .inv .0, l .inv .1, omega arith, below-more _ _ (l .inv .3) (same-below refl (ap (λ (x : ℕ). x + 1) (l .inv .0)) ((c .before .before .branch-at) .ensures .0) (granted ((c .before .below) .result) ((c .if1) .left) ((c .before .below) .ensures))))
+loop-again c =
+    let c8 = c .before .before .before .before .before .before .before .before in
+    let l = c .before .before .before .before .loop in let a = c8 .args in (
+      l .inv .0,
+      l .inv .1,
+      omega arith,
+      below-more _ _ (l .inv .3) (same-below refl (ap (λ (x : ℕ). x + 1) (l .inv .0)) (c .before .before .branch-at .ensures .0)
+          (granted (c .before .below .result) (c .if1 .left) (c .before .below .ensures))),
+    )
 
 returns-2 : tie.Need-returns-2 Inv-loop μ-loop
 returns-2 c = let l = (c .before .loop) in record { lower = λ x h. l .inv .3 x (omega (arith, l .inv .1)) }
@@ -55,14 +51,14 @@ lower-spec =
     (tie.spec
     Inv-loop
     μ-loop
-    feature-at-requires
-    width-at-requires
+    (λ c κs. search needs)
+    (λ c κs. search needs)
     loop-holds
-    add-below
+    (λ c. search needs)
     branch-at-requires
     below-requires
     returns
-    add-v
-    loop-less
+    (λ c. search needs)
+    (λ c. search needs)
     loop-again
     returns-2)

@@ -31,16 +31,19 @@ lower-requires : tie.Need-lower-requires Inv-loop μ-loop
 lower-requires c κs = let l = (c .before .before .before .loop) in ((c .before .before .before .before .before .before) .pre, omega (arith, l .inv .0))
 
 returns-2 : tie.Need-returns-2 Inv-loop μ-loop
-returns-2 c = let l = (c .before .before .before .before .before .loop) in λ q. denied ((c .before .lower) .result) ((c .if2) .taken) ((c .before .lower) .ensures) (q .each (l .i) (omega (arith, l .inv .0)) .lower)
-
-add-i : tie.Need-add-i Inv-loop μ-loop
-add-i c = search needs
-
-loop-less : tie.Need-loop-less Inv-loop μ-loop
-loop-less c = search needs
+returns-2 c =
+    let l = c .before .before .before .before .before .loop in λ q. denied (c .before .lower .result) (c .if2 .taken) (c .before .lower .ensures) (q .each (l .i) (omega (arith, l .inv .0)) .lower)
 
 loop-again : tie.Need-loop-again Inv-loop μ-loop
-loop-again c = let l = (c .before .before .before .before .before .loop) in (l .inv .0, omega arith, below-more _ _ (l .inv .2) (record { lower = granted ((c .before .lower) .result) ((c .if2) .left) ((c .before .lower) .ensures); differ = sure-not ((c .before .before .if1) .left) ((c .before .before .before .alike) .ensures) }))
+loop-again c =
+    let l = c .before .before .before .before .before .loop in (
+      l .inv .0,
+      omega arith,
+      below-more _ _ (l .inv .2) (record {
+        lower = granted (c .before .lower .result) (c .if2 .left) (c .before .lower .ensures);
+        differ = sure-not (c .before .before .if1 .left) (c .before .before .before .alike .ensures);
+      }),
+    )
 
 returns-3 : tie.Need-returns-3 Inv-loop μ-loop
 returns-3 c = let l = (c .before .loop) in record { each = λ j h. l .inv .2 j (omega (arith, l .inv .0)) }
@@ -57,7 +60,7 @@ nodes-ok-spec =
     returns
     lower-requires
     returns-2
-    add-i
-    loop-less
+    (λ c. search needs)
+    (λ c. search needs)
     loop-again
     returns-3)

@@ -1,4 +1,5 @@
--- `sheet_check::order::visit` and `sheet_check::order::visit_list` meet their contracts: what is left of the branches is the whole walk; a branch word is smaller than that of the node which has it. Assumes nothing.
+-- `sheet_check::order::visit` and `sheet_check::order::visit_list` meet their contracts: what is left of the branches is the whole walk; a branch word is smaller than that of the
+-- node which has it. Assumes nothing.
 use Prim.Native.Nat.{_+_, _*_, _-_, _≤_, ℕ, _<_}
 use mathlib.Core.Path.{_≡_}
 use native.Mathlib.Omega.{arith}
@@ -48,7 +49,8 @@ visit-returns : (t : ℕ) → visit-lts.Need-returns (visit-claims t) (visit-at 
 visit-returns t c = visits-phrase ((c .if1) .taken) ((c .before .before) .pre .1 .3)
 
 visit-returns-2 : (t : ℕ) → visit-lts.Need-returns-2 (visit-claims t) (visit-at t) visit.Post
-visit-returns-2 t c = let p = (c .before .before .before) .pre .1 in visits-done ((c .before .before .before) .args .w) ((c .before .before .before) .args .c) (p .0) (p .2) (omega arith) ((c .if2) .taken) (p .3)
+visit-returns-2 t c =
+    let p = c .before .before .before .pre .1 in visits-done (c .before .before .before .args .w) (c .before .before .before .args .c) (p .0) (p .2) (omega arith) (c .if2 .taken) (p .3)
 
 visit-visit-list-requires : (t : ℕ) → visit-lts.Need-visit-list-requires (visit-claims t) (visit-at t) visit.Post
 visit-visit-list-requires t c κs = let p = (c .before .before .before) .pre .1 in (omega arith, (p .0, p .1, p .2 .earlier (omega arith), p .3))
@@ -57,10 +59,14 @@ visit-add-result : (t : ℕ) → visit-lts.Need-add-result (visit-claims t) (vis
 visit-add-result t c = let p = (c .before .before .before .before .before) .pre .1 in omega (arith, p .2 .flag)
 
 visit-returns-3 : (t : ℕ) → visit-lts.Need-returns-3 (visit-claims t) (visit-at t) visit.Post
-visit-returns-3 t c = let p = (c .before .before .before .before .before) .pre .1 in visits-met ((c .before .before .before .before .before) .args .w) ((c .before .before .before .before .before) .args .c) (p .0) (p .2) (omega arith) (omega arith) ((c .before .visit-list) .ensures) ((c .if3) .taken)
+visit-returns-3 t c =
+    let p = c .before .before .before .before .before .pre .1 in visits-met (c .before .before .before .before .before .args .w)
+    (c .before .before .before .before .before .args .c) (p .0) (p .2) (omega arith) (omega arith) (c .before .visit-list .ensures) (c .if3 .taken)
 
 visit-returns-4 : (t : ℕ) → visit-lts.Need-returns-4 (visit-claims t) (visit-at t) visit.Post
-visit-returns-4 t c = let p = (c .before .before .before .before .before) .pre .1 in visits-lost ((c .before .before .before .before .before) .args .w) ((c .before .before .before .before .before) .args .c) (p .0) (p .2) (omega arith) (omega arith) ((c .before .visit-list) .ensures) ((c .if3) .left)
+visit-returns-4 t c =
+    let p = c .before .before .before .before .before .pre .1 in visits-lost (c .before .before .before .before .before .args .w)
+    (c .before .before .before .before .before .args .c) (p .0) (p .2) (omega arith) (omega arith) (c .before .visit-list .ensures) (c .if3 .left)
 
 abbrev visit-list-Inv-loop : visit-list-lts.InvT-loop
 visit-list-Inv-loop s at i c z d₀ v₀ d v = (z ≡ width s i) × (v ≤ z) × Walked s i c v d
@@ -78,20 +84,25 @@ visit-list-branch-at-requires : (t : ℕ) → visit-list-lts.Need-branch-at-requ
 visit-list-branch-at-requires t c κs = let p = (c .before .before .before .before) .pre .1 in let l = (c .before .loop) in (p .1, p .2, omega (arith, l .inv .0))
 
 visit-list-visit-requires : (t : ℕ) → visit-list-lts.Need-visit-requires (visit-list-claims t) (visit-list-at t) visit-list.Post visit-list-Inv-loop visit-list-μ-loop
-visit-list-visit-requires t c κs = let p = (c .before .before .before .before .before) .pre .1 in let l = (c .before .before .loop) in let b = branch-below (p .0) ((c .before .before .before .before .before) .args .i) (l .v) (p .2) (omega (arith, l .inv .0)) ((c .branch-at) .ensures .0) in
+visit-list-visit-requires t c κs =
+    let p = c .before .before .before .before .before .pre .1 in let l = c .before .before .loop in
+    let b = branch-below (p .0) (c .before .before .before .before .before .args .i) (l .v) (p .2) (omega (arith, l .inv .0)) (c .branch-at .ensures .0) in
     (omega (arith, b .1), (p .0, p .1, b .0, l .inv .2 .small))
 
 visit-list-returns : (t : ℕ) → visit-list-lts.Need-returns (visit-list-claims t) (visit-list-at t) visit-list.Post visit-list-Inv-loop visit-list-μ-loop
-visit-list-returns t c = let p = (c .before .before .before .before .before .before .before) .pre .1 in let l = (c .before .before .before .before .loop) in walked-lost (p .0) ((c .before .before .before .before .before .before .before) .args .i) (l .v) (p .2) (omega (arith, l .inv .0)) (l .inv .2) ((c .before .before .branch-at) .ensures .0) ((c .before .visit) .ensures) ((c .if1) .taken)
-
-visit-list-add-v : (t : ℕ) → visit-list-lts.Need-add-v (visit-list-claims t) (visit-list-at t) visit-list.Post visit-list-Inv-loop visit-list-μ-loop
-visit-list-add-v t c = search needs
-
-visit-list-loop-less : (t : ℕ) → visit-list-lts.Need-loop-less (visit-list-claims t) (visit-list-at t) visit-list.Post visit-list-Inv-loop visit-list-μ-loop
-visit-list-loop-less t c = search needs
+visit-list-returns t c =
+    let c7 = c .before .before .before .before .before .before .before in
+    let p = c7 .pre .1 in let l = c .before .before .before .before .loop in walked-lost (p .0) (c7 .args .i) (l .v) (p .2) (omega (arith, l .inv .0)) (l .inv .2)
+    (c .before .before .branch-at .ensures .0) (c .before .visit .ensures) (c .if1 .taken)
 
 visit-list-loop-again : (t : ℕ) → visit-list-lts.Need-loop-again (visit-list-claims t) (visit-list-at t) visit-list.Post visit-list-Inv-loop visit-list-μ-loop
-visit-list-loop-again t c = let p = (c .before .before .before .before .before .before .before) .pre .1 in let l = (c .before .before .before .before .loop) in (l .inv .0, omega arith, walked-more (p .0) ((c .before .before .before .before .before .before .before) .args .i) (l .v) (p .2) (omega (arith, l .inv .0)) (l .inv .2) ((c .before .before .branch-at) .ensures .0) ((c .before .visit) .ensures) (omega arith))
+visit-list-loop-again t c =
+    let c7 = c .before .before .before .before .before .before .before in
+    let p = c7 .pre .1 in let l = c .before .before .before .before .loop in (
+      l .inv .0,
+      omega arith,
+      walked-more (p .0) (c7 .args .i) (l .v) (p .2) (omega (arith, l .inv .0)) (l .inv .2) (c .before .before .branch-at .ensures .0) (c .before .visit .ensures) (omega arith),
+    )
 
 visit-list-returns-2 : (t : ℕ) → visit-list-lts.Need-returns-2 (visit-list-claims t) (visit-list-at t) visit-list.Post visit-list-Inv-loop visit-list-μ-loop
 visit-list-returns-2 t c = let l = (c .before .loop) in walked-all (l .inv .2) (omega (arith, l .inv .0))
@@ -116,7 +127,7 @@ pub +visit+visit-list-spec : {M : Type 1} → statement M
     (visit-list-branch-at-requires t)
     (visit-list-visit-requires t)
     (visit-list-returns t)
-    (visit-list-add-v t)
-    (visit-list-loop-less t)
+    (λ c. search needs)
+    (λ c. search needs)
     (visit-list-loop-again t)
     (visit-list-returns-2 t)

@@ -7,17 +7,12 @@ use Rattle.sheet_check.proofs.order.in_order.Statement.{statement}
 use Rattle.sheet_check.proofs.order.in_order.Tie as tie
 use Rattle.promises.specs.Sheet.{sheetCount as count, SheetSits as Below}
 
-root-of-requires : tie.Need-root-of-requires
-root-of-requires c κs = search needs
-
 visit-requires : tie.Need-visit-requires
-visit-requires c κs = let p = (c .before .before) .pre in (p .0, p .1, subst (Below ((c .before .before) .args .s .now) (count ((c .before .before) .args .s .now)) 0) (sym ((c .root-of) .ensures .0)) (p .2), omega arith)
-
-count-of-requires : tie.Need-count-of-requires
-count-of-requires c κs = search needs
+visit-requires c κs =
+    let p = c .before .before .pre in (p .0, p .1, subst (Below (c .before .before .args .s .now) (count (c .before .before .args .s .now)) 0) (sym (c .root-of .ensures .0)) (p .2), omega arith)
 
 returns : tie.Need-returns
 returns c = let p = (c .before .before .before .before) .pre in order-tells (p .0 .lie) (p .2) ((c .before .before .root-of) .ensures .0) ((c .before .visit) .ensures) ((c .count-of) .ensures .0)
 
 pub in-order-spec : {M : Type 1} → statement M
-in-order-spec = tie.close (tie.spec root-of-requires visit-requires count-of-requires returns)
+in-order-spec = tie.close (tie.spec (λ c κs. search needs) visit-requires (λ c κs. search needs) returns)

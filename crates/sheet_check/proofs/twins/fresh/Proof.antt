@@ -13,20 +13,8 @@ Inv-loop s at heads links i h c₀ c = Searched s i c
 abbrev μ-loop : tie.MeasureT-loop
 μ-loop s at heads links i h c₀ c = c
 
-mul-index : tie.Need-mul-index Inv-loop μ-loop
-mul-index c = search needs
-
-element-copy-out-index : tie.Need-element-copy-out-index Inv-loop μ-loop
-element-copy-out-index c = search needs
-
-index-requires : tie.Need-index-requires Inv-loop μ-loop
-index-requires c κs = search needs
-
 loop-holds : tie.Need-loop-holds Inv-loop μ-loop
 loop-holds c = let p = (c .before .before .before) .pre in search-start (p .2) ((c .before .before .before) .args .h) ((c .index) .result) (p .3) (p .4) ((c .index) .ensures)
-
-sub-j : tie.Need-sub-j Inv-loop μ-loop
-sub-j c = search needs
 
 same-requires : tie.Need-same-requires Inv-loop μ-loop
 same-requires c κs = let p = (c .before .before .before .before .before) .pre in let l = (c .before .loop) in (p .0, omega (arith, l .inv .inside, p .1), p .1)
@@ -38,16 +26,20 @@ mul-index-2 : tie.Need-mul-index-2 Inv-loop μ-loop
 mul-index-2 c = let p = (c .before .before .before .before .before .before .before) .pre in let l = (c .before .before .before .loop) in omega (arith, l .inv .inside, p .1, p .0 .lie .room)
 
 element-copy-out-index-2 : tie.Need-element-copy-out-index-2 Inv-loop μ-loop
-element-copy-out-index-2 c = let p = (c .before .before .before .before .before .before .before) .pre in let l = (c .before .before .before .loop) in omega (arith, l .inv .inside, p .1, p .0 .lie .room)
-
-index-requires-2 : tie.Need-index-requires-2 Inv-loop μ-loop
-index-requires-2 c κs = search needs
+element-copy-out-index-2 c =
+    let c7 = c .before .before .before .before .before .before .before in
+    let p = c7 .pre in let l = c .before .before .before .loop in omega (arith, l .inv .inside, p .1, p .0 .lie .room)
 
 loop-less : tie.Need-loop-less Inv-loop μ-loop
-loop-less c = let p = (c .before .before .before .before .before .before .before .before .before) .pre in let l = (c .before .before .before .before .before .loop) in search-less (p .2) (l .c) ((c .index2) .result) (omega arith) (l .inv) ((c .index2) .ensures)
+loop-less c =
+    let c9 = c .before .before .before .before .before .before .before .before .before in
+    let p = c9 .pre in let l = c .before .before .before .before .before .loop in search-less (p .2) (l .c) (c .index2 .result) (omega arith) (l .inv) (c .index2 .ensures)
 
 loop-again : tie.Need-loop-again Inv-loop μ-loop
-loop-again c = let p = (c .before .before .before .before .before .before .before .before .before) .pre in let l = (c .before .before .before .before .before .loop) in search-next (p .2) (l .c) ((c .index2) .result) (omega arith) (l .inv) (sure-not ((c .before .before .if1) .left) ((c .before .before .before .same) .ensures)) ((c .index2) .ensures)
+loop-again c =
+    let c9 = c .before .before .before .before .before .before .before .before .before in
+    let p = c9 .pre in let l = c .before .before .before .before .before .loop in
+    search-next (p .2) (l .c) (c .index2 .result) (omega arith) (l .inv) (sure-not (c .before .before .if1 .left) (c .before .before .before .same .ensures)) (c .index2 .ensures)
 
 returns-2 : tie.Need-returns-2 Inv-loop μ-loop
 returns-2 c = let l = (c .before .loop) in search-end (omega arith) (l .inv)
@@ -58,16 +50,16 @@ fresh-spec =
     (tie.spec
     Inv-loop
     μ-loop
-    mul-index
-    element-copy-out-index
-    index-requires
+    (λ c. search needs)
+    (λ c. search needs)
+    (λ c κs. search needs)
     loop-holds
-    sub-j
+    (λ c. search needs)
     same-requires
     returns
     mul-index-2
     element-copy-out-index-2
-    index-requires-2
+    (λ c κs. search needs)
     loop-less
     loop-again
     returns-2)

@@ -15,36 +15,25 @@ Inv-loop s at i z h₀ v₀ h v = (z ≡ width s i) × (v ≤ z) × (h ≡ hashT
 abbrev μ-loop : tie.MeasureT-loop
 μ-loop s at i z h₀ v₀ h v = z - v
 
-width-at-requires : tie.Need-width-at-requires Inv-loop μ-loop
-width-at-requires c κs = search needs
-
-feature-at-requires : tie.Need-feature-at-requires Inv-loop μ-loop
-feature-at-requires c κs = search needs
-
 loop-holds : tie.Need-loop-holds Inv-loop μ-loop
-loop-holds c = ((c .before .width-at) .ensures .0, omega arith, (c .feature-at) .ensures .0 ∙ sym (hash-zero ((c .before .before .before) .args .s .now) ((c .before .before .before) .args .i)), omega (arith, (c .feature-at) .ensures .1))
-
-mul-h : tie.Need-mul-h Inv-loop μ-loop
-mul-h c = search needs
+loop-holds c = (
+  c .before .width-at .ensures .0,
+  omega arith,
+  c .feature-at .ensures .0 ∙ sym (hash-zero (c .before .before .before .args .s .now) (c .before .before .before .args .i)),
+  omega (arith, c .feature-at .ensures .1),
+)
 
 branch-at-requires : tie.Need-branch-at-requires Inv-loop μ-loop
 branch-at-requires c κs = let p = (c .before .before .before .before .before) .pre in let l = (c .before .loop) in (p .0, p .1, omega (arith, l .inv .0))
-
-add-h : tie.Need-add-h Inv-loop μ-loop
-add-h c = search needs
-
-add-v : tie.Need-add-v Inv-loop μ-loop
-add-v c = search needs
-
-loop-less : tie.Need-loop-less Inv-loop μ-loop
-loop-less c = search needs
 
 loop-again : tie.Need-loop-again Inv-loop μ-loop
 loop-again c = let l = (c .before .before .loop) in let a = (c .before .before .before .before .before .before) .args in
     (l .inv .0, omega arith, (λ k. (l .inv .2 k * 2654435761 + (c .branch-at) .ensures .0 k) % 4294967296) ∙ sym (hash-next (a .s .now) (a .i) (l .v)), search needs)
 
 returns : tie.Need-returns Inv-loop μ-loop
-returns c = let l = (c .before .loop) in let a = (c .before .before .before .before .before) .args in (ap (λ (x : ℕ). x / 1048576) (l .inv .2) ∙ hash-all (a .s .now) (a .i) (l .v) (omega (arith, l .inv .0)), search needs)
+returns c =
+    let l = c .before .loop in let a = c .before .before .before .before .before .args in
+    (ap (λ (x : ℕ). x / 1048576) (l .inv .2) ∙ hash-all (a .s .now) (a .i) (l .v) (omega (arith, l .inv .0)), search needs)
 
 pub hash-of-spec : {M : Type 1} → statement M
 hash-of-spec =
@@ -52,13 +41,13 @@ hash-of-spec =
     (tie.spec
     Inv-loop
     μ-loop
-    width-at-requires
-    feature-at-requires
+    (λ c κs. search needs)
+    (λ c κs. search needs)
     loop-holds
-    mul-h
+    (λ c. search needs)
     branch-at-requires
-    add-h
-    add-v
-    loop-less
+    (λ c. search needs)
+    (λ c. search needs)
+    (λ c. search needs)
     loop-again
     returns)

@@ -22,16 +22,28 @@ count-of-requires : tie.Need-count-of-requires Inv-loop μ-loop
 count-of-requires c κs = (c .before) .pre .head
 
 loop-holds : tie.Need-loop-holds Inv-loop μ-loop
-loop-holds c = ((c .count-of) .ensures .0, omega arith, omega (arith, (c .count-of) .ensures .0, (c .before .before) .pre .lie .room), length-replicate {A = ℕ} 4096 0, length-replicate {A = ℕ} 4096 0, chained-none _ _, λ j h. absurd (omega arith))
+loop-holds c = (
+  c .count-of .ensures .0,
+  omega arith,
+  omega (arith, c .count-of .ensures .0, c .before .before .pre .lie .room),
+  length-replicate {A = ℕ} 4096 0,
+  length-replicate {A = ℕ} 4096 0,
+  chained-none _ _,
+  λ j h. absurd (omega arith),
+)
 
 hash-of-requires : tie.Need-hash-of-requires Inv-loop μ-loop
 hash-of-requires c κs = let l = (c .before .loop) in ((c .before .before .before .before) .pre, omega (arith, l .inv .0))
 
 fresh-requires : tie.Need-fresh-requires Inv-loop μ-loop
-fresh-requires c κs = let l = (c .before .before .before .before .loop) in ((c .before .before .before .before .before .before .before) .pre, omega (arith, l .inv .0), l .inv .5, (c .before .before .hash-of) .ensures .0, (c .before .before .hash-of) .ensures .1)
+fresh-requires c κs =
+    let c7 = c .before .before .before .before .before .before .before in
+    let l = c .before .before .before .before .loop in (c7 .pre, omega (arith, l .inv .0), l .inv .5, c .before .before .hash-of .ensures .0, c .before .before .hash-of .ensures .1)
 
 returns : tie.Need-returns Inv-loop μ-loop
-returns c = let l = (c .before .before .before .before .before .before .loop) in λ q. denied ((c .before .fresh) .result) ((c .if1) .taken) ((c .before .fresh) .ensures) (q .once (l .i) (omega (arith, l .inv .0)))
+returns c =
+    let c6 = c .before .before .before .before .before .before in
+    let l = c6 .loop in λ q. denied (c .before .fresh .result) (c .if1 .taken) (c .before .fresh .ensures) (q .once (l .i) (omega (arith, l .inv .0)))
 
 mul-links : tie.Need-mul-links Inv-loop μ-loop
 mul-links c = omega (arith, (c .before .before .before .before .hash-of) .ensures .1)
@@ -60,12 +72,20 @@ array-write-heads c = omega (arith, (c .before .before .before .before .before .
 add-i : tie.Need-add-i Inv-loop μ-loop
 add-i c = let l = (c .before .before .before .before .before .before .before .loop) in omega (arith, l .inv .2)
 
-loop-less : tie.Need-loop-less Inv-loop μ-loop
-loop-less c = search needs
-
 loop-again : tie.Need-loop-again Inv-loop μ-loop
-loop-again c = let l = (c .before .before .before .before .before .before .before .loop) in
-    (l .inv .0, omega arith, l .inv .2, length-set (l .heads) _ _ ∙ l .inv .3, length-set (l .links) _ _ ∙ l .inv .4, chained-more (l .inv .5) ((c .before .before .before .before .before .hash-of) .result) _ ((c .narrow) .result) ((c .before .before .before .before .before .hash-of) .ensures .0) refl ((c .narrow) .ensures) ((c .before .before .before .before .before .hash-of) .ensures .1) (l .inv .3) (omega (arith, l .inv .2, l .inv .4)), below-more _ _ (l .inv .6) (granted ((c .before .before .fresh) .result) ((c .before .if1) .left) ((c .before .before .fresh) .ensures)))
+loop-again c =
+    let c7 = c .before .before .before .before .before .before .before in
+    let l = c7 .loop in (
+      l .inv .0,
+      omega arith,
+      l .inv .2,
+      length-set (l .heads) _ _ ∙ l .inv .3,
+      length-set (l .links) _ _ ∙ l .inv .4,
+      chained-more (l .inv .5) (c .before .before .before .before .before .hash-of .result) _ (c .narrow .result)
+          (c .before .before .before .before .before .hash-of .ensures .0) refl (c .narrow .ensures) (c .before .before .before .before .before .hash-of .ensures .1) (l .inv .3)
+          (omega (arith, l .inv .2, l .inv .4)),
+      below-more _ _ (l .inv .6) (granted (c .before .before .fresh .result) (c .before .if1 .left) (c .before .before .fresh .ensures)),
+    )
 
 returns-2 : tie.Need-returns-2 Inv-loop μ-loop
 returns-2 c = let l = (c .before .loop) in record { once = λ j h. l .inv .6 j (omega (arith, l .inv .0)) }
@@ -90,6 +110,6 @@ once-spec =
     mul-heads
     array-write-heads
     add-i
-    loop-less
+    (λ c. search needs)
     loop-again
     returns-2)

@@ -13,32 +13,22 @@ use Rattle.sheets.proofs.call_look_up.fits.Tie as tie
 features-of-requires : tie.Need-features-of-requires
 features-of-requires c κs = (c .before .before) .pre
 
-add-to : tie.Need-add-to
-add-to c = search needs
-
-sub-setting-ok : tie.Need-sub-setting-ok
-sub-setting-ok c = search needs
-
-part-setting-ok-start : tie.Need-part-setting-ok-start
-part-setting-ok-start c = search needs
-
 part-setting-ok-end : tie.Need-part-setting-ok-end
 part-setting-ok-end c = omega (arith, (c .features-of) .ensures .0, (c .before .before .before) .pre .long)
 
-setting-ok-requires : tie.Need-setting-ok-requires
-setting-ok-requires c κs = search needs
-
 returns : tie.Need-returns
-returns c = subst (λ (S : List ℕ). Tells ((c .setting-ok) .result) (Valid S ((c .before .before .before .before .before) .args .t .now))) (part-sizes ((c .before .before .before .before .before) .args .s .now) ((c .before .before .features-of) .result) ((c .before .before .features-of) .ensures .0)) ((c .setting-ok) .ensures)
+returns c =
+    subst (λ (S : List ℕ). Tells (c .setting-ok .result) (Valid S (c .before .before .before .before .before .args .t .now)))
+    (part-sizes (c .before .before .before .before .before .args .s .now) (c .before .before .features-of .result) (c .before .before .features-of .ensures .0)) (c .setting-ok .ensures)
 
 pub fits-spec : {M : Type 1} → statement M
 fits-spec =
     tie.close
     (tie.spec
     features-of-requires
-    add-to
-    sub-setting-ok
-    part-setting-ok-start
+    (λ c. search needs)
+    (λ c. search needs)
+    (λ c. search needs)
     part-setting-ok-end
-    setting-ok-requires
+    (λ c κs. search needs)
     returns)

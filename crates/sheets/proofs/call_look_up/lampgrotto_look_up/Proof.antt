@@ -6,18 +6,6 @@ use borrow.Author.Needs.{needs}
 use Rattle.sheets.proofs.call_look_up.lampgrotto_look_up.Statement.{statement}
 use Rattle.sheets.proofs.call_look_up.lampgrotto_look_up.Tie as tie
 
-look-up-requires : tie.Need-look-up-requires
-look-up-requires c κs = search needs
-
-enum-told : tie.Need-enum-told
-enum-told c = search needs
-
-enum-known-outcome : tie.Need-enum-known-outcome
-enum-known-outcome c = search needs
-
-refusal-number-requires : tie.Need-refusal-number-requires
-refusal-number-requires c κs = search needs
-
 add-result : tie.Need-add-result
 add-result c = omega (arith, (c .refusal-number) .ensures, number-most ((c .before .before .outcome) .given .0 .0))
 
@@ -31,10 +19,10 @@ pub lampgrotto-look-up-spec : {M : Type 1} → statement M
 lampgrotto-look-up-spec =
     tie.close
     (tie.spec
-    look-up-requires
-    enum-told
-    enum-known-outcome
-    refusal-number-requires
+    (λ c κs. search needs)
+    (λ c. search needs)
+    (λ c. search needs)
+    (λ c κs. search needs)
     add-result
     returns
     returns-2)

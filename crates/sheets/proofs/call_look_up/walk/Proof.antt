@@ -16,20 +16,29 @@ root-of-requires : tie.Need-root-of-requires Inv-loop μ-loop
 root-of-requires c κs = (c .before .before) .pre .0 .laid .lie
 
 loop-holds : tie.Need-loop-holds Inv-loop μ-loop
-loop-holds c = find-start ((c .before .before .before) .pre .0 .good) ((c .before .before .before) .args .t .now) ((c .before .before .before) .pre .1) ((c .root-of) .result) ((c .root-of) .ensures .0)
+loop-holds c =
+    find-start (c .before .before .before .pre .0 .good) (c .before .before .before .args .t .now) (c .before .before .before .pre .1) (c .root-of .result) (c .root-of .ensures .0)
 
 feature-at-requires : tie.Need-feature-at-requires Inv-loop μ-loop
-feature-at-requires c κs = let a = (c .before .before .before .before .before) in let l = (c .before .loop) in (a .pre .0 .laid, find-node (a .pre .0 .good) (a .args .t .now) (a .pre .1) (l .asked) (l .b) (omega arith) (l .inv))
+feature-at-requires c κs =
+    let a = c .before .before .before .before .before in
+    let l = c .before .loop in (a .pre .0 .laid, find-node (a .pre .0 .good) (a .args .t .now) (a .pre .1) (l .asked) (l .b) (omega arith) (l .inv))
 
 shared-slice-read-wide : tie.Need-shared-slice-read-wide Inv-loop μ-loop
-shared-slice-read-wide c = let a = (c .before .before .before .before .before .before .before) in let l = (c .before .before .before .loop) in find-feature (a .pre .0 .good) (a .args .t .now) (a .pre .1) (l .asked) (l .b) (omega arith) (l .inv) ((c .before .feature-at) .result) ((c .before .feature-at) .ensures .0)
-
-wide-requires : tie.Need-wide-requires Inv-loop μ-loop
-wide-requires c κs = search needs
+shared-slice-read-wide c =
+    let a = c .before .before .before .before .before .before .before in
+    let l = c .before .before .before .loop in find-feature (a .pre .0 .good) (a .args .t .now) (a .pre .1) (l .asked) (l .b) (omega arith) (l .inv)
+    (c .before .feature-at .result) (c .before .feature-at .ensures .0)
 
 branch-at-requires : tie.Need-branch-at-requires Inv-loop μ-loop
-branch-at-requires c κs = let a = (c .before .before .before .before .before .before .before .before) in let l = (c .before .before .before .before .loop) in
-    (a .pre .0 .laid, find-node (a .pre .0 .good) (a .args .t .now) (a .pre .1) (l .asked) (l .b) (omega arith) (l .inv), find-value (a .pre .0 .good) (a .args .t .now) (a .pre .1) (l .asked) (l .b) (omega arith) (l .inv) ((c .before .before .feature-at) .result) ((c .before .before .feature-at) .ensures .0) ((c .wide) .result) ((c .wide) .ensures .0))
+branch-at-requires c κs =
+    let a = c .before .before .before .before .before .before .before .before in
+    let l = c .before .before .before .before .loop in (
+      a .pre .0 .laid,
+      find-node (a .pre .0 .good) (a .args .t .now) (a .pre .1) (l .asked) (l .b) (omega arith) (l .inv),
+      find-value (a .pre .0 .good) (a .args .t .now) (a .pre .1) (l .asked) (l .b) (omega arith) (l .inv) (c .before .before .feature-at .result)
+          (c .before .before .feature-at .ensures .0) (c .wide .result) (c .wide .ensures .0),
+    )
 
 add-asked : tie.Need-add-asked Inv-loop μ-loop
 add-asked c = let a = (c .before .before .before .before .before .before .before .before .before) in let l = (c .before .before .before .before .before .loop) in
@@ -37,15 +46,18 @@ add-asked c = let a = (c .before .before .before .before .before .before .before
     omega (arith, n, a .pre .0 .laid .head .list .few)
 
 loop-less : tie.Need-loop-less Inv-loop μ-loop
-loop-less c = let a = (c .before .before .before .before .before .before .before .before .before) in let l = (c .before .before .before .before .before .loop) in
-    find-less (a .pre .0 .good) (a .args .t .now) (a .pre .1) (l .asked) (l .b) (omega arith) (l .inv) ((c .before .before .before .feature-at) .result) ((c .before .before .before .feature-at) .ensures .0) ((c .before .wide) .result) ((c .before .wide) .ensures .0) ((c .branch-at) .result) ((c .branch-at) .ensures .0)
+loop-less c =
+    let a = c .before .before .before .before .before .before .before .before .before in
+    let l = c .before .before .before .before .before .loop in
+    find-less (a .pre .0 .good) (a .args .t .now) (a .pre .1) (l .asked) (l .b) (omega arith) (l .inv) (c .before .before .before .feature-at .result)
+    (c .before .before .before .feature-at .ensures .0) (c .before .wide .result) (c .before .wide .ensures .0) (c .branch-at .result) (c .branch-at .ensures .0)
 
 loop-again : tie.Need-loop-again Inv-loop μ-loop
-loop-again c = let a = (c .before .before .before .before .before .before .before .before .before) in let l = (c .before .before .before .before .before .loop) in
-    find-on (a .pre .0 .good) (a .args .t .now) (a .pre .1) (l .asked) (l .b) (omega arith) (l .inv) ((c .before .before .before .feature-at) .result) ((c .before .before .before .feature-at) .ensures .0) ((c .before .wide) .result) ((c .before .wide) .ensures .0) ((c .branch-at) .result) ((c .branch-at) .ensures .0)
-
-narrow-requires : tie.Need-narrow-requires Inv-loop μ-loop
-narrow-requires c κs = search needs
+loop-again c =
+    let a = c .before .before .before .before .before .before .before .before .before in
+    let l = c .before .before .before .before .before .loop in
+    find-on (a .pre .0 .good) (a .args .t .now) (a .pre .1) (l .asked) (l .b) (omega arith) (l .inv) (c .before .before .before .feature-at .result)
+    (c .before .before .before .feature-at .ensures .0) (c .before .wide .result) (c .before .wide .ensures .0) (c .branch-at .result) (c .branch-at .ensures .0)
 
 returns : tie.Need-returns Inv-loop μ-loop
 returns c = let a = (c .before .before .before .before .before .before) in let l = (c .before .before .loop) in (
@@ -64,10 +76,10 @@ walk-spec =
     loop-holds
     feature-at-requires
     shared-slice-read-wide
-    wide-requires
+    (λ c κs. search needs)
     branch-at-requires
     add-asked
     loop-less
     loop-again
-    narrow-requires
+    (λ c κs. search needs)
     returns)

@@ -8,40 +8,39 @@ use borrow.Author.Needs.{needs}
 use Rattle.settings.proofs.steps.Setting.inside.Statement.{statement}
 use Rattle.settings.proofs.steps.Setting.inside.Tie as tie
 
-features-ok-requires : tie.Need-features-ok-requires
-features-ok-requires c κs = search needs
-
 returns : tie.Need-returns
 returns c = λ i. denied ((c .before .features-ok) .result) ((c .if1) .taken) ((c .before .features-ok) .ensures) (i .features)
 
-returns-2 : tie.Need-returns-2
-returns-2 c = search needs
-
 array-share-prefix-values : tie.Need-array-share-prefix-values
-array-share-prefix-values c = let h : length ((c .before .before .before .before .before) .args .self .values) ≡ 16 = search needs in
-    let f : FeatureList ((c .before .before .before .before .before) .args .features .now) = granted ((c .before .before .before .features-ok) .result) ((c .before .before .if1) .left) ((c .before .before .before .features-ok) .ensures) in
+array-share-prefix-values c =
+    let h : length (c .before .before .before .before .before .args .self .values) ≡ 16 = search needs in
+    let f : FeatureList (c .before .before .before .before .before .args .features .now) =
+    granted (c .before .before .before .features-ok .result) (c .before .before .if1 .left) (c .before .before .before .features-ok .ensures) in
     omega (arith, f .few)
 
 slice-aggregate-setting-ok : tie.Need-slice-aggregate-setting-ok
-slice-aggregate-setting-ok c = let h : length ((c .before .before .before .before .before .before) .args .self .values) ≡ 16 = search needs in
-    let f : FeatureList ((c .before .before .before .before .before .before) .args .features .now) = granted ((c .before .before .before .before .features-ok) .result) ((c .before .before .before .if1) .left) ((c .before .before .before .before .features-ok) .ensures) in
+slice-aggregate-setting-ok c =
+    let c6 = c .before .before .before .before .before .before in
+    let h : length (c6 .args .self .values) ≡ 16 = search needs in
+    let f : FeatureList (c6 .args .features .now) = granted (c .before .before .before .before .features-ok .result) (c .before .before .before .if1 .left)
+    (c .before .before .before .before .features-ok .ensures) in
     simp length-take (omega (arith, f .few))
 
-setting-ok-requires : tie.Need-setting-ok-requires
-setting-ok-requires c κs = search needs
-
 returns-3 : tie.Need-returns-3
-returns-3 c = let f : FeatureList ((c .before .before .before .before .before .before .before) .args .features .now) = granted ((c .before .before .before .before .before .features-ok) .result) ((c .before .before .before .before .if1) .left) ((c .before .before .before .before .before .features-ok) .ensures) in
-    retell ((c .setting-ok) .result) (λ v. record { features = f; counted = (c .before .before .before .if2) .left; valid = v }) (λ i. i .valid) ((c .setting-ok) .ensures)
+returns-3 c =
+    let c7 = c .before .before .before .before .before .before .before in
+    let f : FeatureList (c7 .args .features .now) = granted (c .before .before .before .before .before .features-ok .result) (c .before .before .before .before .if1 .left)
+    (c .before .before .before .before .before .features-ok .ensures) in
+    retell (c .setting-ok .result) (λ v. record { features = f; counted = c .before .before .before .if2 .left; valid = v }) (λ i. i .valid) (c .setting-ok .ensures)
 
 pub inside-spec : {M : Type 1} → statement M
 inside-spec =
     tie.close
     (tie.spec
-    features-ok-requires
+    (λ c κs. search needs)
     returns
-    returns-2
+    (λ c. search needs)
     array-share-prefix-values
     slice-aggregate-setting-ok
-    setting-ok-requires
+    (λ c κs. search needs)
     returns-3)

@@ -19,26 +19,17 @@ loop-holds : tie.Need-loop-holds Inv-loop μ-loop
 loop-holds c = (omega arith, omega arith, refl, refl)
 
 returns : tie.Need-returns Inv-loop μ-loop
-returns c = filled-short ((c .before .before .before) .args .bytes .now) ((c .before .before .loop) .values) ((c .before .before .loop) .k) (omega arith) (omega arith) (omega arith) ((c .before .before .loop) .inv .3)
-
-shared-slice-read-values : tie.Need-shared-slice-read-values Inv-loop μ-loop
-shared-slice-read-values c = search needs
-
-array-write-values : tie.Need-array-write-values Inv-loop μ-loop
-array-write-values c = search needs
-
-add-k : tie.Need-add-k Inv-loop μ-loop
-add-k c = search needs
-
-loop-less : tie.Need-loop-less Inv-loop μ-loop
-loop-less c = search needs
+returns c =
+    filled-short (c .before .before .before .args .bytes .now) (c .before .before .loop .values) (c .before .before .loop .k) (omega arith) (omega arith) (omega arith)
+    (c .before .before .loop .inv .3)
 
 loop-again : tie.Need-loop-again Inv-loop μ-loop
 loop-again c = (
   omega arith,
   omega arith,
-  length-set ((c .before .before .before .loop) .values) ((c .before .before .before .loop) .k) _ ∙ (c .before .before .before .loop) .inv .2,
-  ap (λ (l : List ℕ). set l ((c .before .before .before .loop) .k) (getD ((c .before .before .before .before) .args .bytes .now) ((c .before .before .before .loop) .k) 0)) ((c .before .before .before .loop) .inv .3) ∙ filled-more ((c .before .before .before .before) .args .bytes .now) ((c .before .before .before .loop) .k) (omega arith) (omega arith),
+  length-set (c .before .before .before .loop .values) (c .before .before .before .loop .k) _ ∙ c .before .before .before .loop .inv .2,
+  ap (λ (l : List ℕ). set l (c .before .before .before .loop .k) (getD (c .before .before .before .before .args .bytes .now) (c .before .before .before .loop .k) 0))
+      (c .before .before .before .loop .inv .3) ∙ filled-more (c .before .before .before .before .args .bytes .now) (c .before .before .before .loop .k) (omega arith) (omega arith),
 )
 
 returns-2 : tie.Need-returns-2 Inv-loop μ-loop
@@ -52,9 +43,9 @@ of-spec =
     μ-loop
     loop-holds
     returns
-    shared-slice-read-values
-    array-write-values
-    add-k
-    loop-less
+    (λ c. search needs)
+    (λ c. search needs)
+    (λ c. search needs)
+    (λ c. search needs)
     loop-again
     returns-2)

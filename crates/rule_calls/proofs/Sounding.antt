@@ -1,0 +1,40 @@
+-- What a sound table gives a call: room, a feature list, roots that are branches, and that a root may be replaced. Assumes nothing.
+use mathlib.Core.Path.{_≡_}
+use mathlib.Core.List.{List}
+use Prim.Native.Nat.{ℕ, _≤_, _<_}
+use native.Mathlib.Omega.{arith}
+use lib.ListN.{length}
+use Rattle.theory.specs.Settings.{FeatureList, Pos}
+use Rattle.theory.specs.WellFormed.{Ok, WF}
+use Rattle.theory.specs.Tally.{tally}
+use Rattle.table_checks.proofs.Pictures.{tested-wf, tested-root, tested-list}
+use Rattle.table_calls.proofs.Sounding.{tested-pos, tested-untidy, tested-tally}
+use Rattle.rule_sound.proofs.Pictures.{read, sound-tested}
+use Rattle.rule_collect.specs.Tidy.{Untidy}
+use Rattle.promises.specs.Words.{count, sizes}
+use Rattle.promises.specs.RuleWords.{decode, ruleNodes as nodes, ruleRoot as root, rulesOf}
+use Rattle.promises.specs.RuleSound.{RuleSound as Sound}
+
+module _ {w : List ℕ} (s : Sound w) where
+  pub sound-long : 8192 ≤ length w
+  sound-long = omega (arith, s .header .room)
+
+  pub sound-list : FeatureList (sizes w)
+  sound-list = tested-list read (sound-tested s)
+
+  pub sound-pos : Pos (sizes w)
+  sound-pos = tested-pos read (sound-tested s)
+
+  pub sound-wf : WF (sizes w) (nodes w)
+  sound-wf = tested-wf read (sound-tested s)
+
+  pub sound-root : (p : ℕ) → p < 32 → Ok (nodes w) 0 (decode (root w p))
+  sound-root = tested-root read (sound-tested s)
+
+  -- a root may be replaced
+  pub sound-untidy : Untidy w
+  sound-untidy = tested-untidy read (sound-tested s)
+
+  -- TALLY: the nodes in use are as many as the distinct rests of all 32 rules
+  pub sound-tally : count w ≡ tally (sizes w) (rulesOf w)
+  sound-tally = tested-tally read (sound-tested s)

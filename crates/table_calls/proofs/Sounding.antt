@@ -1,0 +1,75 @@
+-- What a tested table gives a call, for every kind: it can be built onto, a place may be replaced, and its nodes are tallied. Assumes nothing.
+use mathlib.Core.Path.{_≡_, sym, ap, _∙_}
+use mathlib.Core.List.{List}
+use Prim.Native.Nat.{ℕ}
+use native.Mathlib.Omega.{arith}
+use lib.ListN.{length}
+use Rattle.theory.specs.Diagrams.{Branch, Node}
+use Rattle.theory.specs.Kind.{Kind}
+use Rattle.theory.specs.Settings.{Pos}
+use Rattle.theory.specs.Tally.{tally}
+use Rattle.theory.proofs.Ranges.{features-pos}
+use Rattle.theory.proofs.Rests.{nodes-tally}
+use Rattle.table_words.specs.Holding.{Holds}
+use Rattle.table_words.proofs.Coding.{length-nodes}
+use Rattle.table_records.specs.Laid.{Laid}
+use Rattle.table_records.specs.Nodes.{layoutOf}
+use Rattle.table_checks.proofs.Pictures.{Reading, Read, Tested, tested-wf, tested-root, tested-list, tested-table}
+use Rattle.table_sweep.specs.Form.{Form}
+use Rattle.table_sweep.specs.Tidy.{Untidy}
+use Rattle.promises.specs.Words.{word, count, sizes}
+
+-- the form of the tables that are read so
+abbrev pub formOf : {K : Kind} → Reading K → Form K
+formOf R = record { code = R .going .code; drawing = R .drawing; rootAt = R .rootAt }
+
+module _ {K : Kind} {R : Reading K} (L : Read R) {w : List ℕ} (s : Tested R w) where
+  pub tested-pos : Pos (sizes w)
+  tested-pos = features-pos (sizes w) (tested-list L s)
+
+  laid : Laid w
+  unfolding word
+  laid =
+      let h = s .header in
+      record {
+        room = omega (arith, h .room);
+        within = h .within;
+        most = h .most;
+        few = h .few;
+        large = h .fit .large;
+        tests = λ i l. s .nodes-ok i l .known;
+        links = s .chained .linked .links;
+        heads = s .chained .heads;
+        clean = λ j a b. h .clean .zeros j a (omega arith);
+      }
+
+  -- it can be built onto
+  pub tested-holds : Holds (layoutOf (R .going .code)) w
+  tested-holds = record { laid = record { laid = laid; padded = λ i h. s .nodes-ok i h .padded; spared = s .spared }; wf = tested-wf L s }
+
+  -- a place may be replaced
+  pub tested-untidy : Untidy (formOf R) w
+  tested-untidy =
+      let h = s .header in
+      record {
+        room = h .room;
+        some = h .some;
+        most = h .most;
+        kind-is = h .kind;
+        list = tested-list L s;
+        past-sizes = h .past;
+        within = h .within;
+        shares = h .shares;
+        middle = h .middle;
+        clean = h .clean;
+        wf = tested-wf L s;
+        spared = s .spared;
+        rooted = tested-root L s;
+      }
+
+  -- TALLY: the nodes in use are as many as the distinct rests of all places
+  pub tested-tally : count w ≡ tally (sizes w) (R .drawing .said w)
+  tested-tally =
+      sym (length-nodes (R .going .code) w)
+      ∙ sym (ap (λ (q : List (Branch K) × List (Node K)). length (q .1)) (tested-table L s))
+      ∙ nodes-tally (sizes w) tested-pos (R .drawing .said w)

@@ -1,0 +1,106 @@
+-- A place set in an untidy table: it is untidy again, and the function of that place, and no other, is replaced. Assumes nothing.
+use mathlib.Core.Path.{_≡_, sym, ap, subst, _∙_}
+use mathlib.Core.Logic.{⊎-elim}
+use mathlib.Core.List.{List}
+use Prim.Native.Nat.{ℕ, _+_, _≤_, _<_}
+use native.Mathlib.Omega.{arith}
+use lib.ListN.{length, getD, set, length-set}
+use lib.Seq.{ext-getD, getD-set-same, getD-set-other}
+use Rattle.theory.specs.Diagrams.{Branch, Node, meaning}
+use Rattle.theory.specs.Functions.{Fun, zero-fun}
+use Rattle.theory.specs.Kind.{Kind}
+use Rattle.theory.specs.Settings.{Valid}
+use Rattle.theory.specs.WellFormed.{Ok}
+use Rattle.table_words.specs.Coding.{nodes}
+use Rattle.table_words.specs.Picture.{Becomes}
+use Rattle.table_words.proofs.Tab.{same}
+use Rattle.table_sweep.specs.Form.{Form, Regular, funAt}
+use Rattle.table_sweep.specs.Collecting.{Framed, Steady}
+use Rattle.table_sweep.specs.Tidy.{Untidy, Tidied}
+use Rattle.table_sweep.proofs.Collecting.{untidy-framed}
+use Rattle.table_sweep.proofs.Framing.{same-sizes, same-nodes, steady-framed}
+use Rattle.table_sweep.proofs.Placing.{Placed, replaced-steady}
+use Rattle.table_sweep.proofs.Tidying.{length-said, at-said}
+use Rattle.promises.specs.Words.{head, capacity, features, count, sizes, Zeros}
+
+module _ {K : Kind} {F : Form K} (R : Regular F) {w w′ : List ℕ} {p : ℕ} {b : Branch K} (u : Untidy F w) (hp : p < F .drawing .places) (s : Placed F w w′ p b) where
+  steady : Steady w w′
+  steady = replaced-steady (s .replaced)
+
+  sizes-same : sizes w′ ≡ sizes w
+  sizes-same = same-sizes (R .faithful) (untidy-framed u) steady
+
+  nodes-same : nodes (F .code) w′ ≡ nodes (F .code) w
+  nodes-same = same-nodes (R .faithful) (untidy-framed u) steady
+
+  low : (j : ℕ) → j < 32 → head w′ j ≡ head w j
+  low = s .replaced .low
+
+  zeros : (a e : ℕ) → e ≤ 32 → Zeros w a e → Zeros w′ a e
+  unfolding head
+  zeros a e h z = record { zeros = λ j l g. low j (omega arith) ∙ z .zeros j l g }
+
+  -- what holds of the branch set and of every branch before holds of every branch now
+  each-place : (P : Branch K → Type 0) → P b → ((q : ℕ) → q < F .drawing .places → P (F .rootAt w q)) → (q : ℕ) → q < F .drawing .places → P (F .rootAt w′ q)
+  each-place P x o q h = ⊎-elim
+      (λ e. subst P (sym (ap (F .rootAt w′) e ∙ s .here)) x)
+      (λ e. subst P (sym (s .others q h e)) (o q h))
+      (same q p)
+
+  pub placed-untidy : Ok (nodes (F .code) w) 0 b → Untidy F w′
+  placed-untidy ok =
+      let c : capacity w′ ≡ capacity w = low 1 (omega arith) in
+      let f : features w′ ≡ features w = low 2 (omega arith) in
+      let n : count w′ ≡ count w = low 19 (omega arith) in
+      let k : Framed (F .code) w′ = steady-framed (R .faithful) (untidy-framed u) steady in
+      record {
+        room = k .room;
+        some = omega (arith, u .some);
+        most = k .most;
+        kind-is = low 0 (omega arith) ∙ u .kind-is;
+        list = k .list;
+        past-sizes = rw f (zeros (3 + features w) 19 (omega arith) (u .past-sizes));
+        within = k .within;
+        shares = zeros 20 32 (omega arith) (u .shares);
+        middle = record { zeros = λ j l g. s .replaced .rest j l ∙ u .middle .zeros j l g };
+        clean = record { zeros = λ j l g. s .replaced .rest j (omega arith) ∙ u .clean .zeros j (omega arith) (omega arith) };
+        wf = k .wf;
+        spared = k .spared;
+        rooted = λ q h. subst (λ (N : List (Node K)). Ok N 0 (F .rootAt w′ q)) (sym nodes-same) (each-place (Ok (nodes (F .code) w) 0) ok (u .rooted) q h);
+      }
+
+  pub placed-range : ((r : List ℕ) → Valid (sizes w) r → F .drawing .InRange (meaning (nodes (F .code) w) b r))
+      → ((q : ℕ) → q < F .drawing .places → (r : List ℕ) → Valid (sizes w) r → F .drawing .InRange (funAt F w q r))
+      → (q : ℕ) → q < F .drawing .places → (r : List ℕ) → Valid (sizes w′) r → F .drawing .InRange (funAt F w′ q r)
+  placed-range x o q h r y =
+      subst (λ (N : List (Node K)). F .drawing .InRange (meaning N (F .rootAt w′ q) r)) (sym nodes-same)
+      (each-place (λ c. (r : List ℕ) → Valid (sizes w) r → F .drawing .InRange (meaning (nodes (F .code) w) c r)) x o q h r
+      (subst (λ (S : List ℕ). Valid S r) sizes-same y))
+
+  -- the functions of the places, with that of place p replaced
+  pub placed-said : F .drawing .said w′ ≡ set (F .drawing .said w) p (meaning (nodes (F .code) w) b)
+  placed-said =
+      ext-getD zero-fun (F .drawing .said w′) (set (F .drawing .said w) p g) (length-said R w′ ∙ sym (length-set (F .drawing .said w) p g ∙ length-said R w)) each
+    where
+      g : Fun K
+      g = meaning (nodes (F .code) w) b
+
+      each : (q : ℕ) → q < length (F .drawing .said w′) → getD (F .drawing .said w′) q zero-fun ≡ getD (set (F .drawing .said w) p g) q zero-fun
+      each q h =
+          let hq : q < F .drawing .places = omega (arith, length-said R w′) in
+          at-said R w′ q hq ∙ ap (λ (N : List (Node K)). meaning N (F .rootAt w′ q)) nodes-same
+          ∙ ⊎-elim
+          (λ e. rw e (ap (λ (c : Branch K). meaning (nodes (F .code) w) c) (s .here) ∙ sym (getD-set-same (F .drawing .said w) p g zero-fun (omega (arith, length-said R w)))))
+          (λ e. ap (λ (c : Branch K). meaning (nodes (F .code) w) c) (s .others q hq e) ∙ sym (at-said R w q hq) ∙ sym (getD-set-other (F .drawing .said w) p q g zero-fun e))
+          (same q p)
+
+  -- tidied, it is the table with that function replaced
+  pub finished : (v : List ℕ) → Tidied F w′ v → Becomes (F .drawing) p (meaning (nodes (F .code) w) b) w v
+  finished v t =
+      let c : capacity w′ ≡ capacity w = low 1 (omega arith) in
+      record {
+        long = t .long ∙ s .replaced .long;
+        proper = rw (← placed-said, ← sizes-same, ← c) (t .proper);
+        pictures = rw (← placed-said, ← sizes-same, ← c) (t .pictures);
+        past = λ j h. t .past j (omega arith) ∙ s .replaced .rest j (omega arith);
+      }

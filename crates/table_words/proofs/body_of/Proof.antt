@@ -1,0 +1,44 @@
+-- `table_words::body_of` meets its contract: the words passed stand in the list. Assumes nothing.
+use Rattle.table_words.proofs.Tab.{same}
+use lib.Seq.{getD-set-same, getD-set-other}
+use lib.ListN.{length, getD, length-set}
+use native.Mathlib.Omega.{arith}
+use Prim.Native.Nat.{ℕ, _-_, _≤_, _<_}
+use mathlib.Core.Logic.{⊎-elim}
+use mathlib.Core.Path.{_≡_, _∙_}
+use borrow.Author.Needs.{needs}
+use Rattle.table_words.proofs.body_of.Statement.{statement}
+use Rattle.table_words.proofs.body_of.Tie as tie
+use Rattle.promises.specs.Words.{body}
+
+abbrev Inv-loop : tie.InvT-loop
+Inv-loop t i list₀ v₀ list v = (length list ≡ 12) × (v ≤ 12) × ((u : ℕ) → u < v → getD list u 0 ≡ body t i u)
+
+abbrev μ-loop : tie.MeasureT-loop
+μ-loop t i list₀ v₀ list v = 12 - v
+
+loop-again : tie.Need-loop-again Inv-loop μ-loop
+loop-again c = let l = c .before .before .loop in (
+  simp length-set (l .inv .0),
+  omega arith,
+  (λ u h. ⊎-elim (λ e. rw e (getD-set-same (l .list) _ _ 0 (omega arith) ∙ c .record-word .ensures)) (λ n. getD-set-other (l .list) _ u _ 0 n ∙ l .inv .2 u (omega (arith, n))) (same u (l .v))),
+)
+
+returns : tie.Need-returns Inv-loop μ-loop
+returns c = λ v h. c .before .loop .inv .2 v (omega arith)
+
+pub body-of-spec : {M : Type 1} → statement M
+body-of-spec =
+    tie.close
+    (tie.spec
+    Inv-loop
+    μ-loop
+    (λ c. search needs)
+    (λ c. search needs)
+    (λ c κs. search needs)
+    (λ c. search needs)
+    (λ c. search needs)
+    (λ c. search needs)
+    (λ c. search needs)
+    loop-again
+    returns)
