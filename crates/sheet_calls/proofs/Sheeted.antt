@@ -25,7 +25,7 @@ use Rattle.rule_calls.proofs.Theorems.{copy-fits}
 use Rattle.sheet_bytes.specs.Sheet.{sheetOf, IsSheet}
 use Rattle.sheet_check.proofs.Reading.{sheet-good}
 use Rattle.sheets.proofs.Edge.{sheet-for, room-for}
-use Rattle.sheet_writer.specs.Laid.{Laid}
+use Rattle.sheet_laying.specs.Laid.{Laid}
 use Rattle.sheet_writer.proofs.Parts.{zero-tells}
 
 -- the last of a list

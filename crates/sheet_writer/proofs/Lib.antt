@@ -1,3 +1,3 @@
-pub mod Putting
-pub mod Numbers
+pub mod Joining
 pub mod Parts
+pub mod Walks

@@ -13,9 +13,10 @@ use Rattle.table_words.proofs.Words.{length-sizes}
 use Rattle.rule_words.specs.Words.{branches}
 use Rattle.sheet_bytes.specs.Sections.{two, section, branchesBytes, nodeBytes, nodesBytes, sheetBytes}
 use Rattle.sheet_bytes.specs.Sheet.{branchBytes, sheetOf}
-use Rattle.sheet_writer.specs.Laid.{Laid, Puts}
-use Rattle.sheet_writer.specs.Numbering.{member, renumbered, nodeIn, numbered}
-use Rattle.sheet_writer.proofs.Putting.{puts-same, branches-snoc, length-branches, nodes-snoc, length-node}
+use Rattle.sheet_laying.specs.Laid.{Laid, Puts}
+use Rattle.rule_numbering.specs.Numbering.{member, renumbered, nodeIn, numbered}
+use Rattle.sheet_laying.proofs.Putting.{puts-same}
+use Rattle.sheet_writer.proofs.Joining.{branches-snoc, length-branches, nodes-snoc, length-node}
 use Rattle.promises.specs.Words.{features, size, sizes, feature, body}
 use Rattle.promises.specs.RuleWords.{decode}
 

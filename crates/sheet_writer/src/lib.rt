@@ -1,16 +1,14 @@
 // The sheet of a place's rule, written into bytes.
-mod bytes; // bytes.rt: numbers and branches in bytes
-mod numbering; // numbering.rt: the nodes that a branch reaches, numbered as its sheet has them
 mod writing; // writing.rt: the sections
 
-use crate::numbering::number;
 use crate::writing::put_back;
 use crate::writing::put_front;
 use crate::writing::sheet_length;
+use rule_numbering::number_run;
 use rule_words::root_word;
 ghost use Prim.Native.Nat.{_<_};
 ghost use Rattle.sheet_bytes.specs.Sheet.{sheetOf};
-ghost use Rattle.sheet_writer.specs.Laid.{Laid};
+ghost use Rattle.sheet_laying.specs.Laid.{Laid};
 ghost use Rattle.promises.specs.Words.{sizes};
 ghost use Rattle.promises.specs.RuleWords.{ruleOf};
 ghost use Rattle.promises.specs.RuleSound.{RuleSound as Sound};
@@ -21,12 +19,11 @@ pub fn put_sheet(t: &[u32], place: usize, out: &mut [u8]) -> usize
     ensures { λ r. ⌜ Laid (sheetOf (sizes (now (t .entry))) (ruleOf (now (t .entry)) place)) (now (out .entry)) (now (out .exit)) r ⌝ }
 {
     let mut notes = [0u32; 8192];
-    let b = root_word(t, place);
-    let c = number(t, &mut notes, b, 0);
+    let c = number_run(t, &mut notes, place, 1);
     let n = sheet_length(t, &notes, c);
     if out.len() < n {
         return 0;
     }
     let p = put_front(t, out);
-    put_back(t, &notes, c, b, out, p)
+    put_back(t, &notes, c, root_word(t, place), out, p)
 }

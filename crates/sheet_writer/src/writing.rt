@@ -1,10 +1,10 @@
 // The sections of a sheet, each after the other: the edition and the sizes, the nodes and the root.
-use crate::bytes::put_branch;
-use crate::bytes::put_byte;
-use crate::bytes::put_two;
-use crate::numbering::node_of;
-use crate::numbering::renumber;
-use crate::numbering::width;
+use rule_numbering::node_of;
+use rule_numbering::renumber;
+use rule_numbering::width;
+use sheet_laying::put_branch;
+use sheet_laying::put_byte;
+use sheet_laying::put_two;
 use table_words::features_word;
 use table_words::narrow;
 use table_words::record_word;
@@ -14,18 +14,17 @@ ghost use mathlib.Core.Path.{_≡_};
 ghost use mathlib.Core.List.{[], _∷_, _++_};
 ghost use Prim.Native.Nat.{_+_, _*_, _≤_, _<_};
 ghost use lib.ListN.{length};
-ghost use Rattle.rule_sound.specs.Sound.{Sits};
 ghost use Rattle.sheet_bytes.specs.Sections.{section, branchesBytes, nodeBytes, nodesBytes};
 ghost use Rattle.sheet_bytes.specs.Sheet.{branchBytes};
-ghost use Rattle.sheet_writer.specs.Laid.{Puts};
-ghost use Rattle.sheet_writer.specs.Numbering.{renumbered, nodeIn, numbered, Noted};
+ghost use Rattle.sheet_laying.specs.Laid.{Puts};
+ghost use Rattle.rule_numbering.specs.Walkable.{Walkable, Stands};
+ghost use Rattle.rule_numbering.specs.Numbering.{renumbered, nodeIn, numbered, Noted};
 ghost use Rattle.promises.specs.Words.{features, count, sizes};
 ghost use Rattle.promises.specs.RuleWords.{decode};
-ghost use Rattle.promises.specs.RuleSound.{RuleSound as Sound};
 
 // How many bytes the sheet has whose c nodes have numbers.
 pub fn sheet_length(t: &[u32], notes: &[u32; 8192], c: usize) -> usize
-    requires { ⌜ (Sound (now t)) × (Noted (now t) (now notes) c) ⌝ }
+    requires { ⌜ (Walkable (now t)) × (Noted (now t) (now notes) c) ⌝ }
     ensures { λ r. ⌜ r ≡ 12 + features (now (t .entry)) + length (nodesBytes branchBytes (numbered (now (t .entry)) (now (notes .entry)) c)) ⌝ }
 {
     let mut n = 12 + wide(features_word(t));
@@ -39,7 +38,7 @@ pub fn sheet_length(t: &[u32], notes: &[u32; 8192], c: usize) -> usize
 
 // Writes the sizes at p.
 fn put_sizes(t: &[u32], out: &mut [u8], p: usize) -> usize
-    requires { ⌜ (Sound (now t)) × (p + features (now t) ≤ length (now out)) ⌝ }
+    requires { ⌜ (Walkable (now t)) × (p + features (now t) ≤ length (now out)) ⌝ }
     ensures { λ r. ⌜ Puts (sizes (now (t .entry))) (now (out .entry)) (now (out .exit)) p r ⌝ }
 {
     let n = wide(features_word(t));
@@ -54,7 +53,7 @@ fn put_sizes(t: &[u32], out: &mut [u8], p: usize) -> usize
 
 // Writes the sections of the edition and of the sizes.
 pub fn put_front(t: &[u32], out: &mut [u8]) -> usize
-    requires { ⌜ (Sound (now t)) × (5 + features (now t) ≤ length (now out)) ⌝ }
+    requires { ⌜ (Walkable (now t)) × (5 + features (now t) ≤ length (now out)) ⌝ }
     ensures { λ r. ⌜ Puts (section 1 (1 ∷ []) ++ section (length (sizes (now (t .entry)))) (sizes (now (t .entry)))) (now (out .entry)) (now (out .exit)) 0 r ⌝ }
 {
     let p = put_two(out, 0, 1);
@@ -65,7 +64,7 @@ pub fn put_front(t: &[u32], out: &mut [u8]) -> usize
 
 // Writes node i at p.
 fn put_node(t: &[u32], notes: &[u32; 8192], c: usize, i: usize, out: &mut [u8], p: usize) -> usize
-    requires { ⌜ (Sound (now t)) × (Noted (now t) (now notes) c) × (i < count (now t)) × (p + length (nodeBytes branchBytes (nodeIn (now t) (now notes) i)) ≤ length (now out)) ⌝ }
+    requires { ⌜ (Walkable (now t)) × (Noted (now t) (now notes) c) × (i < count (now t)) × (p + length (nodeBytes branchBytes (nodeIn (now t) (now notes) i)) ≤ length (now out)) ⌝ }
     ensures { λ r. ⌜ Puts (nodeBytes branchBytes (nodeIn (now (t .entry)) (now (notes .entry)) i)) (now (out .entry)) (now (out .exit)) p r ⌝ }
 {
     let m = width(t, i);
@@ -81,7 +80,7 @@ fn put_node(t: &[u32], notes: &[u32; 8192], c: usize, i: usize, out: &mut [u8], 
 
 // Writes the nodes that have numbers at p, in the order of the numbers.
 fn put_nodes(t: &[u32], notes: &[u32; 8192], c: usize, out: &mut [u8], p: usize) -> usize
-    requires { ⌜ (Sound (now t)) × (Noted (now t) (now notes) c) × (p + length (nodesBytes branchBytes (numbered (now t) (now notes) c)) ≤ length (now out)) ⌝ }
+    requires { ⌜ (Walkable (now t)) × (Noted (now t) (now notes) c) × (p + length (nodesBytes branchBytes (numbered (now t) (now notes) c)) ≤ length (now out)) ⌝ }
     ensures { λ r. ⌜ Puts (nodesBytes branchBytes (numbered (now (t .entry)) (now (notes .entry)) c)) (now (out .entry)) (now (out .exit)) p r ⌝ }
 {
     let mut q = p;
@@ -95,7 +94,7 @@ fn put_nodes(t: &[u32], notes: &[u32; 8192], c: usize, out: &mut [u8], p: usize)
 
 // Writes the sections of the nodes and of the root at p.
 pub fn put_back(t: &[u32], notes: &[u32; 8192], c: usize, b: u32, out: &mut [u8], p: usize) -> usize
-    requires { ⌜ (Sound (now t)) × (Noted (now t) (now notes) c) × (Sits (now t) (count (now t)) 0 b)
+    requires { ⌜ (Walkable (now t)) × (Noted (now t) (now notes) c) × (Stands (now t) b)
         × (p + 7 + length (nodesBytes branchBytes (numbered (now t) (now notes) c)) ≤ length (now out)) ⌝ }
     ensures { λ r. ⌜ Puts (section (length (numbered (now (t .entry)) (now (notes .entry)) c))
         (nodesBytes branchBytes (numbered (now (t .entry)) (now (notes .entry)) c)) ++ section 1

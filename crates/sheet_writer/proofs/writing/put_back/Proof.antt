@@ -3,17 +3,17 @@ use mathlib.Core.Path.{sym, _∙_}
 use native.Mathlib.Omega.{arith}
 use borrow.Author.Needs.{needs}
 use Rattle.sheet_bytes.specs.Sections.{section}
-use Rattle.sheet_writer.proofs.Numbers.{count-most, noted-most, word-small, length-numbered}
+use Rattle.rule_numbering.proofs.Numbers.{noted-most, stands-below, word-small, length-numbered}
 use Rattle.sheet_writer.proofs.Parts.{root-bytes}
-use Rattle.sheet_writer.proofs.Putting.{puts-after, puts-same, puts-long, length-two}
+use Rattle.sheet_laying.proofs.Putting.{puts-after, puts-same, puts-long, length-two}
 use Rattle.sheet_writer.proofs.writing.put_back.Statement.{statement}
 use Rattle.sheet_writer.proofs.writing.put_back.Tie as tie
 
 narrow-requires : tie.Need-narrow-requires
-narrow-requires c κs = let a = (c .before .before .before) in omega (arith, count-most (a .pre .0), noted-most (a .pre .0) (a .pre .1))
+narrow-requires c κs = let a = (c .before .before .before) in omega (arith, a .pre .0 .most, noted-most (a .pre .0) (a .pre .1))
 
 put-two-requires : tie.Need-put-two-requires
-put-two-requires c κs = let a = (c .before .before .before .before) in (omega (arith, a .pre .3), omega (arith, (c .narrow) .ensures, count-most (a .pre .0), noted-most (a .pre .0) (a .pre .1)))
+put-two-requires c κs = let a = (c .before .before .before .before) in (omega (arith, a .pre .3), omega (arith, (c .narrow) .ensures, a .pre .0 .most, noted-most (a .pre .0) (a .pre .1)))
 
 put-nodes-requires : tie.Need-put-nodes-requires
 put-nodes-requires c κs = let a = (c .before .before .before .before .before .before .before .before) in let p = (c .before .before .before .put-two) .ensures in
@@ -27,7 +27,7 @@ put-two-requires-2 c κs =
 
 renumber-requires : tie.Need-renumber-requires
 renumber-requires c κs = let a = (c .before .before .before .before .before .before .before .before .before .before .before .before .before .before .before .before) in
-    (a .pre .1 .long, omega (arith, a .pre .2 .below, count-most (a .pre .0)), word-small (a .pre .0) (a .pre .1) (a .args .b) (a .pre .2 .below))
+    let o = stands-below (a .pre .0) (a .args .b) (a .pre .2) in (a .pre .1 .long, omega (arith, a .pre .0 .most), word-small (a .pre .0) (a .pre .1) (a .args .b) o)
 
 put-branch-requires : tie.Need-put-branch-requires
 put-branch-requires c κs =
@@ -35,7 +35,7 @@ put-branch-requires c κs =
     let a = c13 .before .before .before .before in
     let p = c12 .put-two .ensures in let q = c8 .put-nodes .ensures in let r = c .before .before .before .before .put-two2 .ensures in (
       omega (arith, p .ends, length-two (c13 .narrow .result), puts-long p, q .ends, puts-long q, r .ends, length-two 1, puts-long r, a .pre .3),
-      omega (arith, c .renumber .ensures, word-small (a .pre .0) (a .pre .1) (a .args .b) (a .pre .2 .below)),
+      omega (arith, c .renumber .ensures, word-small (a .pre .0) (a .pre .1) (a .args .b) (stands-below (a .pre .0) (a .args .b) (a .pre .2))),
     )
 
 returns : tie.Need-returns

@@ -3,8 +3,9 @@ use mathlib.Core.Path.{sym, _∙_}
 use native.Mathlib.Omega.{arith}
 use borrow.Author.Needs.{needs}
 use Rattle.table_words.proofs.Words.{length-sizes}
+use Rattle.rule_numbering.proofs.Numbers.{few}
 use Rattle.sheet_bytes.specs.Sections.{section}
-use Rattle.sheet_writer.proofs.Putting.{puts-after, puts-long, length-two}
+use Rattle.sheet_laying.proofs.Putting.{puts-after, puts-long, length-two}
 use Rattle.sheet_writer.proofs.writing.put_front.Statement.{statement}
 use Rattle.sheet_writer.proofs.writing.put_front.Tie as tie
 
@@ -17,7 +18,7 @@ put-two-requires-2 : tie.Need-put-two-requires-2
 put-two-requires-2 c κs =
     let c8 = c .before .before .before .before .before .before .before .before in let c12 = c8 .before .before .before .before in
     let p = c8 .put-two .ensures in let q = c .before .before .before .before .put-byte .ensures in let s = c12 .pre .0 in
-    (omega (arith, p .ends, length-two 1, puts-long p, q .ends, puts-long q, c12 .pre .1), omega (arith, c .features-word .ensures, s .header .few))
+    (omega (arith, p .ends, length-two 1, puts-long p, q .ends, puts-long q, c12 .pre .1), omega (arith, c .features-word .ensures, few s))
 
 put-sizes-requires : tie.Need-put-sizes-requires
 put-sizes-requires c κs =

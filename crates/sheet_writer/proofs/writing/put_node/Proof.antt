@@ -4,9 +4,9 @@ use Prim.Native.Nat.{_-_, _≤_, _<_}
 use native.Mathlib.Omega.{arith}
 use lib.ListN.{length}
 use borrow.Author.Needs.{needs}
-use Rattle.sheet_writer.specs.Laid.{Puts}
-use Rattle.sheet_writer.proofs.Numbers.{count-most, branch-below, word-small}
-use Rattle.sheet_writer.proofs.Putting.{puts-none, puts-after, puts-same, puts-long}
+use Rattle.sheet_laying.specs.Laid.{Puts}
+use Rattle.rule_numbering.proofs.Numbers.{few, known, branch-below, word-small}
+use Rattle.sheet_laying.proofs.Putting.{puts-none, puts-after, puts-same, puts-long}
 use Rattle.sheet_writer.proofs.Parts.{begun, begun-none, begun-more, begun-all, length-begun, length-in}
 use Rattle.sheet_writer.proofs.writing.put_node.Statement.{statement}
 use Rattle.sheet_writer.proofs.writing.put_node.Tie as tie
@@ -21,14 +21,14 @@ abbrev μ-loop : tie.MeasureT-loop
 record-word-requires : tie.Need-record-word-requires Inv-loop μ-loop
 record-word-requires c κs =
     let a = c .before .before .before .before in
-    let s = a .pre .0 in (omega (arith, s .header .room, s .header .within, a .pre .2), omega (arith, count-most s, a .pre .2), omega arith)
+    let s = a .pre .0 in (omega (arith, s .room, a .pre .2), omega (arith, s .most, a .pre .2), omega arith)
 
 put-byte-requires : tie.Need-put-byte-requires Inv-loop μ-loop
 put-byte-requires c κs =
     let a = c .before .before .before .before .before in
     let s = a .pre .0 in (
       omega (arith, a .pre .3, length-in (a .args .t .now) (a .args .notes .now) (a .args .i)),
-      omega (arith, c .record-word .ensures, s .nodes-ok .each (a .args .i) (a .pre .2) .known, s .header .few),
+      omega (arith, c .record-word .ensures, known s (a .args .i) (a .pre .2), few s),
     )
 
 loop-holds : tie.Need-loop-holds Inv-loop μ-loop
@@ -39,13 +39,13 @@ record-word-requires-2 : tie.Need-record-word-requires-2 Inv-loop μ-loop
 record-word-requires-2 c κs =
     let c7 = c .before .before .before .before .before .before .before in let a = c7 .before .before .before in
     let s = a .pre .0 in let l = c .before .loop in
-    (omega (arith, s .header .room, s .header .within, a .pre .2, c7 .width .ensures .1), omega (arith, count-most s, a .pre .2), omega (arith, c7 .width .ensures .1))
+    (omega (arith, s .room, a .pre .2, c7 .width .ensures .1), omega (arith, s .most, a .pre .2), omega (arith, c7 .width .ensures .1))
 
 renumber-requires : tie.Need-renumber-requires Inv-loop μ-loop
 renumber-requires c κs = let a = (c .before .before .before .before .before .before .before .before .before .before .before) in let s = a .pre .0 in let l = (c .before .before .loop) in
     let hv : l .v < size (a .args .t .now) (feature (a .args .t .now) (a .args .i)) = omega arith in
     let b = branch-below s (a .args .i) (l .v) (a .pre .2) hv in
-    (a .pre .1 .long, omega (arith, (c .record-word2) .ensures, count-most s, a .pre .2), word-small s (a .pre .1) ((c .record-word2) .result) (omega (arith, (c .record-word2) .ensures, a .pre .2)))
+    (a .pre .1 .long, omega (arith, (c .record-word2) .ensures, s .most, a .pre .2), word-small s (a .pre .1) ((c .record-word2) .result) (omega (arith, (c .record-word2) .ensures, a .pre .2)))
 
 put-branch-requires : tie.Need-put-branch-requires Inv-loop μ-loop
 put-branch-requires c κs =

@@ -6,11 +6,11 @@ use lib.ListN.{length}
 use borrow.Author.Needs.{needs}
 use Rattle.sheet_bytes.specs.Sections.{nodesBytes}
 use Rattle.sheet_bytes.specs.Sheet.{branchBytes}
-use Rattle.sheet_writer.specs.Numbering.{numbered}
-use Rattle.sheet_writer.specs.Laid.{Puts}
-use Rattle.sheet_writer.proofs.Numbers.{count-most, noted-most}
+use Rattle.rule_numbering.specs.Numbering.{numbered}
+use Rattle.sheet_laying.specs.Laid.{Puts}
+use Rattle.rule_numbering.proofs.Numbers.{noted-most}
 use Rattle.sheet_writer.proofs.Parts.{length-in, bytes-none, bytes-more, length-more, length-fewer}
-use Rattle.sheet_writer.proofs.Putting.{puts-none, puts-after, puts-same, puts-long}
+use Rattle.sheet_laying.proofs.Putting.{puts-none, puts-after, puts-same, puts-long}
 use Rattle.sheet_writer.proofs.writing.put_nodes.Statement.{statement}
 use Rattle.sheet_writer.proofs.writing.put_nodes.Tie as tie
 use Rattle.promises.specs.Words.{size, feature}
@@ -25,7 +25,7 @@ loop-holds : tie.Need-loop-holds Inv-loop μ-loop
 loop-holds c = let a = (c .before .before) in (omega arith, puts-same (sym (bytes-none (a .args .t .now) (a .args .notes .now))) (puts-none _ _), refl)
 
 node-of-requires : tie.Need-node-of-requires Inv-loop μ-loop
-node-of-requires c κs = let a = (c .before .before .before .before) in let l = (c .before .loop) in (a .pre .1 .long, omega (arith, count-most (a .pre .0), noted-most (a .pre .0) (a .pre .1)))
+node-of-requires c κs = let a = (c .before .before .before .before) in let l = (c .before .loop) in (a .pre .1 .long, omega (arith, a .pre .0 .most, noted-most (a .pre .0) (a .pre .1)))
 
 put-node-requires : tie.Need-put-node-requires Inv-loop μ-loop
 put-node-requires c κs =

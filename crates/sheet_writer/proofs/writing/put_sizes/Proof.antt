@@ -6,8 +6,9 @@ use native.Mathlib.Numerals.{add-one}
 use lib.ListN.{length}
 use borrow.Author.Needs.{needs}
 use Rattle.table_words.proofs.Tab.{tab-none, tab-snoc, length-tab}
-use Rattle.sheet_writer.specs.Laid.{Puts}
-use Rattle.sheet_writer.proofs.Putting.{puts-none, puts-after, puts-same, puts-long}
+use Rattle.rule_numbering.proofs.Numbers.{few, size-most}
+use Rattle.sheet_laying.specs.Laid.{Puts}
+use Rattle.sheet_laying.proofs.Putting.{puts-none, puts-after, puts-same, puts-long}
 use Rattle.sheet_writer.proofs.writing.put_sizes.Statement.{statement}
 use Rattle.sheet_writer.proofs.writing.put_sizes.Tie as tie
 use Rattle.promises.specs.Words.{features, size, sizes}
@@ -23,12 +24,12 @@ loop-holds : tie.Need-loop-holds Inv-loop μ-loop
 loop-holds c = ((c .wide) .ensures .0 ∙ (c .before .features-word) .ensures, omega arith, rw tab-none (puts-none _ _), refl)
 
 size-word-requires : tie.Need-size-word-requires Inv-loop μ-loop
-size-word-requires c κs = let s = (c .before .before .before .before .before .before .before) .pre .0 in omega (arith, s .header .few, s .header .room)
+size-word-requires c κs = let s = (c .before .before .before .before .before .before .before) .pre .0 in omega (arith, few s, s .room)
 
 put-byte-requires : tie.Need-put-byte-requires Inv-loop μ-loop
 put-byte-requires c κs = let a = (c .before .before .before .before .before .before .before .before) in let s = a .pre .0 in let l = (c .before .before .before .loop) in
     let h : l .k < features (a .args .t .now) = omega arith in
-    (omega (arith, l .inv .2 .ends, length-tab (size (a .args .t .now)) (l .k), l .inv .3, a .pre .1), omega (arith, (c .size-word) .ensures, s .header .fit .large (l .k) h .1))
+    (omega (arith, l .inv .2 .ends, length-tab (size (a .args .t .now)) (l .k), l .inv .3, a .pre .1), omega (arith, (c .size-word) .ensures, size-most s (l .k) h))
 
 loop-again : tie.Need-loop-again Inv-loop μ-loop
 loop-again c =

@@ -6,8 +6,8 @@ use lib.ListN.{length}
 use borrow.Author.Needs.{needs}
 use Rattle.sheet_bytes.specs.Sections.{nodesBytes}
 use Rattle.sheet_bytes.specs.Sheet.{branchBytes}
-use Rattle.sheet_writer.specs.Numbering.{member, numbered}
-use Rattle.sheet_writer.proofs.Numbers.{count-most, noted-most}
+use Rattle.rule_numbering.specs.Numbering.{member, numbered}
+use Rattle.rule_numbering.proofs.Numbers.{few, noted-most}
 use Rattle.sheet_writer.proofs.Parts.{bytes-none, length-more}
 use Rattle.sheet_writer.proofs.writing.sheet_length.Statement.{statement}
 use Rattle.sheet_writer.proofs.writing.sheet_length.Tie as tie
@@ -20,19 +20,19 @@ abbrev μ-loop : tie.MeasureT-loop
 μ-loop t notes c n₀ j₀ n j = c - j
 
 add-n : tie.Need-add-n Inv-loop μ-loop
-add-n c = let s = (c .before .before .before) .pre .0 in omega (arith, s .header .few, (c .before .features-word) .ensures)
+add-n c = let s = (c .before .before .before) .pre .0 in omega (arith, few s, (c .before .features-word) .ensures)
 
 loop-holds : tie.Need-loop-holds Inv-loop μ-loop
 loop-holds c =
     let a = c .before .before .before in
     let s = a .pre .0 in
-    (omega arith, omega (arith, c .before .features-word .ensures, ap length (bytes-none (a .args .t .now) (a .args .notes .now))), omega (arith, s .header .few, c .before .features-word .ensures))
+    (omega arith, omega (arith, c .before .features-word .ensures, ap length (bytes-none (a .args .t .now) (a .args .notes .now))), omega (arith, few s, c .before .features-word .ensures))
 
 add-n-2 : tie.Need-add-n-2 Inv-loop μ-loop
-add-n-2 c = let a = (c .before .before .before .before .before) in let l = (c .before .loop) in omega (arith, l .inv .2, count-most (a .pre .0), noted-most (a .pre .0) (a .pre .1))
+add-n-2 c = let a = (c .before .before .before .before .before) in let l = (c .before .loop) in omega (arith, l .inv .2, a .pre .0 .most, noted-most (a .pre .0) (a .pre .1))
 
 node-of-requires : tie.Need-node-of-requires Inv-loop μ-loop
-node-of-requires c κs = let a = (c .before .before .before .before .before) in let l = (c .before .loop) in (a .pre .1 .long, omega (arith, count-most (a .pre .0), noted-most (a .pre .0) (a .pre .1)))
+node-of-requires c κs = let a = (c .before .before .before .before .before) in let l = (c .before .loop) in (a .pre .1 .long, omega (arith, a .pre .0 .most, noted-most (a .pre .0) (a .pre .1)))
 
 width-requires : tie.Need-width-requires Inv-loop μ-loop
 width-requires c κs =
@@ -45,7 +45,7 @@ mul-n c = omega (arith, (c .width) .ensures .1)
 add-n-3 : tie.Need-add-n-3 Inv-loop μ-loop
 add-n-3 c =
     let a = c .before .before .before .before .before .before .before in
-    let l = c .before .before .before .loop in omega (arith, c .width .ensures .1, l .inv .2, count-most (a .pre .0), noted-most (a .pre .0) (a .pre .1))
+    let l = c .before .before .before .loop in omega (arith, c .width .ensures .1, l .inv .2, a .pre .0 .most, noted-most (a .pre .0) (a .pre .1))
 
 loop-again : tie.Need-loop-again Inv-loop μ-loop
 loop-again c =

@@ -5,29 +5,27 @@ use mathlib.Core.List.{List, [], _∷_, _++_}
 use Prim.Native.Nat.{ℕ, suc, _+_, _-_, _≤_, _<_}
 use native.Mathlib.Omega.{arith}
 use borrow.Author.Tests.{lt-ltb, le-ltb}
-use lib.ListN.{length, getD, set, length-set}
+use lib.ListN.{length, set, length-set}
 use lib.Seq.{getD-set-same, getD-set-other}
-use Rattle.theory.specs.Build.{build}
 use Rattle.theory.specs.Copying.{Copies, Half, Lists, Twin}
 use Rattle.theory.specs.Diagrams as D
 use Rattle.theory.specs.Diagrams.{at}
 use Rattle.theory.specs.Rules.{Branch, Node}
 use Rattle.theory.specs.Settings.{Pos}
-use Rattle.theory.specs.WellFormed.{WF}
+use Rattle.theory.specs.WellFormed.{Under}
 use Rattle.theory.proofs.Copying.{copies-leaf, copies-twin, copies-new, lists-none, lists-more, half-none, half-new, marked-le, marked-lt, marked-more, marked-none}
+use Rattle.theory.proofs.Lists.{pos-of}
+use Rattle.theory.proofs.WellFormed.{under-weaken}
 use Rattle.table_words.proofs.Tab.{split, tab-none, tab-snoc, tab-ext, length-tab}
-use Rattle.table_words.proofs.Words.{pos-sizes}
+use Rattle.table_words.proofs.Words.{length-sizes, at-sizes}
 use Rattle.rule_words.specs.Words.{branches}
-use Rattle.rule_words.proofs.Reading.{decode-phrase, decode-index, length-nodes, at-nodes, branch-at}
-use Rattle.rule_sound.specs.Sound.{Sits}
-use Rattle.rule_sound.proofs.Pictures.{ordered}
-use Rattle.rule_sound.proofs.Sitting.{ordered-wf, sits-ok}
-use Rattle.rule_sound.proofs.Walking.{sits-branch}
-use Rattle.sheet_writer.specs.Numbering.{mark, member, renumbered, Has, nodeIn, numbered, Noted, Numbers, Numbering}
+use Rattle.rule_words.proofs.Reading.{decode-phrase, decode-index, under-word, length-nodes, at-nodes, branch-at}
+use Rattle.rule_numbering.specs.Walkable.{Walkable, Stands}
+use Rattle.rule_numbering.specs.Numbering.{mark, member, renumbered, Has, nodeIn, numbered, Noted, Numbers, Numbering}
+use Rattle.rule_numbering.specs.Running.{Blank}
 use Rattle.promises.specs.Tab.{tab}
-use Rattle.promises.specs.Words.{size, count, sizes, feature, body}
-use Rattle.promises.specs.RuleWords.{decode, ruleNodes as nodes, ruleRoot as root, ruleOf}
-use Rattle.promises.specs.RuleSound.{RuleSound as Sound}
+use Rattle.promises.specs.Words.{features, size, count, sizes, feature, body}
+use Rattle.promises.specs.RuleWords.{decode, ruleNodes as nodes}
 
 -- ---- words renumbered
 pub renumbered-phrase : (n : List ℕ) (b : ℕ) → b < 65536 → renumbered n b ≡ b
@@ -39,36 +37,54 @@ unfolding renumbered
 renumbered-node n b h = rw (le-ltb b 65536 h)
 
 -- a node that keeps its number keeps its word
-renumbered-kept : (n n′ : List ℕ) (b : ℕ) → (65536 ≤ b → mark n′ (b - 65536) ≡ mark n (b - 65536)) → renumbered n′ b ≡ renumbered n b
+pub renumbered-kept : (n n′ : List ℕ) (b : ℕ) → (65536 ≤ b → mark n′ (b - 65536) ≡ mark n (b - 65536)) → renumbered n′ b ≡ renumbered n b
 renumbered-kept n n′ b k = ⊎-elim
     (λ h. renumbered-phrase n′ b h ∙ sym (renumbered-phrase n b h))
     (λ h. renumbered-node n′ b h ∙ ap (λ (x : ℕ). 65535 + x) (k h) ∙ sym (renumbered-node n b h))
     (split b 65536)
 
+pub numbered-none : (w n : List ℕ) → numbered w n 0 ≡ []
+unfolding numbered
+numbered-none w n = tab-none (λ j. nodeIn w n (member n j))
+
 pub length-numbered : (w n : List ℕ) (c : ℕ) → length (numbered w n c) ≡ c
 unfolding numbered
 length-numbered w n c = length-tab (λ j. nodeIn w n (member n j)) c
 
--- ---- a sound table
-module _ {w : List ℕ} (s : Sound w) where
-  positive : Pos (sizes w)
-  positive = pos-sizes w (λ k h. omega (arith, s .header .fit .large k h .0))
+-- ---- a table that can be walked
+module _ {w : List ℕ} (s : Walkable w) where
+  pub positive : Pos (sizes w)
+  positive = pos-of (sizes w) (λ k h. omega (arith, s .list .least k h))
 
-  well : WF (sizes w) (nodes w)
-  well = ordered-wf (ordered s)
+  pub few : features w ≤ 16
+  few = omega (arith, s .list .few, length-sizes w)
 
-  pub count-most : count w ≤ 4096
-  count-most = omega (arith, s .header .within, s .header .most)
+  pub known : (i : ℕ) → i < count w → feature w i < features w
+  known i h =
+      let k = s .wf .fits i (omega (arith, length-nodes w)) .known in
+      omega (arith, ap (λ (x : Node). x .feature) (at-nodes w i h), length-sizes w)
+
+  pub size-most : (k : ℕ) → k < features w → size w k ≤ 8
+  size-most k h = omega (arith, s .list .most k (omega (arith, length-sizes w)), at-sizes w k h)
 
   pub sized : (i : ℕ) → i < count w → size w (feature w i) ≤ 8
-  sized i h = s .header .fit .large (feature w i) (s .nodes-ok .each i h .known) .1
+  sized i h = size-most (feature w i) (known i h)
+
+  -- a word that says a branch of the table is below the words past its nodes
+  pub stands-below : (b : ℕ) → Stands w b → b < 65536 + count w
+  stands-below b o = omega (arith, under-word (nodes w) (length (nodes w)) 0 b o, length-nodes w)
+
+  branch-under : (i v : ℕ) → i < count w → v < size w (feature w i) → Under (nodes w) i (suc (at (nodes w) i .feature)) (decode (body w i v) .to)
+  branch-under i v h hv =
+      subst (λ (b : Branch). Under (nodes w) i (suc (at (nodes w) i .feature)) (b .to)) (branch-at w i v h hv) (s .wf .fits i (omega (arith, length-nodes w)) .lower v)
 
   -- branch v of node i says a node before i
   pub branch-below : (i v : ℕ) → i < count w → v < size w (feature w i) → body w i v < 65536 + i
-  branch-below i v h hv = sits-branch (ordered s) i v h hv refl .1
+  branch-below i v h hv = under-word (nodes w) i (suc (at (nodes w) i .feature)) (body w i v) (branch-under i v h hv)
 
-  pub branch-sits : (i v : ℕ) → i < count w → v < size w (feature w i) → Sits w (count w) 0 (body w i v)
-  branch-sits i v h hv = sits-branch (ordered s) i v h hv refl .0
+  pub branch-stands : (i v : ℕ) → i < count w → v < size w (feature w i) → Stands w (body w i v)
+  branch-stands i v h hv =
+      under-weaken (nodes w) i (length (nodes w)) (suc (at (nodes w) i .feature)) 0 (decode (body w i v) .to) (omega (arith, length-nodes w)) (omega arith) (branch-under i v h hv)
 
   module _ {n : List ℕ} {c : ℕ} (d : Noted w n c) where
     pub noted-most : c ≤ count w
@@ -82,11 +98,11 @@ module _ {w : List ℕ} (s : Sound w) where
         (λ l. omega arith)
         (split 0 (mark n i))
 
-    -- the sheet's words fit three bytes
+    -- words by numbers fit three bytes
     pub word-small : (b : ℕ) → b < 65536 + count w → renumbered n b < 131072
     word-small b h = ⊎-elim
         (λ l. omega (arith, renumbered-phrase n b l))
-        (λ l. omega (arith, renumbered-node n b l, mark-most (b - 65536) (omega arith), noted-most, count-most))
+        (λ l. omega (arith, renumbered-node n b l, mark-most (b - 65536) (omega arith), noted-most, s .most))
         (split b 65536)
 
     -- ---- a phrase, and a node that has a number
@@ -109,7 +125,7 @@ module _ {w : List ℕ} (s : Sound w) where
         ∙ (let u : 65535 + mark n i ≡ 65536 + (mark n i - 1) = omega arith in u) in
         record {
           noted = d;
-          copied = rw (decode-index b i e, decode-index (renumbered n b) (mark n i - 1) z) (copies-twin positive well (d .half .wf) t);
+          copied = rw (decode-index b i e, decode-index (renumbered n b) (mark n i - 1) z) (copies-twin positive (s .wf) (d .half .wf) t);
           has = λ l. rw y p;
           kept = λ x hx l. refl;
           later = λ x hx l. refl;
@@ -143,7 +159,7 @@ module _ {w : List ℕ} (s : Sound w) where
         record {
           noted = e .noted;
           listed = subst (λ (bs : List Branch). Lists (sizes w) (nodes w) i (numbered w n c) (suc v) bs (numbered w t′ r)) list-more
-              (lists-more well (omega (arith, length-nodes w)) (m .listed) refl (rw (branch-at w i v h hv) (e .copied)));
+              (lists-more (s .wf) (omega (arith, length-nodes w)) (m .listed) refl (rw (branch-at w i v h hv) (e .copied)));
           has = has-more;
           kept = λ x hx l. let y = m .kept x hx l in e .kept x hx (omega arith) ∙ y;
           later = λ x hx l. e .later x hx (omega (arith, branch-below i v h hv)) ∙ m .later x hx l;
@@ -163,23 +179,23 @@ module _ {w : List ℕ} (s : Sound w) where
 
     mark-new : mark now-notes i ≡ suc d
     mark-new =
-        let q = count-most in
+        let q = s .most in
         getD-set-other (set t i (d + 1)) (4096 + d) i i 0 (omega arith) ∙ getD-set-same t i (d + 1) 0 (omega (arith, m .noted .long)) ∙ (let e : d + 1 ≡ suc d = omega arith in e)
 
     mark-other : (x : ℕ) → x < count w → (x ≡ i → ⊥) → mark now-notes x ≡ mark t x
     mark-other x hx p =
-        let q = count-most in
+        let q = s .most in
         getD-set-other (set t i (d + 1)) (4096 + d) x i 0 (omega arith) ∙ getD-set-other t i x (d + 1) 0 p
 
     member-new : member now-notes d ≡ i
     member-new =
-        let q = count-most in
+        let q = s .most in
         let l = numbers-left in
         getD-set-same (set t i (d + 1)) (4096 + d) i 0 (simp length-set (omega (arith, m .noted .long)))
 
     member-old : (j : ℕ) → j < d → member now-notes j ≡ member t j
     member-old j hj =
-        let q = count-most in
+        let q = s .most in
         getD-set-other (set t i (d + 1)) (4096 + d) (4096 + j) i 0 (omega arith) ∙ getD-set-other t i (4096 + j) (d + 1) 0 (omega arith)
 
     -- what had a number keeps it
@@ -229,11 +245,11 @@ module _ {w : List ℕ} (s : Sound w) where
         (m .listed)
 
     now-copied : Copies (sizes w) (nodes w) (D.node i) (numbered w n c) (D.node (length (numbered w t d))) (numbered w t d ++ (new ∷ []))
-    now-copied = copies-new positive well (was .half .wf) there (m .noted .half) unmarked all-listed
+    now-copied = copies-new positive (s .wf) (was .half .wf) there (m .noted .half) unmarked all-listed
 
     now-half : Half (sizes w) (nodes w) (numbered w t d ++ (new ∷ [])) (mark now-notes)
     now-half =
-        half-new positive well (was .half .wf) there (m .noted .half) unmarked all-listed
+        half-new positive (s .wf) (was .half .wf) there (m .noted .half) unmarked all-listed
         (mark-new ∙ ap suc (sym (length-numbered w t d))) (λ x hx p. mark-other x (omega (arith, length-nodes w)) p)
 
     now-inside : (j : ℕ) → j < d + 1 → member now-notes j < count w
@@ -274,23 +290,15 @@ module _ {w : List ℕ} (s : Sound w) where
           later = λ x hx l. mark-other x hx (omega arith) ∙ m .later x hx (omega arith);
         }
 
-  -- ---- the first and the last
-  pub noted-none : (n : List ℕ) → length n ≡ 8192 → ((x : ℕ) → x < 8192 → getD n x 0 ≡ 0) → Noted w n 0
-  unfolding numbered
-  noted-none n e z =
-      let q = count-most in
-      let y : (x : ℕ) → x < count w → mark n x ≡ 0 = λ x hx. z x (omega arith) in
+  -- ---- before the first
+  pub noted-none : {n : List ℕ} → Blank n → Noted w n 0
+  noted-none {n} b =
+      let q = s .most in
+      let y : (x : ℕ) → x < count w → mark n x ≡ 0 = λ x hx. b .zeros .zeros x (omega arith) (omega arith) in
       record {
-        long = e;
-        half = rw tab-none (half-none (λ x hx. y x (omega (arith, length-nodes w))));
+        long = b .long;
+        half = rw numbered-none (half-none (λ x hx. y x (omega (arith, length-nodes w))));
         tallied = sym (marked-none (mark n) (count w) y);
         inside = λ j hj. absurd (omega arith);
         whole = λ j v hj. absurd (omega arith);
       }
-
-  -- from nothing it is what building the place's rule gives
-  pub built : (p b c : ℕ) (n n′ : List ℕ) → p < 32 → b ≡ root w p → Numbers w n n′ b 0 c →
-      build 0 (sizes w) (ruleOf w p) [] ≡ (decode (renumbered n′ b), numbered w n′ c)
-  unfolding numbered
-  built p b c n n′ h e m = rw tab-none at (subst (λ (x : ℕ). build 0 (sizes w) (D.value (nodes w) 0 (decode x)) (numbered w n 0) ≡ (decode (renumbered n′ b), numbered w n′ c))
-      e (m .copied .built 0 tt (rw e (sits-ok (s .roots-ok .rooted p h)))))

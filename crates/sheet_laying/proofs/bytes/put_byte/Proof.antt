@@ -1,8 +1,8 @@
--- `sheet_writer::bytes::put_byte` meets its contract: one byte is stored. Assumes nothing.
+-- `sheet_laying::bytes::put_byte` meets its contract: one byte is stored. Assumes nothing.
 use borrow.Author.Needs.{needs}
-use Rattle.sheet_writer.proofs.Putting.{puts-one}
-use Rattle.sheet_writer.proofs.bytes.put_byte.Statement.{statement}
-use Rattle.sheet_writer.proofs.bytes.put_byte.Tie as tie
+use Rattle.sheet_laying.proofs.Putting.{puts-one}
+use Rattle.sheet_laying.proofs.bytes.put_byte.Statement.{statement}
+use Rattle.sheet_laying.proofs.bytes.put_byte.Tie as tie
 
 returns : tie.Need-returns
 returns c = rw ((c .byte) .ensures) (puts-one _ _ _)

@@ -5,7 +5,7 @@ ghost use Prim.Native.Nat.{_+_, _≤_, _<_};
 ghost use lib.ListN.{length};
 ghost use Rattle.sheet_bytes.specs.Sections.{two};
 ghost use Rattle.sheet_bytes.specs.Sheet.{branchBytes};
-ghost use Rattle.sheet_writer.specs.Laid.{Puts};
+ghost use Rattle.sheet_laying.specs.Laid.{Puts};
 ghost use Rattle.promises.specs.RuleWords.{decode};
 
 // A small number as a byte.

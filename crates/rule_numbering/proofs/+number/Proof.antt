@@ -1,22 +1,22 @@
--- `sheet_writer::numbering::number` meets its contract: a branch word of a node says an earlier node, so the measure falls; the first v branches are numbered (Numbering). Assumes nothing.
+-- `rule_numbering::number` meets its contract: a branch word of a node says an earlier node, so the measure falls; the first v branches are numbered (Numbering). Assumes nothing.
 use mathlib.Core.Path.{_≡_}
-use Prim.Native.Nat.{_+_, _-_, _≤_, ℕ, _<_}
+use Prim.Native.Nat.{ℕ, _-_, _≤_, _<_}
 use native.Mathlib.Omega.{arith}
 use native.Mathlib.Numerals.{add-one}
 use borrow.Author.Needs.{needs}
 use borrow.Fn.Kinds.{In}
 use borrow.Fn.PlainCycle.{Measures, is, falls, and}
-use Rattle.sheet_writer.specs.Numbering.{mark, Numbering}
-use Rattle.sheet_writer.proofs.Numbers.{noted-most, count-most, branch-below, branch-sits, numbers-phrase, numbers-done, numbering-none, numbering-more, numbers-left, numbers-new}
-use Rattle.sheet_writer.proofs.numbering.number.Reads as number
-use Rattle.sheet_writer.proofs.numbering.number.Kinds as number-kinds
-use Rattle.sheet_writer.proofs.numbering.+number.Lts-number as number-lts
-use Rattle.sheet_writer.proofs.numbering.width.Reads as width-reads
+use Rattle.rule_numbering.specs.Numbering.{mark, Numbering}
+use Rattle.rule_numbering.proofs.Numbers.{noted-most, stands-below, branch-below, branch-stands, numbers-phrase, numbers-done, numbering-none, numbering-more, numbers-left, numbers-new}
+use Rattle.rule_numbering.proofs.number.Reads as number
+use Rattle.rule_numbering.proofs.number.Kinds as number-kinds
+use Rattle.rule_numbering.proofs.+number.Lts-number as number-lts
+use Rattle.rule_numbering.proofs.width.Reads as width-reads
 use Rattle.table_words.proofs.narrow.Reads as narrow-reads
 use Rattle.table_words.proofs.record_word.Reads as record-word-reads
 use Rattle.table_words.proofs.wide.Reads as wide-reads
-use Rattle.sheet_writer.proofs.numbering.+number.{statement}
-use Rattle.sheet_writer.proofs.numbering.+number.Tie.{close}
+use Rattle.rule_numbering.proofs.+number.{statement}
+use Rattle.rule_numbering.proofs.+number.Tie.{close}
 use Rattle.promises.specs.Words.{size, count, feature}
 
 abbrev μ-number : Measures 2 number-kinds.ps ℕ
@@ -52,15 +52,15 @@ number-returns : (t : ℕ) → number-lts.Need-returns (number-claims t) (number
 number-returns t c = let a = (c .before .before) in numbers-phrase (a .pre .1 .0) (a .pre .1 .1) (a .args .b) ((c .if1) .taken)
 
 number-element-copy-out-if2 : (t : ℕ) → number-lts.Need-element-copy-out-if2 (number-claims t) (number-at t) number.Post number-Inv-loop number-μ-loop
-number-element-copy-out-if2 t c = let a = (c .before .before .before) in omega (arith, a .pre .1 .2 .below, count-most (a .pre .1 .0), a .pre .1 .1 .long)
+number-element-copy-out-if2 t c = let a = (c .before .before .before) in omega (arith, stands-below (a .pre .1 .0) (a .args .b) (a .pre .1 .2), a .pre .1 .0 .most, a .pre .1 .1 .long)
 
 number-returns-2 : (t : ℕ) → number-lts.Need-returns-2 (number-claims t) (number-at t) number.Post number-Inv-loop number-μ-loop
 number-returns-2 t c =
     let a = c .before .before .before .before .before in
-    numbers-done (a .pre .1 .0) (a .pre .1 .1) (a .args .b) (c .before .before .wide .result) (omega (arith, a .pre .1 .2 .below)) (omega arith) (omega arith)
+    numbers-done (a .pre .1 .0) (a .pre .1 .1) (a .args .b) (c .before .before .wide .result) (omega (arith, stands-below (a .pre .1 .0) (a .args .b) (a .pre .1 .2))) (omega arith) (omega arith)
 
 number-width-requires : (t : ℕ) → number-lts.Need-width-requires (number-claims t) (number-at t) number.Post number-Inv-loop number-μ-loop
-number-width-requires t c κs = let a = (c .before .before .before .before .before) in (a .pre .1 .0, omega (arith, a .pre .1 .2 .below))
+number-width-requires t c κs = let a = (c .before .before .before .before .before) in (a .pre .1 .0, omega (arith, stands-below (a .pre .1 .0) (a .args .b) (a .pre .1 .2)))
 
 number-loop-holds : (t : ℕ) → number-lts.Need-loop-holds (number-claims t) (number-at t) number.Post number-Inv-loop number-μ-loop
 number-loop-holds t c =
@@ -69,55 +69,57 @@ number-loop-holds t c =
 
 number-record-word-requires : (t : ℕ) → number-lts.Need-record-word-requires (number-claims t) (number-at t) number.Post number-Inv-loop number-μ-loop
 number-record-word-requires t c κs = let a = (c .before .before .before .before .before .before .before .before .before) in let s = a .pre .1 .0 in let l = (c .before .before .loop) in
-    let h : (c .before .before .before .before .before .before .wide) .result < count (a .args .t .now) = omega (arith, a .pre .1 .2 .below) in
-    (omega (arith, s .header .room, s .header .within, (c .before .before .before .width) .ensures .1), omega (arith, count-most s), omega (arith, (c .before .before .before .width) .ensures .1))
+    let h : (c .before .before .before .before .before .before .wide) .result < count (a .args .t .now) = omega (arith, stands-below (a .pre .1 .0) (a .args .b) (a .pre .1 .2)) in
+    (omega (arith, s .room, (c .before .before .before .width) .ensures .1), omega (arith, s .most), omega (arith, (c .before .before .before .width) .ensures .1))
 
 number-number-requires : (t : ℕ) → number-lts.Need-number-requires (number-claims t) (number-at t) number.Post number-Inv-loop number-μ-loop
 number-number-requires t c κs =
     let c7 = c .before .before .before .before .before .before .before in let a = c7 .before .before .before in
     let s = a .pre .1 .0 in let l = c .before .before .before .loop in
-    let h : (c7 .wide) .result < count (a .args .t .now) = omega (arith, a .pre .1 .2 .below) in
+    let h : (c7 .wide) .result < count (a .args .t .now) = omega (arith, stands-below (a .pre .1 .0) (a .args .b) (a .pre .1 .2)) in
     let hv : l .v < size (a .args .t .now) (feature (a .args .t .now) (c7 .wide .result)) = omega arith in
-    (omega (arith, c .record-word .ensures, branch-below s (c7 .wide .result) (l .v) h hv), (s, l .inv .2 .noted, rw (c .record-word .ensures) (branch-sits s (c7 .wide .result) (l .v) h hv)))
+    (omega (arith, c .record-word .ensures, branch-below s (c7 .wide .result) (l .v) h hv), (s, l .inv .2 .noted, rw (c .record-word .ensures) (branch-stands s (c7 .wide .result) (l .v) h hv)))
 
 number-loop-again : (t : ℕ) → number-lts.Need-loop-again (number-claims t) (number-at t) number.Post number-Inv-loop number-μ-loop
 number-loop-again t c =
     let c8 = c .before .before .before .before .before .before .before .before in let a = c8 .before .before .before in
     let s = a .pre .1 .0 in let l = c .before .before .before .before .loop in
-    let h : (c8 .wide) .result < count (a .args .t .now) = omega (arith, a .pre .1 .2 .below) in
+    let h : (c8 .wide) .result < count (a .args .t .now) = omega (arith, stands-below (a .pre .1 .0) (a .args .b) (a .pre .1 .2)) in
     let hv : l .v < size (a .args .t .now) (feature (a .args .t .now) (c8 .wide .result)) = omega arith in
     (l .inv .0, omega arith, rw add-one (numbering-more s h hv (l .inv .2) (rw (c .before .record-word .ensures) at (c .number .ensures))))
 
 number-add-narrow : (t : ℕ) → number-lts.Need-add-narrow (number-claims t) (number-at t) number.Post number-Inv-loop number-μ-loop
 number-add-narrow t c =
     let a = c .before .before .before .before .before .before .before .before in
-    omega (arith, count-most (a .pre .1 .0), noted-most (a .pre .1 .0) (c .before .loop .inv .2 .noted))
+    omega (arith, a .pre .1 .0 .most, noted-most (a .pre .1 .0) (c .before .loop .inv .2 .noted))
 
 number-narrow-requires : (t : ℕ) → number-lts.Need-narrow-requires (number-claims t) (number-at t) number.Post number-Inv-loop number-μ-loop
 number-narrow-requires t c κs = let a = (c .before .before .before .before .before .before .before .before) in let s = a .pre .1 .0 in let l = (c .before .loop) in
-    let h : (c .before .before .before .before .before .wide) .result < count (a .args .t .now) = omega (arith, a .pre .1 .2 .below) in
+    let h : (c .before .before .before .before .before .wide) .result < count (a .args .t .now) = omega (arith, stands-below (a .pre .1 .0) (a .args .b) (a .pre .1 .2)) in
     let none : mark (a .args .notes .now) ((c .before .before .before .before .before .wide) .result) ≡ 0 = omega arith in
     let e : l .v ≡ size (a .args .t .now) (feature (a .args .t .now) ((c .before .before .before .before .before .wide) .result)) = omega arith in
-    omega (arith, count-most s, numbers-left s h (a .pre .1 .1) none (rw e at (l .inv .2)))
+    omega (arith, s .most, numbers-left s h (a .pre .1 .1) none (rw e at (l .inv .2)))
 
 number-element-write-notes : (t : ℕ) → number-lts.Need-element-write-notes (number-claims t) (number-at t) number.Post number-Inv-loop number-μ-loop
 number-element-write-notes t c =
     let a = c .before .before .before .before .before .before .before .before .before in
-    let l = c .before .before .loop in omega (arith, a .pre .1 .2 .below, count-most (a .pre .1 .0), l .inv .2 .noted .long)
+    let l = c .before .before .loop in omega (arith, stands-below (a .pre .1 .0) (a .args .b) (a .pre .1 .2), a .pre .1 .0 .most, l .inv .2 .noted .long)
 
 number-narrow-requires-2 : (t : ℕ) → number-lts.Need-narrow-requires-2 (number-claims t) (number-at t) number.Post number-Inv-loop number-μ-loop
-number-narrow-requires-2 t c κs = let a = (c .before .before .before .before .before .before .before .before .before) in omega (arith, a .pre .1 .2 .below, count-most (a .pre .1 .0))
+number-narrow-requires-2 t c κs =
+    let a = c .before .before .before .before .before .before .before .before .before in
+    omega (arith, stands-below (a .pre .1 .0) (a .args .b) (a .pre .1 .2), a .pre .1 .0 .most)
 
 number-element-write-notes-2 : (t : ℕ) → number-lts.Need-element-write-notes-2 (number-claims t) (number-at t) number.Post number-Inv-loop number-μ-loop
 number-element-write-notes-2 t c = let a = (c .before .before .before .before .before .before .before .before .before .before) in let s = a .pre .1 .0 in let l = (c .before .before .before .loop) in
-    let h : (c .before .before .before .before .before .before .before .wide) .result < count (a .args .t .now) = omega (arith, a .pre .1 .2 .below) in
+    let h : (c .before .before .before .before .before .before .before .wide) .result < count (a .args .t .now) = omega (arith, stands-below (a .pre .1 .0) (a .args .b) (a .pre .1 .2)) in
     let none : mark (a .args .notes .now) ((c .before .before .before .before .before .before .before .wide) .result) ≡ 0 = omega arith in
     let e : l .v ≡ size (a .args .t .now) (feature (a .args .t .now) ((c .before .before .before .before .before .before .before .wide) .result)) = omega arith in
-    omega (arith, count-most s, numbers-left s h (a .pre .1 .1) none (rw e at (l .inv .2)))
+    omega (arith, s .most, numbers-left s h (a .pre .1 .1) none (rw e at (l .inv .2)))
 
 number-returns-3 : (t : ℕ) → number-lts.Need-returns-3 (number-claims t) (number-at t) number.Post number-Inv-loop number-μ-loop
 number-returns-3 t c = let a = (c .before .before .before .before .before .before .before .before .before .before) in let s = a .pre .1 .0 in let l = (c .before .before .before .loop) in
-    let h : (c .before .before .before .before .before .before .before .wide) .result < count (a .args .t .now) = omega (arith, a .pre .1 .2 .below) in
+    let h : (c .before .before .before .before .before .before .before .wide) .result < count (a .args .t .now) = omega (arith, stands-below (a .pre .1 .0) (a .args .b) (a .pre .1 .2)) in
     let none : mark (a .args .notes .now) ((c .before .before .before .before .before .before .before .wide) .result) ≡ 0 = omega arith in
     let e : l .v ≡ size (a .args .t .now) (feature (a .args .t .now) ((c .before .before .before .before .before .before .before .wide) .result)) = omega arith in
     rw ((c .before .narrow) .ensures, (c .narrow2) .ensures) (numbers-new s h (a .pre .1 .1) none (rw e at (l .inv .2)) (a .args .b) (omega arith))

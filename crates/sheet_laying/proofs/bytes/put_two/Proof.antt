@@ -1,9 +1,9 @@
--- `sheet_writer::bytes::put_two` meets its contract: the high byte and the low byte, one after the other. Assumes nothing.
+-- `sheet_laying::bytes::put_two` meets its contract: the high byte and the low byte, one after the other. Assumes nothing.
 use borrow.Author.Needs.{needs}
 use Rattle.sheet_bytes.specs.Sections.{two}
-use Rattle.sheet_writer.proofs.Putting.{puts-after}
-use Rattle.sheet_writer.proofs.bytes.put_two.Statement.{statement}
-use Rattle.sheet_writer.proofs.bytes.put_two.Tie as tie
+use Rattle.sheet_laying.proofs.Putting.{puts-after}
+use Rattle.sheet_laying.proofs.bytes.put_two.Statement.{statement}
+use Rattle.sheet_laying.proofs.bytes.put_two.Tie as tie
 
 returns : tie.Need-returns
 unfolding two

@@ -1,4 +1,4 @@
--- Contract between layers: the nodes that a branch reaches, numbered as its sheet has them. The numbers stand in an array of notes. Assumes nothing.
+-- Contract between layers: the nodes that branches reach, numbered as building numbers them. The numbers stand in an array of notes. Assumes nothing.
 use mathlib.Core.Path.{_≡_}
 use mathlib.Core.List.{List}
 use Prim.Native.Nat.{ℕ, _+_, _-_, _≤_, _<_}
@@ -11,7 +11,7 @@ use Rattle.promises.specs.Tab.{tab}
 use Rattle.promises.specs.Words.{size, count, sizes, feature, body, pick}
 use Rattle.promises.specs.RuleWords.{decode, ruleNodes as nodes}
 
--- 1 + the number of node i in the sheet, 0 while it has none
+-- 1 + the number of node i, 0 while it has none
 abbrev pub mark : List ℕ → ℕ → ℕ
 mark n i = getD n i 0
 
@@ -19,7 +19,7 @@ mark n i = getD n i 0
 abbrev pub member : List ℕ → ℕ → ℕ
 member n j = getD n (4096 + j) 0
 
--- the sheet's word of a branch, for the table's word
+-- the word of a branch to the same node by its number, for the table's word
 unfoldable pub renumbered : List ℕ → ℕ → ℕ
 renumbered n b = pick (ltb b 65536) b (65535 + mark n (b - 65536))
 
@@ -27,11 +27,11 @@ renumbered n b = pick (ltb b 65536) b (65535 + mark n (b - 65536))
 abbrev pub Has : List ℕ → ℕ → Type 0
 Has n b = 65536 ≤ b → 0 < mark n (b - 65536)
 
--- node i as the sheet has it
+-- node i, its branches told by numbers
 abbrev pub nodeIn : List ℕ → List ℕ → ℕ → Node
 nodeIn w n i = record { feature = feature w i; branches = branches (size w (feature w i)) (λ v. renumbered n (body w i v)) }
 
--- the sheet's first c nodes
+-- the first c nodes by number
 unfoldable pub numbered : List ℕ → List ℕ → ℕ → List Node
 numbered w n c = tab (λ j. nodeIn w n (member n j)) c
 

@@ -1,6 +1,7 @@
-// The nodes that a branch reaches, numbered depth first, branch 0 first, each when its branches are done: the order of a sheet.
+// The nodes that branches reach, numbered depth first, branch 0 first, each when its branches are done: the order in which rules are built.
 // Word i of the notes is 1 + the number of node i, or 0; word 4,096 + j is the node that has the number j.
 use rule_words::NUMBERS;
+use rule_words::root_word;
 use table_words::narrow;
 use table_words::record_word;
 use table_words::size_word;
@@ -8,17 +9,17 @@ use table_words::wide;
 ghost use mathlib.Core.Path.{_≡_};
 ghost use Prim.Native.Nat.{_≤_, _<_};
 ghost use lib.ListN.{length};
-ghost use Rattle.rule_sound.specs.Sound.{Sits};
-ghost use Rattle.sheet_writer.specs.Numbering.{member, renumbered, Noted, Numbers};
+ghost use Rattle.rule_numbering.specs.Walkable.{Walkable, Stands};
+ghost use Rattle.rule_numbering.specs.Numbering.{member, renumbered, Noted, Numbers};
+ghost use Rattle.rule_numbering.specs.Running.{Run, Blank, Ran};
 ghost use Rattle.promises.specs.Words.{size, count, feature};
-ghost use Rattle.promises.specs.RuleSound.{RuleSound as Sound};
 
 // The branch word of a node whose index is told as one more.
 const BEFORE_NODES: u32 = 65535;
 
 // How many branches node i has.
 pub fn width(t: &[u32], i: usize) -> usize
-    requires { ⌜ (Sound (now t)) × (i < count (now t)) ⌝ }
+    requires { ⌜ (Walkable (now t)) × (i < count (now t)) ⌝ }
     ensures { λ r. ⌜ (r ≡ size (now (t .entry)) (feature (now (t .entry)) i)) × (r ≤ 8) ⌝ }
 {
     wide(size_word(t, wide(record_word(t, i, 0))))
@@ -26,7 +27,7 @@ pub fn width(t: &[u32], i: usize) -> usize
 
 // Numbers what the branch of word b reaches, c nodes having numbers: how many have one then. Each node is walked once.
 pub fn number(t: &[u32], notes: &mut [u32; 8192], b: u32, c: usize) -> usize
-    requires { ⌜ (Sound (now t)) × (Noted (now t) (now notes) c) × (Sits (now t) (count (now t)) 0 b) ⌝ }
+    requires { ⌜ (Walkable (now t)) × (Noted (now t) (now notes) c) × (Stands (now t) b) ⌝ }
     ensures { λ r. ⌜ Numbers (now (t .entry)) (now (notes .entry)) (now (notes .exit)) b c r ⌝ }
 {
     if b < NUMBERS {
@@ -48,7 +49,21 @@ pub fn number(t: &[u32], notes: &mut [u32; 8192], b: u32, c: usize) -> usize
     d + 1
 }
 
-// The sheet's word of a branch, for the table's word.
+// Numbers what a run of places reaches, in turn, none having a number: how many nodes that is.
+pub fn number_run(t: &[u32], notes: &mut [u32; 8192], place: usize, many: usize) -> usize
+    requires { ⌜ (Walkable (now t)) × (Run (now t) place many) × (Blank (now notes)) ⌝ }
+    ensures { λ r. ⌜ Ran (now (t .entry)) (now (notes .exit)) place many r ⌝ }
+{
+    let mut c: usize = 0;
+    let mut q: usize = 0;
+    while q < many {
+        c = number(t, notes, root_word(t, place + q), c);
+        q += 1;
+    }
+    c
+}
+
+// The word of a branch to the same node by its number, for the table's word.
 pub fn renumber(notes: &[u32; 8192], b: u32) -> u32
     requires { ⌜ (length (now notes) ≡ 8192) × (b < 69632) × (renumbered (now notes) b < 131072) ⌝ }
     ensures { λ r. ⌜ r ≡ renumbered (now (notes .entry)) b ⌝ }

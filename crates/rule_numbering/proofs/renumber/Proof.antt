@@ -1,12 +1,12 @@
--- `sheet_writer::numbering::renumber` meets its contract: a phrase stays, a node has its note. Assumes nothing.
+-- `rule_numbering::renumber` meets its contract: a phrase stays, a node has its note. Assumes nothing.
 use mathlib.Core.Path.{sym, ap, _∙_}
-use Prim.Native.Nat.{ℕ, _+_, _-_}
+use Prim.Native.Nat.{ℕ, _+_}
 use native.Mathlib.Omega.{arith}
 use borrow.Author.Needs.{needs}
-use Rattle.sheet_writer.specs.Numbering.{mark}
-use Rattle.sheet_writer.proofs.Numbers.{renumbered-phrase, renumbered-node}
-use Rattle.sheet_writer.proofs.numbering.renumber.Statement.{statement}
-use Rattle.sheet_writer.proofs.numbering.renumber.Tie as tie
+use Rattle.rule_numbering.specs.Numbering.{mark}
+use Rattle.rule_numbering.proofs.Numbers.{renumbered-phrase, renumbered-node}
+use Rattle.rule_numbering.proofs.renumber.Statement.{statement}
+use Rattle.rule_numbering.proofs.renumber.Tie as tie
 
 returns : tie.Need-returns
 returns c = sym (renumbered-phrase _ _ ((c .if1) .taken))

@@ -1,8 +1,8 @@
--- `sheet_writer::bytes::put_branch` meets its contract: 0 or 1, and a two-byte number (branch-bytes). Assumes nothing.
+-- `sheet_laying::bytes::put_branch` meets its contract: 0 or 1, and a two-byte number (branch-bytes). Assumes nothing.
 use borrow.Author.Needs.{needs}
-use Rattle.sheet_writer.proofs.Putting.{puts-after, puts-same, branch-bytes}
-use Rattle.sheet_writer.proofs.bytes.put_branch.Statement.{statement}
-use Rattle.sheet_writer.proofs.bytes.put_branch.Tie as tie
+use Rattle.sheet_laying.proofs.Putting.{puts-after, puts-same, branch-bytes}
+use Rattle.sheet_laying.proofs.bytes.put_branch.Statement.{statement}
+use Rattle.sheet_laying.proofs.bytes.put_branch.Tie as tie
 
 returns : tie.Need-returns
 returns c =
