@@ -15,7 +15,7 @@ use Rattle.promises.specs.Words.{sizes}
 use Rattle.promises.specs.State.{put, Places}
 use Rattle.promises.specs.Deed.{Answer, Deed, Meets}
 use Rattle.promises.specs.Table.{Tabled, Effect, puts, stateOf, Made, Leaves, table}
-use Rattle.table_words.specs.Picture.{Drawing}
+use Rattle.table_words.specs.Table.{Table}
 use Rattle.table_calls.proofs.Drawn.{Drawn, tabled}
 use Rattle.table_calls.proofs.Theorems.{ended}
 use Rattle.call_laws.specs.Standing.{Among, Still, Next}
@@ -28,7 +28,7 @@ there {n} {l} k j h = go (decLt (getD l j 0) n)
     go (yes p) = p
     go (no m) = absurd (k (λ a. m (a .each j h)))
 
-module _ {K : Kind} {D : Drawing K} {own : List ℕ → ℕ → Fun K} {Sound : List ℕ → Type 0} (looked : Answer (Amount K × ℕ)) (F : Drawn D own Sound) where
+module _ {K : Kind} {D : Table K} {own : List ℕ → ℕ → Fun K} {Sound : List ℕ → Type 0} (looked : Answer (Amount K × ℕ)) (F : Drawn D own Sound) where
   abbrev T : Tabled K
   T = tabled D Sound looked
 

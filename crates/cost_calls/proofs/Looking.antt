@@ -18,7 +18,7 @@ use Rattle.theory.proofs.Ways as W
 use Rattle.theory_costs.proofs.Integers.{fit-more}
 use Rattle.theory_costs.proofs.Placing.{adds-fits}
 use Rattle.table_calls.proofs.Ways as C
-use Rattle.cost_words.specs.Words.{code}
+use Rattle.cost_words.specs.Table.{costTable}
 use Rattle.cost_words.proofs.Packing.{target-end, target-node}
 use Rattle.cost_words.proofs.Reading.{under-word, at-costs}
 use Rattle.cost_calls.proofs.Sounding.{sound-pos, sound-wf, sound-root}
@@ -68,22 +68,22 @@ module _ (w s : List ℕ) (p : ℕ) (ok : Sound w) (hp : p < 16) (valid : Valid 
         subst (OnWay w p s n) there o
 
     pub read-node : i < count w
-    read-node = C.read-node code w (sound-wf ok) (costOf w p) s valid n (int a) i here
+    read-node = C.read-node costTable w (sound-wf ok) (costOf w p) s valid n (int a) i here
 
     pub read-room : n < features w
-    read-room = C.read-room code w (sound-wf ok) (costOf w p) s valid n (int a) i here
+    read-room = C.read-room costTable w (sound-wf ok) (costOf w p) s valid n (int a) i here
 
     module _ (k : ℕ) (ek : k ≡ feature w i) where
       pub read-feature : k < length s
-      read-feature = C.read-feature code w (sound-wf ok) (costOf w p) s valid n (int a) i here k ek
+      read-feature = C.read-feature costTable w (sound-wf ok) (costOf w p) s valid n (int a) i here k ek
 
       module _ (v : ℕ) (ev : v ≡ getD s k 0) where
         pub read-value : v < 8
         read-value =
             omega (
               arith,
-              C.read-value code w (sound-wf ok) (costOf w p) s valid n (int a) i here k ek v ev,
-              ok .header .fit .large k (C.read-known code w (sound-wf ok) (costOf w p) s valid n (int a) i here k ek) .1,
+              C.read-value costTable w (sound-wf ok) (costOf w p) s valid n (int a) i here k ek v ev,
+              ok .header .fit .large k (C.read-known costTable w (sound-wf ok) (costOf w p) s valid n (int a) i here k ek) .1,
             )
 
         abbrev g : ℕ
@@ -93,10 +93,10 @@ module _ (w s : List ℕ) (p : ℕ) (ok : Sound w) (hp : p < 16) (valid : Valid 
         d = added (body w i) v
 
         pub read-less : g < x
-        read-less = omega (arith, under-word (nodes w) i (suc k) g (C.read-under code w (sound-wf ok) (costOf w p) s valid n (int a) i here k ek v ev))
+        read-less = omega (arith, under-word (nodes w) i (suc k) g (C.read-under costTable w (sound-wf ok) (costOf w p) s valid n (int a) i here k ek v ev))
 
         way-step : OnWay w p s (n + 1) (up (int a) (branch g d))
-        way-step = C.read-on code w (sound-wf ok) (costOf w p) s valid n (int a) i here k ek v ev
+        way-step = C.read-on costTable w (sound-wf ok) (costOf w p) s valid n (int a) i here k ek v ev
 
         -- the sum so far lies in range
         pub read-fits : Fit addMost (int a +ℤ int d)

@@ -15,7 +15,7 @@ use Rattle.table_calls.specs.Opening.{Named}
 use Rattle.table_calls.proofs.Opened as C
 use Rattle.table_calls.proofs.Opened.{ends}
 use Rattle.cost_words.specs.Words.{targetWord}
-use Rattle.cost_words.specs.Picture.{rootOf, drawing}
+use Rattle.cost_words.specs.Table.{rootOf, costTable}
 use Rattle.cost_words.proofs.Showing.{root-shows, base-shows}
 use Rattle.cost_calls.specs.Opening.{Opens}
 use Rattle.promises.specs.Range.{costMost}
@@ -37,4 +37,4 @@ module _ {S : List ℕ} {cap : ℕ} {w w′ : List ℕ} (o : Openable S cap (len
           ∙ sym (ap (rootOf (ends 16)) (sym q) ∙ base-shows (ends 16) (p - 16) ∙ ap (λ (b : Branch costs). wordFor (b .adds)) (getD-tab (λ q. blank) 16 (p - 16) blank (omega arith)))
 
   pub opened : Opens S cap w w′ Taken
-  opened = C.opened drawing o n roots (λ s. fit-zero costMost)
+  opened = C.opened costTable o n roots (λ s. fit-zero costMost)

@@ -9,7 +9,7 @@ use Rattle.theory.specs.WellFormed.{Ok, WF}
 use Rattle.theory.specs.Tally.{tally}
 use Rattle.table_checks.proofs.Pictures.{tested-wf, tested-root, tested-list}
 use Rattle.table_calls.proofs.Sounding.{tested-pos, tested-untidy, tested-tally}
-use Rattle.cost_sound.proofs.Reading.{read}
+use Rattle.cost_words.proofs.Regular.{regular}
 use Rattle.cost_sound.proofs.Pictures.{sound-tested}
 use Rattle.cost_collect.specs.Tidy.{Untidy}
 use Rattle.promises.specs.Words.{count, sizes}
@@ -21,21 +21,21 @@ module _ {w : List ℕ} (s : Sound w) where
   sound-long = omega (arith, s .header .room)
 
   pub sound-list : FeatureList (sizes w)
-  sound-list = tested-list read (sound-tested s)
+  sound-list = tested-list regular (sound-tested s)
 
   pub sound-pos : Pos (sizes w)
-  sound-pos = tested-pos read (sound-tested s)
+  sound-pos = tested-pos regular (sound-tested s)
 
   pub sound-wf : WF (sizes w) (nodes w)
-  sound-wf = tested-wf read (sound-tested s)
+  sound-wf = tested-wf regular (sound-tested s)
 
   pub sound-root : (p : ℕ) → p < 16 → Ok (nodes w) 0 (rootAt w p)
-  sound-root = tested-root read (sound-tested s)
+  sound-root = tested-root regular (sound-tested s)
 
   -- a place may be replaced
   pub sound-untidy : Untidy w
-  sound-untidy = record { untidy = tested-untidy read (sound-tested s); range = s .ranged .ranged }
+  sound-untidy = record { untidy = tested-untidy regular (sound-tested s); range = s .ranged .ranged }
 
   -- TALLY: the nodes in use are as many as the distinct rests of all 16 costs
   pub sound-tally : count w ≡ tally (sizes w) (costsOf w)
-  sound-tally = tested-tally read (sound-tested s)
+  sound-tally = tested-tally regular (sound-tested s)

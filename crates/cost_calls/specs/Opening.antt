@@ -4,7 +4,7 @@ use Prim.Native.Nat.{ℕ}
 use Rattle.theory.specs.Costs.{Cost}
 use Rattle.settings.specs.declared.refusals.Outcome.{Outcome}
 use Rattle.table_calls.specs.Opening as C
-use Rattle.cost_words.specs.Picture.{drawing}
+use Rattle.cost_words.specs.Table.{costTable}
 
 -- each of the 16 places holds the constant 0
 abbrev pub fresh : List Cost
@@ -12,4 +12,4 @@ fresh = C.fresh 16
 
 -- opening with the list S and the capacity cap makes w into w′ and ends as o
 abbrev pub Opens : List ℕ → ℕ → List ℕ → List ℕ → Outcome → Type 0
-Opens S cap w w′ o = C.Opens drawing S cap w w′ o
+Opens S cap w w′ o = C.Opens costTable S cap w w′ o

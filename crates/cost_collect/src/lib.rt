@@ -15,18 +15,18 @@ use table_words::wide;
 ghost use Prim.Native.Nat.{_<_};
 ghost use Rattle.theory.specs.Diagrams.{meaning};
 ghost use Rattle.theory.specs.WellFormed.{Ok};
-ghost use Rattle.cost_words.specs.Words.{code};
+ghost use Rattle.cost_words.specs.Table.{costTable};
 ghost use Rattle.cost_words.specs.Picture.{Becomes};
 ghost use Rattle.table_sweep.specs.Collecting.{Good, Loose, Ready, Moved, Moving, Rooted, Collected};
-ghost use Rattle.cost_collect.specs.Tidy.{form, Untidy, Tidied};
+ghost use Rattle.cost_collect.specs.Tidy.{Untidy, Tidied};
 ghost use Rattle.promises.specs.Range.{Within, costMost};
 ghost use Rattle.promises.specs.Words.{count, size, sizes, feature};
 ghost use Rattle.promises.specs.CostWords.{target, costBranch as branch, costNodes as nodes};
 
 // The copy of what a target word goes to, made where there is none.
 fn copy_target(t: &mut [u32], x: u32) -> u32
-    requires { ⌜ (Ready code (now t)) × (Good code (now t) (target x)) ⌝ }
-    ensures { λ r. ⌜ (Moved code (now (t .entry)) (now (t .exit)) (target x) (target r)) × (r < 65536) ⌝ }
+    requires { ⌜ (Ready costTable (now t)) × (Good costTable (now t) (target x)) ⌝ }
+    ensures { λ r. ⌜ (Moved costTable (now (t .entry)) (now (t .exit)) (target x) (target r)) × (r < 65536) ⌝ }
 {
     if x == 0 {
         return 0;
@@ -42,8 +42,8 @@ fn copy_target(t: &mut [u32], x: u32) -> u32
 
 // The body of node i's copy: the copies of its targets in turn, and what its branches add; 0 past them.
 fn copy_list(t: &mut [u32], i: usize) -> [u32; 12]
-    requires { ⌜ (Ready code (now t)) × (i < count (now t)) ⌝ }
-    ensures { λ r. ⌜ Moving code (now (t .entry)) (now (t .exit)) i (size (now (t .entry)) (feature (now (t .entry)) i)) r ⌝ }
+    requires { ⌜ (Ready costTable (now t)) × (i < count (now t)) ⌝ }
+    ensures { λ r. ⌜ Moving costTable (now (t .entry)) (now (t .exit)) i (size (now (t .entry)) (feature (now (t .entry)) i)) r ⌝ }
 {
     let m = wide(size_word(t, wide(record_word(t, i, 0))));
     let mut to = [0u32; 8];
@@ -60,8 +60,8 @@ fn copy_list(t: &mut [u32], i: usize) -> [u32; 12]
 
 // Copies from each root in turn, and sets the root to the copy. The bases stay.
 fn copy_roots(t: &mut [u32])
-    requires { ⌜ Loose form (now t) ⌝ }
-    ensures { λ _. ⌜ Rooted form (now (t .entry)) (now (t .exit)) ⌝ }
+    requires { ⌜ Loose costTable (now t) ⌝ }
+    ensures { λ _. ⌜ Rooted costTable (now (t .entry)) (now (t .exit)) ⌝ }
 {
     let mut p: usize = 0;
     while p < 16 {
@@ -75,7 +75,7 @@ fn copy_roots(t: &mut [u32])
 // Only the nodes that the roots reach stay, in the order of the costs built in turn. The chain heads are 0 afterwards.
 fn collect(t: &mut [u32])
     requires { ⌜ Untidy (now t) ⌝ }
-    ensures { λ _. ⌜ Collected form (now (t .entry)) (now (t .exit)) ⌝ }
+    ensures { λ _. ⌜ Collected costTable (now (t .entry)) (now (t .exit)) ⌝ }
 {
     clear_heads(t);
     copy_roots(t);

@@ -20,21 +20,23 @@ use Rattle.theory_costs.specs.Extremes.{along, keptAt, own}
 use Rattle.theory_costs.proofs.Extremes.{across-ext}
 use Rattle.theory_costs.proofs.Integers.{ℕ-eq, sum-ℕ, minus-ℕ, minus-self}
 use Rattle.theory_costs.proofs.Words.{int-one}
-use Rattle.table_words.specs.Coding.{branches}
+use Rattle.table_words.specs.Table.{branches}
 use Rattle.table_words.specs.Holding as H
 use Rattle.table_words.specs.Words.{listed}
-use Rattle.table_words.proofs.Coding.{length-nodes}
+use Rattle.table_words.proofs.Reading.{length-nodes}
 use Rattle.table_words.proofs.Filling.{raised, gives-lift}
 use Rattle.table_words.proofs.Tab.{split, length-tab, getD-tab}
 use Rattle.table_records.specs.Changes.{pairOf, Pushed, RecordIs, Finds as FindsRecord}
 use Rattle.table_records.specs.Nodes.{Listed, nodeOf, Behind, Absent}
 use Rattle.table_records.proofs.Making as M
 use Rattle.cost_words.specs.Sides.{endOf, armSum, Bodied, Sides}
-use Rattle.cost_words.specs.Words.{code, packed, pairWord, targetOf}
+use Rattle.cost_words.specs.Table.{costTable}
+use Rattle.cost_words.specs.Words.{packed, pairWord, targetOf}
 use Rattle.cost_words.proofs.Pairing.{new-pair}
 use Rattle.cost_words.specs.declared.Target.{Target as CodeTarget}
 use Rattle.cost_words.specs.declared.Target.the-variants.{Node as NodeIs}
-use Rattle.cost_words.proofs.Packing.{target-one, word-again, int-zero, packed-goes, packed-added, faithful}
+use Rattle.cost_words.proofs.Regular.{regular}
+use Rattle.cost_words.proofs.Packing.{target-one, word-again, int-zero, packed-goes, packed-added}
 use Rattle.cost_nodes.specs.Nodes.{layout, Holds, Levelled, AllSame, Finds, arms, Armed, Lowered, Makes}
 use Rattle.cost_nodes.specs.declared.Answer.the-variants.{Is, NoRoom}
 use Rattle.cost_nodes.specs.declared.Found.{Found}
@@ -50,7 +52,7 @@ use Rattle.promises.specs.CostWords.{target, costBranch as branch, goes, added,
 pub found-at : (w : List ℕ) (k : ℕ) (l : List ℕ) (r : Found) (x : CodeTarget) → r ≡ At x → Finds w k l r → Finds w k l (At x)
 found-at w k l r x e f = subst (λ (y : Found). Finds w k l y) e f
 
-pub found-missing : (w : List ℕ) (k : ℕ) (l : List ℕ) (r : Found) → r ≡ Missing → Finds w k l r → Absent code w k l
+pub found-missing : (w : List ℕ) (k : ℕ) (l : List ℕ) (r : Found) → r ≡ Missing → Finds w k l r → Absent costTable w k l
 found-missing w k l r e f = subst (λ (y : Found). Finds w k l y) e f
 
 -- the word 2,147,483,648 adds nothing
@@ -60,13 +62,13 @@ bare-branch x t e = λ j. record { adds = sym int-zero j; to = sym e j }
 -- ---- find
 module _ (w : List ℕ) (k : ℕ) (l : List ℕ) (ok : Holds w) (hk : k < features w) (lv : Levelled w k l) where
   abbrev bs : List (Branch costs)
-  bs = branches code (size w k) (listed l)
+  bs = branches costTable (size w k) (listed l)
 
   pub many : (2 ≤ size w k) × (size w k ≤ 8)
   many = ok .laid .laid .large k hk
 
   level-bs : Level bs
-  level-bs = ap (λ (b : Branch costs). b .adds) (M.at-bs faithful w k l ok hk (lv .fits) 0 (omega (arith, many .0))) ∙ ap int (lv .level) ∙ int-zero
+  level-bs = ap (λ (b : Branch costs). b .adds) (M.at-bs regular w k l ok hk (lv .fits) 0 (omega (arith, many .0))) ∙ ap int (lv .level) ∙ int-zero
 
   -- the first target is small
   first-small : goes (listed l) 0 ≤ count w
@@ -75,7 +77,7 @@ module _ (w : List ℕ) (k : ℕ) (l : List ℕ) (ok : Holds w) (hk : k < featur
   -- equal branches need no node
   pub found-same : (x : CodeTarget) → targetOf x ≡ target (goes (listed l) 0) → AllSame (size w k) l → Finds w k l (At x)
   found-same x e s = (
-    M.found-same faithful w k l ok hk (lv .fits) (λ v h. ap₂ branch (s .targets v h) (s .addeds v h))
+    M.found-same regular w k l ok hk (lv .fits) (λ v h. ap₂ branch (s .targets v h) (s .addeds v h))
         ∙ ap (λ (b : Branch costs). let t : Built costs = (b, nodes w) in t) (ap (branch (goes (listed l) 0)) (lv .level) ∙ sym (bare-branch (goes (listed l) 0) (targetOf x) (sym e))),
     word-again x (goes (listed l) 0) e (omega (arith, first-small, ok .laid .laid .within, ok .laid .laid .most)),
   )
@@ -83,17 +85,17 @@ module _ (w : List ℕ) (k : ℕ) (l : List ℕ) (ok : Holds w) (hk : k < featur
   not-alike : (AllSame (size w k) l → ⊥) → ¬ Alike blank bs
   not-alike n a =
       n (record {
-        targets = λ v h. target-one (goes (listed l) v) (goes (listed l) 0) (ap (λ (b : Branch costs). b .to) (M.alike-arms faithful w k l ok hk (lv .fits) a v h));
-        addeds = λ v h. int-one (added (listed l) v) (listed l 4) (ap (λ (b : Branch costs). b .adds) (M.alike-arms faithful w k l ok hk (lv .fits) a v h));
+        targets = λ v h. target-one (goes (listed l) v) (goes (listed l) 0) (ap (λ (b : Branch costs). b .to) (M.alike-arms regular w k l ok hk (lv .fits) a v h));
+        addeds = λ v h. int-one (added (listed l) v) (listed l 4) (ap (λ (b : Branch costs). b .adds) (M.alike-arms regular w k l ok hk (lv .fits) a v h));
       })
 
   -- an equal node is there
   pub found-node : (i : ℕ) → i < count w → (AllSame (size w k) l → ⊥) → RecordIs w i k l → Finds w k l (At (NodeIs i))
-  found-node i h n q = (M.found-node faithful w k l ok hk (lv .fits) level-bs i h (not-alike n) q, omega (arith, h, ok .laid .laid .within, ok .laid .laid .most))
+  found-node i h n q = (M.found-node regular w k l ok hk (lv .fits) level-bs i h (not-alike n) q, omega (arith, h, ok .laid .laid .within, ok .laid .laid .most))
 
   -- neither: the branch must be made
-  pub found-none : (r : ℕ) → r ≡ 0 → (AllSame (size w k) l → ⊥) → FindsRecord w k l r → Absent code w k l
-  found-none r z n f = M.found-none faithful w k l ok hk (lv .fits) r z (not-alike n) f
+  pub found-none : (r : ℕ) → r ≡ 0 → (AllSame (size w k) l → ⊥) → FindsRecord w k l r → Absent costTable w k l
+  found-none r z n f = M.found-none regular w k l ok hk (lv .fits) r z (not-alike n) f
 
 -- ---- make
 pub small-target : (w : List ℕ) (k : ℕ) (x a : List ℕ) → Holds w → Armed w k x a → (v : ℕ) → v < 8 → listed x v < 65536
@@ -123,16 +125,16 @@ module _ (w : List ℕ) (k : ℕ) (x a r l : List ℕ) (ok : Holds w) (hk : k < 
   small : (v : ℕ) → v < 8 → listed x v < 65536
   small = small-target w k x a ok ar
 
-  arm-is : (v : ℕ) → v < 8 → code .arm (listed l) v ≡ branch (listed x v) (listed r v)
+  arm-is : (v : ℕ) → v < 8 → costTable .arm (listed l) v ≡ branch (listed x v) (listed r v)
   arm-is v h =
-      faithful .reads (listed l) (packed (listed x) (listed r)) v h e
+      regular .reads (listed l) (packed (listed x) (listed r)) v h e
       ∙ ap₂ branch (packed-goes (listed x) (listed r) small v h) (packed-added (listed x) (listed r) v)
 
-  fits : Listed code w k l
+  fits : Listed costTable w k l
   fits =
       record {
         each = λ v h. subst (Ok (nodes w) (suc k)) (sym (arm-is v (omega (arith, size-is)))) (ar .each v h);
-        pad = faithful .padded m (packed (listed x) (listed r)) (listed l) (λ v h. sym (e v h))
+        pad = regular .padded m (packed (listed x) (listed r)) (listed l) (λ v h. sym (e v h))
             (record {
               targets = λ v b h. packed-goes (listed x) (listed r) small v h ∙ ar .pad v b h;
               addeds = λ v b h. packed-added (listed x) (listed r) v ∙ lo .pad v b h;
@@ -148,28 +150,28 @@ module _ (w : List ℕ) (k : ℕ) (x a r l : List ℕ) (ok : Holds w) (hk : k < 
       }
 
   -- with the first's added integer put back the branches are those asked for
-  arms-up : map (up z) (branches code m (listed l)) ≡ arms m x a
+  arms-up : map (up z) (branches costTable m (listed l)) ≡ arms m x a
   arms-up =
-      let n : length (branches code m (listed l)) ≡ m = length-tab (code .arm (listed l)) m in
-      let n′ : length (map (up z) (branches code m (listed l))) ≡ m = length-map (branches code m (listed l)) (up z) ∙ n in
-      ext-getD blank (map (up z) (branches code m (listed l))) (arms m x a) (n′ ∙ sym (length-tab (λ v. branch (listed x v) (listed a v)) m))
+      let n : length (branches costTable m (listed l)) ≡ m = length-tab (costTable .arm (listed l)) m in
+      let n′ : length (map (up z) (branches costTable m (listed l))) ≡ m = length-map (branches costTable m (listed l)) (up z) ∙ n in
+      ext-getD blank (map (up z) (branches costTable m (listed l))) (arms m x a) (n′ ∙ sym (length-tab (λ v. branch (listed x v) (listed a v)) m))
       (λ v h.
       let hm : v < m = omega arith in
-      getD-map-in (up z) blank blank (branches code m (listed l)) v (omega arith)
-      ∙ ap (up z) (getD-tab (code .arm (listed l)) m v blank hm ∙ arm-is v (omega (arith, size-is)))
+      getD-map-in (up z) blank blank (branches costTable m (listed l)) v (omega arith)
+      ∙ ap (up z) (getD-tab (costTable .arm (listed l)) m v blank hm ∙ arm-is v (omega (arith, size-is)))
       ∙ (λ i. record { adds = (ap (λ (y : ℤ). z +ℤ y) (lo .each v hm) ∙ back z (int (listed a v))) i; to = branch (listed x v) 0 .to })
       ∙ sym (getD-tab (λ u. branch (listed x u) (listed a u)) m v blank hm))
 
-  lifted : (w′ : List ℕ) (o : Option (Branch costs)) → H.Gives layout w w′ (make k (branches code m (listed l)) (nodes w)) o → H.Gives layout w w′ (make k (arms m x a) (nodes w)) (raised z o)
+  lifted : (w′ : List ℕ) (o : Option (Branch costs)) → H.Gives layout w w′ (make k (branches costTable m (listed l)) (nodes w)) o → H.Gives layout w w′ (make k (arms m x a) (nodes w)) (raised z o)
   lifted w′ o g =
       subst (λ (cs : List (Branch costs)). H.Gives layout w w′ (make k cs (nodes w)) (raised z o)) arms-up
-      (gives-lift lawful w w′ k z (branches code m (listed l)) o ok (omega (arith, length-tab (code .arm (listed l)) m, size-is)) g)
+      (gives-lift lawful w w′ k z (branches costTable m (listed l)) o ok (omega (arith, length-tab (costTable .arm (listed l)) m, size-is)) g)
 
   -- the answer that goes to the word y
   raised-is : (y : ℕ) → up z (branch y 2147483648) ≡ branch y (listed a 0)
   raised-is y = λ i. record { adds = (ap (λ (c : ℤ). z +ℤ c) int-zero ∙ +ℤ-idr z) i; to = branch y 0 .to }
 
-  answered : (w′ : List ℕ) (y : ℕ) → H.Gives layout w w′ (make k (branches code m (listed l)) (nodes w)) (some (branch y 2147483648)) → Makes w w′ k x a (Is y (listed a 0))
+  answered : (w′ : List ℕ) (y : ℕ) → H.Gives layout w w′ (make k (branches costTable m (listed l)) (nodes w)) (some (branch y 2147483648)) → Makes w w′ k x a (Is y (listed a 0))
   answered w′ y g =
       subst (λ (b : Branch costs). H.Gives layout w w′ (make k (arms m x a) (nodes w)) (some b)) (raised-is y) (lifted w′ (some (branch y 2147483648)) g)
 
@@ -198,37 +200,38 @@ module _ (w : List ℕ) (k : ℕ) (x a r l : List ℕ) (ok : Holds w) (hk : k < 
   sides-are (suc c) d s = s .stands (omega arith)
 
   -- .. and the furthest are the new node's own
-  own-is : (up : Bool) → across (sideOf up) (armSum up w l) m ≡ own (sideOf up) (kept up w) (nodeOf code w k l)
+  own-is : (up : Bool) → across (sideOf up) (armSum up w l) m ≡ own (sideOf up) (kept up w) (nodeOf costTable w k l)
   unfolding own
   own-is up =
-      across-ext (sideOf up) (armSum up w l) (λ v. along (kept up w) (getD (branches code m (listed l)) v blank)) m (λ v h. ap (along (kept up w)) (sym (getD-tab (code .arm (listed l)) m v blank h)))
-      ∙ ap (across (sideOf up) (λ v. along (kept up w) (getD (branches code m (listed l)) v blank))) (sym (length-tab (code .arm (listed l)) m))
+      across-ext (sideOf up) (armSum up w l) (λ v. along (kept up w) (getD (branches costTable m (listed l)) v blank)) m
+      (λ v h. ap (along (kept up w)) (sym (getD-tab (costTable .arm (listed l)) m v blank h)))
+      ∙ ap (across (sideOf up) (λ v. along (kept up w) (getD (branches costTable m (listed l)) v blank))) (sym (length-tab (costTable .arm (listed l)) m))
 
   -- so they are its spare words
-  behind : (c d : ℕ) → Absent code w k l → Sides w l m c d → Behind code w k l c d
+  behind : (c d : ℕ) → Absent costTable w k l → Sides w l m c d → Behind costTable w k l c d
   behind c d ab e = go
     where
-      pair : (c ≡ pairWord (sizes w) (nodes w ++ (nodeOf code w k l ∷ [])) (length (nodes w)) 0) × (d ≡ pairWord (sizes w) (nodes w ++ (nodeOf code w k l ∷ [])) (length (nodes w)) 1)
+      pair : (c ≡ pairWord (sizes w) (nodes w ++ (nodeOf costTable w k l ∷ [])) (length (nodes w)) 0) × (d ≡ pairWord (sizes w) (nodes w ++ (nodeOf costTable w k l ∷ [])) (length (nodes w)) 1)
       pair =
-          new-pair (sizes w) (lawful .positive w (ok .laid)) (nodes w) (nodeOf code w k l) (M.new-wf faithful w k l ok hk fits (level-bs w k l ok hk levelled) ab)
+          new-pair (sizes w) (lawful .positive w (ok .laid)) (nodes w) (nodeOf costTable w k l) (M.new-wf regular w k l ok hk fits (level-bs w k l ok hk levelled) ab)
           (λ up. kept up w) (ar .paired) c d (sides-are c d e false ∙ own-is false) (sides-are c d e true ∙ own-is true)
 
-      go : (j : ℕ) → j < 2 → pairOf c d j ≡ pairWord (sizes w) (nodes w ++ (nodeOf code w k l ∷ [])) (count w) j
-      go zero h = pair .0 ∙ ap (λ (i : ℕ). pairWord (sizes w) (nodes w ++ (nodeOf code w k l ∷ [])) i 0) (length-nodes code w)
-      go (suc zero) h = pair .1 ∙ ap (λ (i : ℕ). pairWord (sizes w) (nodes w ++ (nodeOf code w k l ∷ [])) i 1) (length-nodes code w)
+      go : (j : ℕ) → j < 2 → pairOf c d j ≡ pairWord (sizes w) (nodes w ++ (nodeOf costTable w k l ∷ [])) (count w) j
+      go zero h = pair .0 ∙ ap (λ (i : ℕ). pairWord (sizes w) (nodes w ++ (nodeOf costTable w k l ∷ [])) i 0) (length-nodes costTable w)
+      go (suc zero) h = pair .1 ∙ ap (λ (i : ℕ). pairWord (sizes w) (nodes w ++ (nodeOf costTable w k l ∷ [])) i 1) (length-nodes costTable w)
       go (suc (suc j)) h = absurd (omega arith)
 
-  pub made-new : (w′ : List ℕ) (y i c d n : ℕ) → Absent code w k l → count w < capacity w → target y ≡ node i → i ≡ count w → n ≡ m → Sides w l n c d → Pushed w w′ k l c d
+  pub made-new : (w′ : List ℕ) (y i c d n : ℕ) → Absent costTable w k l → count w < capacity w → target y ≡ node i → i ≡ count w → n ≡ m → Sides w l n c d → Pushed w w′ k l c d
       → Makes w w′ k x a (Is y (listed a 0))
   made-new w′ y i c d n ab less e ei en s p =
       answered w′ y
-      (subst (λ (b : Branch costs). H.Gives layout w w′ (make k (branches code m (listed l)) (nodes w)) (some b)) (bare-branch y (node (count w)) (e ∙ ap node ei))
-      (M.made-new faithful w k l ok hk fits (level-bs w k l ok hk levelled) w′ ab less (behind c d ab (subst (λ (q : ℕ). Sides w l q c d) en s)) p))
+      (subst (λ (b : Branch costs). H.Gives layout w w′ (make k (branches costTable m (listed l)) (nodes w)) (some b)) (bare-branch y (node (count w)) (e ∙ ap node ei))
+      (M.made-new regular w k l ok hk fits (level-bs w k l ok hk levelled) w′ ab less (behind c d ab (subst (λ (q : ℕ). Sides w l q c d) en s)) p))
 
-  pub made-none : Absent code w k l → (count w < capacity w → ⊥) → Makes w w k x a NoRoom
-  made-none ab full = lifted w none (M.made-none faithful w k l ok hk fits (level-bs w k l ok hk levelled) ab full)
+  pub made-none : Absent costTable w k l → (count w < capacity w → ⊥) → Makes w w k x a NoRoom
+  made-none ab full = lifted w none (M.made-none regular w k l ok hk fits (level-bs w k l ok hk levelled) ab full)
 
-  pub made-there : (y : ℕ) (t : CodeTarget) → target y ≡ targetOf t → make k (branches code m (listed l)) (nodes w) ≡ (bare (targetOf t), nodes w) → Makes w w k x a (Is y (listed a 0))
+  pub made-there : (y : ℕ) (t : CodeTarget) → target y ≡ targetOf t → make k (branches costTable m (listed l)) (nodes w) ≡ (bare (targetOf t), nodes w) → Makes w w k x a (Is y (listed a 0))
   made-there y t e d =
       answered w y
-      (M.made-there faithful w k l ok hk fits (branch y 2147483648) (d ∙ ap (λ (b : Branch costs). let o : Built costs = (b, nodes w) in o) (bare-branch y (targetOf t) e)))
+      (M.made-there regular w k l ok hk fits (branch y 2147483648) (d ∙ ap (λ (b : Branch costs). let o : Built costs = (b, nodes w) in o) (bare-branch y (targetOf t) e)))

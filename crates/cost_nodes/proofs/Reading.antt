@@ -14,7 +14,7 @@ use Rattle.table_words.specs.Holding.{Lawful}
 use Rattle.table_words.proofs.Filling as F
 use Rattle.table_words.proofs.Words.{length-sizes, at-sizes}
 use Rattle.table_records.proofs.Making as M
-use Rattle.cost_words.specs.Words.{code}
+use Rattle.cost_words.specs.Table.{costTable}
 use Rattle.cost_words.proofs.Pairing.{spared-pairs, pairs-passed}
 use Rattle.cost_words.proofs.Reading.{length-nodes, under-word}
 use Rattle.cost_nodes.specs.Nodes.{layout, Holds}
@@ -24,7 +24,7 @@ use Rattle.promises.specs.CostSound.{kept, sideOf}
 use Rattle.promises.specs.CostWords.{costBranch as branch, costNodes as nodes}
 
 pub lawful : Lawful layout
-lawful = M.lawful code
+lawful = M.lawful costTable
 
 -- ---- the features that are left
 pub pos-from : (w : List ℕ) (k : ℕ) → Holds w → Pos (drop k (sizes w))

@@ -11,11 +11,12 @@ use Rattle.theory.specs.Costs.{costs, Cost}
 use Rattle.theory.specs.Diagrams.{Branch, Node}
 use Rattle.theory.specs.WellFormed.{Ok, Under}
 use Rattle.theory_costs.specs.Extremes.{Passed, along}
-use Rattle.table_words.specs.Coding.{branches}
+use Rattle.table_words.specs.Table.{branches}
 use Rattle.table_words.specs.Holding as H
 use Rattle.table_words.specs.Words.{listed}
 use Rattle.table_records.specs.Nodes as R
-use Rattle.cost_words.specs.Words.{code, targetOf, Worded}
+use Rattle.cost_words.specs.Table.{costTable}
+use Rattle.cost_words.specs.Words.{targetOf, Worded}
 use Rattle.cost_nodes.specs.declared.Found.{Found}
 use Rattle.cost_nodes.specs.declared.Found.the-variants.{At, Missing}
 use Rattle.cost_nodes.specs.declared.Answer.{Answer}
@@ -30,7 +31,7 @@ use Rattle.promises.specs.CostWords.{target, costBranch as branch, goes, added,
 -- ---- the table
 -- how a cost table is read
 abbrev pub layout : H.Layout costs
-layout = R.layoutOf code
+layout = R.layoutOf costTable
 
 abbrev pub Holds : List ℕ → Type 0
 Holds w = H.Holds layout w
@@ -59,7 +60,7 @@ Result w w′ k g a = Gives w w′ (built w k g) a
 -- ---- the unique search
 -- a body for feature k whose branch 0 adds nothing
 pub record Levelled (w : List ℕ) (k : ℕ) (l : List ℕ) : Type 0 where
-  pub fits : R.Listed code w k l
+  pub fits : R.Listed costTable w k l
   pub level : listed l 4 ≡ 2147483648
 
 -- the first m targets and added words of a body are all its first
@@ -69,8 +70,8 @@ pub record AllSame (m : ℕ) (l : List ℕ) : Type 0 where
 
 -- what it found is what `make` gives, and it says missing only where `make` adds a node
 abbrev pub Finds : List ℕ → ℕ → List ℕ → Found → Type 0
-Finds w k l (At x) = (make k (branches code (size w k) (listed l)) (nodes w) ≡ (bare (targetOf x), nodes w)) × (Worded x)
-Finds w k l Missing = R.Absent code w k l
+Finds w k l (At x) = (make k (branches costTable (size w k) (listed l)) (nodes w) ≡ (bare (targetOf x), nodes w)) × (Worded x)
+Finds w k l Missing = R.Absent costTable w k l
 
 -- ---- the making of a node
 -- the branches of m targets and added words

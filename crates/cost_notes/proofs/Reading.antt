@@ -14,7 +14,7 @@ use Rattle.table_notes.specs.Plain.{plain}
 use Rattle.table_notes.proofs.Alike.{Like, plain-like, like-head, like-sym, like-size, like-record, like-nodes, like-laid, like-holds, plain-grown}
 use Rattle.cost_words.specs.Sides.{Keeps}
 use Rattle.cost_words.proofs.Reading.{length-nodes}
-use Rattle.cost_words.proofs.Packing.{faithful}
+use Rattle.cost_words.proofs.Regular.{regular}
 use Rattle.cost_nodes.specs.Nodes.{Holds, Armed, Makes, top, Place}
 use Rattle.cost_nodes.specs.declared.Answer.{Answer}
 use Rattle.cost_nodes.proofs.Reading.{ok-small}
@@ -33,8 +33,8 @@ module _ {w u : List ℕ} (e : Like w u) where
 
   like-place : (k x : ℕ) → Place w k x → Place u k x
   like-place k x p =
-      let n = like-nodes e (p .holds .laid .laid) faithful in
-      record { holds = like-holds e faithful (p .holds); good = rw n (p .good); upTo = omega (arith, p .upTo, like-head e 2 (omega arith)) }
+      let n = like-nodes e (p .holds .laid .laid) regular in
+      record { holds = like-holds e regular (p .holds); good = rw n (p .good); upTo = omega (arith, p .upTo, like-head e 2 (omega arith)) }
 
   -- what is kept for the nodes is the same
   like-kept : Laid w → (up : Bool) (i : ℕ) → i < count w → kept up u i ≡ kept up w i
@@ -55,7 +55,7 @@ module _ {w u : List ℕ} (e : Like w u) where
 
   like-armed : (k : ℕ) (x a : List ℕ) → Holds w → k < features w → Armed w k x a → Armed u k x a
   like-armed k x a ok h r =
-      let n = like-nodes e (ok .laid .laid) faithful in
+      let n = like-nodes e (ok .laid .laid) regular in
       let s : size u k ≡ size w k = like-size e (ok .laid .laid) k h in
       record {
         each = λ v l. rw n (r .each v (omega arith));
@@ -80,7 +80,7 @@ module _ (w : List ℕ) where
   noted-laid d = like-laid with-notes d
 
   pub noted-holds : Holds (plain w) → Holds w
-  noted-holds ok = like-holds with-notes faithful ok
+  noted-holds ok = like-holds with-notes regular ok
 
   pub noted-top : Laid (plain w) → (x : ℕ) → x ≤ count (plain w) → top w x ≡ top (plain w) x
   noted-top d x h = like-top with-notes d x h
@@ -92,7 +92,7 @@ module _ (w : List ℕ) where
   noted-keeps d x a b h k = record { keeps = λ up. k .keeps up ∙ like-at with-notes d up x h }
 
   pub noted-nodes : Laid (plain w) → nodes w ≡ nodes (plain w)
-  noted-nodes d = like-nodes with-notes d faithful
+  noted-nodes d = like-nodes with-notes d regular
 
   pub noted-armed : (k : ℕ) (x a : List ℕ) → Holds (plain w) → k < features (plain w) → Armed (plain w) k x a → Armed w k x a
   noted-armed k x a ok h r = like-armed with-notes k x a ok h r
@@ -103,4 +103,4 @@ plain-makes t t′ k x a o ok h m =
     let n : nodes t ≡ nodes (plain t) = noted-nodes t (ok .laid .laid) in
     let s : size t k ≡ size (plain t) k = like-size (like-sym (plain-like t)) (ok .laid .laid) k h in
     let c = like-head (plain-like t) 1 (omega arith) in
-    rw (← n, ← s) (record { grown = plain-grown faithful t t′ _ (m .grown); answers = rw c (m .answers) })
+    rw (← n, ← s) (record { grown = plain-grown regular t t′ _ (m .grown); answers = rw c (m .answers) })

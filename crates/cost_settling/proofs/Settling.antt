@@ -18,9 +18,8 @@ use Rattle.cost_nodes.specs.Nodes.{Holds, Result, told}
 use Rattle.cost_nodes.specs.declared.Answer.{Answer}
 use Rattle.cost_nodes.specs.declared.Answer.the-variants.{Is, NoRoom as Full}
 use Rattle.cost_nodes.proofs.Filling.{result-mean}
-use Rattle.cost_sound.proofs.Reading.{read}
+use Rattle.cost_words.proofs.Regular.{regular}
 use Rattle.cost_sound.proofs.Pictures.{sound-tested}
-use Rattle.cost_collect.proofs.Forming.{regular}
 use Rattle.cost_settling.specs.Settling.{Exceeds, Puts, Asks, Settled}
 use Rattle.promises.specs.Words.{count, sizes}
 use Rattle.promises.specs.Range.{Within, costMost}
@@ -29,30 +28,30 @@ use Rattle.promises.specs.CostSound.{CostSound as Sound}
 
 -- a sound table can be built onto
 pub sound-holds : {w : List ℕ} → Sound w → Holds w
-sound-holds s = tested-holds read (sound-tested s)
+sound-holds s = tested-holds regular (sound-tested s)
 
 -- costs that agree exceed a table's room together
 pub exceeds-agree : {w : List ℕ} {g h : Cost} → Sound w → Agree (sizes w) g h → Exceeds w g → Exceeds w h
-exceeds-agree s e x = C.exceeds-agree read (sound-tested s) e x
+exceeds-agree s e x = C.exceeds-agree regular (sound-tested s) e x
 
 -- `settle` may be asked, if the cost lies in its range
 pub settle-asks : {w t : List ℕ} {p n : ℕ} (g : Cost) (a : Answer) → Sound w → Result w t 0 g a → p < 16 → n ≡ count w → Within costMost (sizes w) g → Asks p n t a
 settle-asks {w} {t} g (Is x a) s r hp e f =
-    let z : sizes t ≡ sizes w = C.sizes-same read regular g (sound-tested s) r in
+    let z : sizes t ≡ sizes w = C.sizes-same regular g (sound-tested s) r in
     let m = result-mean w t 0 g x a (sound-holds s) r in (
       record {
-        untidy = C.built-untidy read regular g (sound-tested s) r;
-        range = λ q h. rw z (within-agree (C.places-kept read regular g (sound-tested s) r q h) (s .ranged .ranged q h));
+        untidy = C.built-untidy regular g (sound-tested s) r;
+        range = λ q h. rw z (within-agree (C.places-kept regular g (sound-tested s) r q h) (s .ranged .ranged q h));
       },
       hp,
       m .ok,
       rw z (within-agree (m .says) f),
     )
-settle-asks g Full s r hp e f = C.none-asks read g (sound-tested s) r e
+settle-asks g Full s r hp e f = C.none-asks regular g (sound-tested s) r e
 
 -- THE LAW of every call that builds: NO ROOM exactly where the rests exceed the capacity, and then nothing is changed; else the cost is written
 pub settles : {w t t′ : List ℕ} {p n : ℕ} {o : Outcome} (g : Cost) (a : Answer) → Sound w → Result w t 0 g a → p < 16 → n ≡ count w → Settled p n t t′ a o → Puts p g w t′ o
-settles g a s r hp e d = C.settles read regular g (told a) (sound-tested s) r hp e d
+settles g a s r hp e d = C.settles regular g (told a) (sound-tested s) r hp e d
 
 -- ---- what `settle` learns of the answer
 pub settled-none : {w w′ : List ℕ} {n : ℕ} (p : ℕ) (a : Answer) → a ≡ Full → Rolled w w′ n → Settled p n w w′ a (Refused NoRoom)

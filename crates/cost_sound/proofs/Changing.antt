@@ -7,11 +7,12 @@ use lib.ListN.{set}
 use lib.Seq.{getD-set-same, getD-set-other}
 use Rattle.theory.specs.Costs.{costs}
 use Rattle.theory.specs.Diagrams.{Node}
-use Rattle.table_words.specs.Coding.{nodeAt, nodes}
-use Rattle.table_words.proofs.Coding.{node-is}
+use Rattle.table_words.specs.Table.{nodeAt, nodes}
+use Rattle.table_words.proofs.Reading.{node-is}
 use Rattle.table_words.proofs.Tab.{tab-ext}
-use Rattle.cost_words.specs.Words.{code, pairWord}
-use Rattle.cost_words.proofs.Packing.{faithful}
+use Rattle.cost_words.specs.Table.{costTable}
+use Rattle.cost_words.specs.Words.{pairWord}
+use Rattle.cost_words.proofs.Regular.{regular}
 use Rattle.cost_words.proofs.Pairing.{pairs-spared}
 use Rattle.promises.specs.Tab.{tab}
 use Rattle.promises.specs.Words.{nodesBy, head, word, features, size, count, sizes, feature, body}
@@ -39,13 +40,13 @@ module _ (w : List ℕ) (s : Sound w) (i j x : ℕ) (hi : i < count w) (hj : j <
   unfolding sizes
   changed-sizes = ap (tab (size changed)) (changed-head 2 (omega arith)) ∙ tab-ext (size changed) (size w) (features w) (λ k h. changed-head (3 + k) (omega (arith, s .header .few)))
 
-  changed-nodes : nodes code changed ≡ nodes code w
+  changed-nodes : nodes costTable changed ≡ nodes costTable w
   unfolding nodesBy
   changed-nodes =
-      ap (tab (nodeAt code changed)) (changed-head 19 (omega arith))
-      ∙ tab-ext (nodeAt code changed) (nodeAt code w) (count w)
+      ap (tab (nodeAt costTable changed)) (changed-head 19 (omega arith))
+      ∙ tab-ext (nodeAt costTable changed) (nodeAt costTable w) (count w)
       (λ n h. let k = s .nodes-ok .each n h .known in
-      node-is faithful changed n (feature w n) (size w (feature w n)) (body w n) (changed-record n 0 (omega arith)) (changed-head (3 + feature w n) (omega (arith, s .header .few)))
+      node-is regular changed n (feature w n) (size w (feature w n)) (body w n) (changed-record n 0 (omega arith)) (changed-head (3 + feature w n) (omega (arith, s .header .few)))
       (s .header .fit .large (feature w n) k .1) (λ v b. changed-record n (1 + v) (omega arith)))
 
   -- THEOREM: every single-word change of a pair is DAMAGED

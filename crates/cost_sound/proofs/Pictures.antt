@@ -25,15 +25,16 @@ use Rattle.theory_costs.proofs.Spreads.{within-spread}
 use Rattle.theory_costs.proofs.Words.{int-one}
 use Rattle.table_words.proofs.Words.{at-sizes}
 use Rattle.cost_words.specs.Words.{targetWord}
-use Rattle.cost_words.specs.Picture.{goesOf, addedOf, bodyOf, Pictures, Proper, IsTable}
+use Rattle.cost_words.specs.Table.{goesOf, addedOf, bodyOf, costTable}
+use Rattle.cost_words.specs.Picture.{Pictures, Proper, IsTable}
 use Rattle.cost_words.proofs.Packing.{int-zero, word-branch, packed-goes, packed-added}
 use Rattle.cost_words.proofs.Reading.{length-nodes, at-nodes, branch-at, at-costs}
 use Rattle.cost_words.proofs.Pairing.{spared-pairs}
 use Rattle.cost_words.proofs.Showing.{Small, body-says, root-shows, base-shows, added-past}
 use Rattle.table_checks.proofs.Pictures as C
 use Rattle.table_checks.proofs.Pictures.{Tested}
-use Rattle.cost_sound.specs.Walk.{going}
-use Rattle.cost_sound.proofs.Reading.{reading, read, sound-shaped, shaped-tested, sizes-pos, ranged-narrow}
+use Rattle.cost_words.proofs.Regular.{regular}
+use Rattle.cost_sound.proofs.Reading.{sound-shaped, shaped-tested, sizes-pos, ranged-narrow}
 use Rattle.promises.specs.Integers.{Fit, bias, int}
 use Rattle.promises.specs.Range.{Within, addMost, costMost}
 use Rattle.promises.specs.Words.{head, capacity, size, count, sizes, feature, body}
@@ -41,7 +42,7 @@ use Rattle.promises.specs.CostWords.{costBranch as branch, added, Padded, costN
 use Rattle.promises.specs.CostSound.{Ranged, CostSound as Sound}
 
 -- ---- a sound table is tested, and a tested table of costs in range is sound
-pub sound-tested : {w : List ℕ} → Sound w → Tested reading w
+pub sound-tested : {w : List ℕ} → Sound w → Tested costTable w
 sound-tested s = shaped-tested (sound-shaped s) (s .paired)
 
 -- the integers that the branches of a narrow node list add
@@ -51,7 +52,8 @@ adds-fit S N p wf nr i v h hv =
     let d : drop (at N i .feature) S ≡ getD S (at N i .feature) 0 ∷ drop (suc (at N i .feature)) S = drop-cons S (at N i .feature) 0 (f .known) in
     B.node-fits S N wf nr i h (getD S (at N i .feature) 0) (drop (suc (at N i .feature)) S) d (subst Pos d (pos-drop (at N i .feature) S p)) v (omega (arith, f .full))
 
-tested-sound : {w : List ℕ} → Tested reading w → Ranged w → Sound w
+tested-sound : {w : List ℕ} → Tested costTable w → Ranged w → Sound w
+unfolding roots
 tested-sound {w} t r =
     record {
       header = t .header;
@@ -67,7 +69,7 @@ tested-sound {w} t r =
       chained = t .chained;
       roots-ok = record { rooted = t .roots-ok };
       in-order = t .in-order;
-      paired = spared-pairs w (sizes-pos (t .header)) (C.tested-wf read t) (ranged-narrow t r) (t .spared);
+      paired = spared-pairs w (sizes-pos (t .header)) (C.tested-wf regular t) (ranged-narrow t r) (t .spared);
       ranged = r;
     }
   where
@@ -77,7 +79,7 @@ tested-sound {w} t r =
     fits : (i : ℕ) → i < count w → (v : ℕ) → v < size w (feature w i) → Fit addMost (int (added (body w i) v))
     fits i h v hv =
         let l : i < length (nodes w) = omega (arith, length-nodes w) in
-        let wf : WF (sizes w) (nodes w) = C.tested-wf read t in
+        let wf : WF (sizes w) (nodes w) = C.tested-wf regular t in
         let e : length (at (nodes w) i .branches) ≡ size w (feature w i) =
         wf .fits i l .full ∙ ap (λ (x : Node costs). getD (sizes w) (x .feature) 0) (at-nodes w i h) ∙ at-sizes w (feature w i) (t .nodes-ok i h .known) in
         subst (λ (b : Branch costs). Fit addMost (b .adds)) (branch-at w i v h hv)
@@ -85,17 +87,19 @@ tested-sound {w} t r =
 
 -- ---- THEOREMS: a sound table's roots and nodes are those of its costs in turn, its words their picture
 pub sound-tidy : {w : List ℕ} → Sound w → Tidy (sizes w) (roots w) (nodes w)
-sound-tidy s = C.tested-tidy read (sound-tested s)
+unfolding roots
+sound-tidy s = C.tested-tidy regular (sound-tested s)
 
 pub sound-table : {w : List ℕ} → Sound w → table (sizes w) (costsOf w) ≡ (roots w, nodes w)
-sound-table s = C.tested-table read (sound-tested s)
+unfolding roots
+sound-table s = C.tested-table regular (sound-tested s)
 
 pub sound-pictures : {w : List ℕ} → Sound w → Pictures (capacity w) (sizes w) (costsOf w) w
-sound-pictures s = C.tested-pictures read (sound-tested s)
+sound-pictures s = C.tested-pictures regular (sound-tested s)
 
 pub sound-proper : {w : List ℕ} → Sound w → Proper (capacity w) (sizes w) (costsOf w)
 sound-proper {w} s =
-    C.tested-proper read (sound-tested s) (λ p h t x. subst (λ (g : Cost). Fit costMost (g t .off)) (sym (at-costs w p h)) (s .ranged .ranged p h .fits t x))
+    C.tested-proper regular (sound-tested s) (λ p h t x. subst (λ (g : Cost). Fit costMost (g t .off)) (sym (at-costs w p h)) (s .ranged .ranged p h .fits t x))
 
 pub sound-is : {w : List ℕ} → Sound w → IsTable w
 sound-is {w} s = record { cap = capacity w; sizes = sizes w; places = costsOf w; proper = sound-proper s; pictures = sound-pictures s }
@@ -135,8 +139,8 @@ module _ {cap : ℕ} {S : List ℕ} {gs : List Cost} {w : List ℕ} (p : Proper 
         adds = λ v hv. omega (arith, adds-fit S N pos-S wf narrow i v h hv .bottom);
       }
 
-  arms : (i v : ℕ) → i < length N → v < length (at N i .branches) → going .code .arm (bodyOf (at N i)) v ≡ getD (at N i .branches) v blank
-  arms i v h hv = body-says (at N i) (small i h) v hv (omega (arith, C.shown-size read p d i h))
+  arms : (i v : ℕ) → i < length N → v < length (at N i .branches) → costTable .arm (bodyOf (at N i)) v ≡ getD (at N i .branches) v blank
+  arms i v h hv = body-says (at N i) (small i h) v hv (omega (arith, C.shown-size regular p d i h))
 
   pads : (i : ℕ) → i < length N → Padded (length (at N i .branches)) (bodyOf (at N i))
   pads i h =
@@ -163,11 +167,11 @@ module _ {cap : ℕ} {S : List ℕ} {gs : List Cost} {w : List ℕ} (p : Proper 
 
   -- THEOREM: what the words say are the capacity, the feature list and the costs that they picture
   pub picture-costs : (capacity w ≡ cap) × (sizes w ≡ S) × ((q : ℕ) → q < 16 → Agree S (getD (costsOf w) q zero-fun) (getD gs q zero-fun))
-  picture-costs = C.picture-said read p d arms pads tops
+  picture-costs = C.picture-said regular p d arms pads tops
 
   -- THEOREM
   pub picture-sound : Sound w
-  picture-sound = tested-sound (C.picture-tested read p d arms pads tops) (record { ranged = λ q h. record { fits = λ t x. in-range q h t x } })
+  picture-sound = tested-sound (C.picture-tested regular p d arms pads tops) (record { ranged = λ q h. record { fits = λ t x. in-range q h t x } })
     where
       in-range : (q : ℕ) → q < 16 → (t : List ℕ) → Valid (sizes w) t → Fit costMost (costOf w q t .off)
       in-range q h t x =

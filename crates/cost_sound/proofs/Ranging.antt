@@ -26,7 +26,8 @@ use Rattle.table_words.specs.Words.{listed}
 use Rattle.table_words.proofs.Tab.{split}
 use Rattle.table_words.proofs.Words.{length-sizes, at-sizes}
 use Rattle.cost_words.specs.Sides.{endOf, Keeps, armSum, Bodied, Sides}
-use Rattle.cost_words.proofs.Packing.{target-one, faithful}
+use Rattle.cost_words.proofs.Regular.{regular}
+use Rattle.cost_words.proofs.Packing.{target-one}
 use Rattle.cost_words.proofs.Pairing.{pairs-passed, passed-pairs}
 use Rattle.cost_words.proofs.Summing.{way}
 use Rattle.cost_words.proofs.Reading.{length-nodes, at-nodes, branch-at}
@@ -35,8 +36,8 @@ use Rattle.settings.proofs.Answers.{tells-leb}
 use Rattle.table_checks.proofs.Pictures.{Tested}
 use Rattle.table_checks.proofs.Sitting.{sits-good}
 use Rattle.cost_sound.specs.Paired.{Shaped, Passes, Owns}
-use Rattle.cost_sound.proofs.Sitting.{goes-on}
-use Rattle.cost_sound.proofs.Reading.{reading, sound-shaped, shaped-tested, shaped-wf, sizes-pos, ranged-narrow}
+use Rattle.cost_words.specs.Table.{costTable}
+use Rattle.cost_sound.proofs.Reading.{sound-shaped, shaped-tested, shaped-wf, sizes-pos, ranged-narrow}
 use Rattle.promises.specs.Integers.{rise, fall, Fit, int}
 use Rattle.promises.specs.Range.{Within, addMost, costMost}
 use Rattle.promises.specs.CostSound.{across, extreme, kept, Pairs, sideOf, CostSound as Sound}
@@ -51,7 +52,7 @@ pub passes-yes : (w : List ℕ) (P : Type 0) (r : Bool) → not r ≡ false → 
 passes-yes w P r e t = subst (λ (x : Bool). Passes x w P) (not-false r e) t
 
 -- what is kept in a sound table is each node's own
-sound-tested : {w : List ℕ} → Sound w → Tested reading w
+sound-tested : {w : List ℕ} → Sound w → Tested costTable w
 sound-tested s = shaped-tested (sound-shaped s) (s .paired)
 
 sound-passed : {w : List ℕ} → Sound w → (up : Bool) → Passed (sideOf up) (nodes w) (length (nodes w)) (kept up w)
@@ -74,7 +75,7 @@ module _ {w : List ℕ} (s : Shaped w) where
 
     -- its branches are those of the body
     arm-is : (v : ℕ) → v < m → branch (goes (listed l) v) (added (listed l) v) ≡ getD (at (nodes w) i .branches) v blank
-    arm-is v hv = faithful .reads (listed l) (body w i) v (omega (arith, size-is)) el ∙ sym (branch-at w i v h (omega arith))
+    arm-is v hv = regular .reads (listed l) (body w i) v (omega (arith, size-is)) el ∙ sym (branch-at w i v h (omega arith))
 
     pub own-bodied : Bodied w l m
     own-bodied =
@@ -83,7 +84,7 @@ module _ {w : List ℕ} (s : Shaped w) where
           most = size-is .1;
           near = λ v hv.
               let e : goes (listed l) v ≡ goes (body w i) v = target-one (goes (listed l) v) (goes (body w i) v)
-              (ap (λ (b : Branch costs). b .to) (faithful .reads (listed l) (body w i) v (omega (arith, size-is)) el)) in
+              (ap (λ (b : Branch costs). b .to) (regular .reads (listed l) (body w i) v (omega (arith, size-is)) el)) in
               let y = s .nodes-ok .each i h .lower .lower v (omega arith) .below in
               record { room = omega (arith, s .header .room, s .header .within); most = omega (arith, s .header .most, s .header .within) };
         }
@@ -150,7 +151,7 @@ module _ {w : List ℕ} (s : Shaped w) where
         ∙ sym (place-extreme (sizes w) (sizes-pos (s .header)) (nodes w) wf (rootAt w p) ok (way up) (kept up w) (pairs-passed w (sizes-pos (s .header)) wf k up))
       where
         ok : Ok (nodes w) 0 (rootAt w p)
-        ok = sits-good goes-on w (count w) 0 (root w p) (le-refl _) (s .roots-ok .rooted p h)
+        ok = sits-good regular w (count w) 0 (root w p) (le-refl _) (s .roots-ok .rooted p h)
 
     ends : Within costMost (sizes w) (costOf w p) ↔ ((fall (int a +ℤ int b) ≤ costMost) × (rise (int a +ℤ int c) ≤ costMost))
     ends =

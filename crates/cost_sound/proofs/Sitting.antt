@@ -1,5 +1,5 @@
 -- The nodes of tested words are a well-formed node list of costs. Assumes nothing.
-use mathlib.Core.Path.{_≡_, refl, ap, _∙_}
+use mathlib.Core.Path.{_≡_, ap, _∙_}
 use mathlib.Core.List.{List}
 use Prim.Native.Nat.{ℕ, _+_, _<_}
 use native.Mathlib.Omega.{arith}
@@ -7,26 +7,19 @@ use Rattle.theory.specs.WellFormed.{WF}
 use Rattle.theory.specs.Costs.{costs}
 use Rattle.theory.specs.Diagrams.{Branch}
 use Rattle.theory_costs.proofs.Words.{int-one}
-use Rattle.cost_words.proofs.Packing.{target-end, target-node, target-one, int-zero, faithful}
-use Rattle.table_checks.specs.Walk.{Goes}
+use Rattle.cost_words.specs.Table.{costTable}
+use Rattle.cost_words.proofs.Regular.{regular}
+use Rattle.cost_words.proofs.Packing.{target-one, int-zero}
 use Rattle.table_checks.proofs.Sitting.{NodeFits, nodes-wf, sits-more}
 use Rattle.cost_sound.specs.Sound.{Sits}
-use Rattle.cost_sound.specs.Walk.{going, Ordered}
+use Rattle.cost_sound.specs.Walk.{Ordered}
 use Rattle.promises.specs.Integers.{int}
 use Rattle.promises.specs.Words.{size, count, sizes, feature, body}
 use Rattle.promises.specs.CostWords.{goes, added, costNodes as nodes}
 use Rattle.promises.specs.CostSound.{CostNodeOk as NodeOk}
 
-pub goes-on : Goes going
-goes-on =
-    record {
-      arms = λ f v. refl;
-      ends = λ x h. (tt, target-end x (omega arith));
-      indices = λ i. target-node (1 + i) i (omega arith);
-    }
-
 module _ {w : List ℕ} (o : Ordered w) where
-  pub node-fits : (i : ℕ) → i < count w → NodeFits going w i
+  pub node-fits : (i : ℕ) → i < count w → NodeFits costTable w i
   node-fits i h =
       let n : NodeOk w i = o .nodes-ok .each i h in
       record {
@@ -41,7 +34,7 @@ module _ {w : List ℕ} (o : Ordered w) where
       }
 
   pub ordered-wf : WF (sizes w) (nodes w)
-  ordered-wf = nodes-wf goes-on faithful w (o .header .fit) node-fits (o .chained)
+  ordered-wf = nodes-wf regular w (o .header .fit) node-fits (o .chained)
 
   pub sits-branch : {b : ℕ} (i v : ℕ) → i < count w → v < size w (feature w i) → b ≡ goes (body w i) v → (Sits w (count w) 0 b) × (b < 1 + i)
   sits-branch {b} i v h hv e =

@@ -13,9 +13,9 @@ use Rattle.theory_costs.specs.Integers.{wordFor}
 use Rattle.theory_costs.proofs.Growing.{sum-copied}
 use Rattle.theory_costs.proofs.Integers.{ℕ-eq, minus-fall}
 use Rattle.theory_costs.proofs.Words.{int-ℕ, int-one, int-word, signed-word}
-use Rattle.table_words.specs.Coding.{Faithful}
 use Rattle.table_words.proofs.Tab.{split, same}
-use Rattle.cost_words.specs.Words.{targetWord, code, packed, pairWord, targetOf, Worded}
+use Rattle.cost_words.specs.Table.{costTable}
+use Rattle.cost_words.specs.Words.{targetWord, packed, pairWord, targetOf, Worded}
 use Rattle.cost_words.specs.declared.Target.{Target as CodeTarget}
 use Rattle.cost_words.specs.declared.Target.the-variants.{End, Node as NodeIs}
 use Rattle.promises.specs.Integers.{fall, bias, int}
@@ -143,7 +143,7 @@ packed-self f v h = ⊎-elim
     (split v 4)
 
 -- ---- the branches tell the body words
-module _ (m : ℕ) (f g : ℕ → ℕ) (e : (v : ℕ) → v < m → code .arm f v ≡ code .arm g v) (p : Padded m f) (q : Padded m g) where
+module _ (m : ℕ) (f g : ℕ → ℕ) (e : (v : ℕ) → v < m → costTable .arm f v ≡ costTable .arm g v) (p : Padded m f) (q : Padded m g) where
   goes-told : (v : ℕ) → v < 8 → goes f v ≡ goes g v
   goes-told v h = ⊎-elim
       (λ s. target-one (goes f v) (goes g v) (ap (λ (b : Branch costs). b .to) (e v s)))
@@ -156,26 +156,14 @@ module _ (m : ℕ) (f g : ℕ → ℕ) (e : (v : ℕ) → v < m → code .arm f 
       (λ s. p .addeds v s h ∙ sym (q .addeds v s h))
       (split v m)
 
-  body-told : (u : ℕ) → u < 12 → f u ≡ g u
+  pub body-told : (u : ℕ) → u < 12 → f u ≡ g u
   body-told u h = packed-self f u h ∙ packed-ext (goes f) (goes g) (added f) (added g) goes-told added-told u h ∙ sym (packed-self g u h)
 
-goes-same : (f g : ℕ → ℕ) → ((u : ℕ) → u < 12 → f u ≡ g u) → (v : ℕ) → v < 8 → goes f v ≡ goes g v
+pub goes-same : (f g : ℕ → ℕ) → ((u : ℕ) → u < 12 → f u ≡ g u) → (v : ℕ) → v < 8 → goes f v ≡ goes g v
 goes-same f g e v h = ap (λ (y : ℕ). half y v) (e (v / 2) (omega arith))
 
 -- nodes that mean the same have the same pair
-pair-twin : (S : List ℕ) (N M : List (Node costs)) (i n j : ℕ) → Twin S N M i n → pairWord S N i j ≡ pairWord S M n j
+pub pair-twin : (S : List ℕ) (N M : List (Node costs)) (i n j : ℕ) → Twin S N M i n → pairWord S N i j ≡ pairWord S M n j
 unfolding pairWord
 pair-twin S N M i n zero t = ap wordFor (sum-copied smallerOf S N M i n (sym (t .alike)) (λ s x. sym (t .mean .says s x)))
 pair-twin S N M i n (suc j) t = ap wordFor (sum-copied largerOf S N M i n (sym (t .alike)) (λ s x. sym (t .mean .says s x)))
-
-pub faithful : Faithful code
-faithful =
-    record {
-      reads = λ f g v h e. ap₂ branch (goes-same f g e v h) (e (4 + v) (omega arith));
-      padded = λ m f g e p. record {
-        targets = λ v l h. sym (goes-same f g e v h) ∙ p .targets v l h;
-        addeds = λ v l h. sym (e (4 + v) (omega arith)) ∙ p .addeds v l h;
-      };
-      told = λ m f g l e p q. body-told m f g e p q;
-      spared = pair-twin;
-    }

@@ -1,4 +1,4 @@
--- The node list, the roots and the costs by index. Assumes nothing.
+-- The node list and the costs by index. Assumes nothing.
 use mathlib.Core.Path.{_≡_}
 use mathlib.Core.List.{List}
 use Prim.Native.Nat.{ℕ, zero, suc, _≤_, _<_}
@@ -8,21 +8,22 @@ use Rattle.theory.specs.Costs.{costs}
 use Rattle.theory.specs.Diagrams.{Node, at, blank}
 use Rattle.theory.specs.Functions.{zero-fun}
 use Rattle.theory.specs.WellFormed.{Under}
-use Rattle.table_words.proofs.Coding as C
+use Rattle.table_words.specs.Table.{nodeAt}
+use Rattle.table_words.proofs.Reading as R
 use Rattle.table_words.proofs.Tab.{length-tab, getD-tab}
-use Rattle.cost_words.specs.Words.{code, nodeAt}
+use Rattle.cost_words.specs.Table.{costTable}
 use Rattle.promises.specs.Words.{count, size, feature, body}
-use Rattle.promises.specs.CostWords.{target, costBranch as branch, goes, added, costNodes as nodes, rootAt, costRoots as roots, costOf, costsOf}
+use Rattle.promises.specs.CostWords.{target, costBranch as branch, goes, added, costNodes as nodes, costOf, costsOf}
 
 pub length-nodes : (w : List ℕ) → length (nodes w) ≡ count w
-length-nodes w = C.length-nodes code w
+length-nodes w = R.length-nodes costTable w
 
-pub at-nodes : (w : List ℕ) (i : ℕ) → i < count w → at (nodes w) i ≡ nodeAt w i
-at-nodes w i h = C.at-nodes code w i h
+pub at-nodes : (w : List ℕ) (i : ℕ) → i < count w → at (nodes w) i ≡ nodeAt costTable w i
+at-nodes w i h = R.at-nodes costTable w i h
 
 -- branch v of node i
 pub branch-at : (w : List ℕ) (i v : ℕ) → i < count w → v < size w (feature w i) → getD (at (nodes w) i .branches) v blank ≡ branch (goes (body w i) v) (added (body w i) v)
-branch-at w i v h hv = C.branch-at code w i v h hv
+branch-at w i v h hv = R.branch-at costTable w i v h hv
 
 -- a word whose target lies below node m is at most m
 pub under-word : (N : List (Node costs)) (m k x : ℕ) → Under N m k (target x) → x ≤ m
@@ -30,15 +31,7 @@ unfolding target
 under-word N m k zero u = omega arith
 under-word N m k (suc i) u = u .0
 
--- roots and costs
-pub length-roots : (w : List ℕ) → length (roots w) ≡ 16
-unfolding roots
-length-roots w = length-tab (rootAt w) 16
-
-pub at-roots : (w : List ℕ) (p : ℕ) → p < 16 → getD (roots w) p blank ≡ rootAt w p
-unfolding roots
-at-roots w p h = getD-tab (rootAt w) 16 p blank h
-
+-- the costs
 pub length-costs : (w : List ℕ) → length (costsOf w) ≡ 16
 unfolding costsOf
 length-costs w = length-tab (costOf w) 16

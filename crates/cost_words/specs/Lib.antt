@@ -1,4 +1,5 @@
 pub mod Words
+pub mod Table
 pub mod Picture
 pub mod Sums
 pub mod Sides

@@ -1,14 +1,12 @@
--- Contract between layers: what the words of a cost table say: its nodes, its roots and bases, its costs. Assumes nothing.
+-- Contract between layers: the words of a cost table: those that say targets, the pair of a node, a body packed; the code's targets. Assumes nothing.
 use mathlib.Core.List.{List}
 use Prim.Native.Nat.{ℕ, zero, suc, _+_, _*_, _-_, _<_}
 use lib.Dec.{ltb}
 use Rattle.theory.specs.Costs.{costs}
 use Rattle.theory.specs.Diagrams.{Node, Target, leaf, node}
 use Rattle.theory_costs.specs.Integers.{wordFor}
-use Rattle.table_words.specs.Coding as C
 use Rattle.cost_words.specs.declared.Target.{Target as CodeTarget}
 use Rattle.cost_words.specs.declared.Target.the-variants.{End, Node as NodeIs}
-use Rattle.promises.specs.CostWords.{costBranch as branch, goes, added, Padded}
 use Rattle.promises.specs.CostOperations.{smallerOf, largerOf}
 use Rattle.promises.specs.CostSound.{sumBelow}
 use Rattle.promises.specs.Words.{pick}
@@ -23,16 +21,9 @@ unfoldable pub pairWord : List ℕ → List (Node costs) → ℕ → ℕ → ℕ
 pairWord S N i zero = wordFor (sumBelow smallerOf S N i)
 pairWord S N i (suc j) = wordFor (sumBelow largerOf S N i)
 
-abbrev pub code : C.Code costs
-code = record { arm = λ f v. branch (goes f v) (added f v); Padded = Padded; spareOf = pairWord }
-
 -- body word v of the targets x and the added words a
 unfoldable pub packed : (ℕ → ℕ) → (ℕ → ℕ) → ℕ → ℕ
 packed x a v = pick (ltb v 4) (x (2 * v) + 65536 * x (2 * v + 1)) (a (v - 4))
-
--- ---- nodes
-abbrev pub nodeAt : List ℕ → ℕ → Node costs
-nodeAt w i = C.nodeAt code w i
 
 -- the code's target
 abbrev pub targetOf : CodeTarget → Target costs

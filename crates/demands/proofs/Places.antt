@@ -13,7 +13,7 @@ use Rattle.theory.specs.Costs.{costs}
 use Rattle.settings.specs.declared.refusals.Refusal.the-variants.{Damaged, BadOpening}
 use Rattle.settings.specs.declared.refusals.Outcome.{Outcome}
 use Rattle.settings.specs.declared.refusals.Outcome.the-variants.{Taken}
-use Rattle.table_words.specs.Picture.{Drawing}
+use Rattle.table_words.specs.Table.{Table}
 use Rattle.table_words.proofs.Tab.{length-tab, getD-tab}
 use Rattle.promises.specs.Words.{sizes, bound}
 use Rattle.promises.specs.RuleWords.{ruleRoot}
@@ -56,7 +56,7 @@ module _ {K : Kind} (z : State K) (p : ℕ) (g : Fun K) where
   pub put-elsewhere : (q : ℕ) → (q ≡ p → ⊥) → on (put p g z) q ≡ on z q
   put-elsewhere q n = getD-set-other (z .places) p q g zero-fun n
 
-module _ {K : Kind} {D : Drawing K} {own : List ℕ → ℕ → Fun K} {Sound : List ℕ → Type 0} (looked : Answer (Amount K × ℕ)) (F : Drawn D own Sound) where
+module _ {K : Kind} {D : Table K} {own : List ℕ → ℕ → Fun K} {Sound : List ℕ → Type 0} (looked : Answer (Amount K × ℕ)) (F : Drawn D own Sound) where
   abbrev drawn : Tabled K
   drawn = tabled D Sound looked
 

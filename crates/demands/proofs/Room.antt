@@ -21,7 +21,7 @@ use Rattle.theory.proofs.Tables.{table-wf, table-mean, room}
 use Rattle.settings.specs.Refusals.{Cases, _when_else_}
 use Rattle.settings.specs.declared.refusals.Refusal.the-variants.{Damaged, BadPlace, NoRoom}
 use Rattle.settings.specs.declared.refusals.Outcome.{Outcome}
-use Rattle.table_words.specs.Picture.{Drawing}
+use Rattle.table_words.specs.Table.{Table}
 use Rattle.promises.specs.Words.{sizes}
 use Rattle.promises.specs.Deed.{Answer, refusals, Meets}
 use Rattle.promises.specs.State.{State, on, Outnumber}
@@ -73,7 +73,7 @@ fits-law : {K : Kind} {z : State K} {Sound : Type 0} {l : Cases} {p : ℕ} {g : 
 fits-law r f = named (λ q. absurd (r q)) (λ x n. absurd (n Damaged (omega arith) (inl (refl, λ s. f n s x))))
 
 -- ---- a function that the table has a branch for needs no room
-module _ {K : Kind} {D : Drawing K} {own : List ℕ → ℕ → Fun K} {Sound : List ℕ → Type 0} (looked : Answer (Amount K × ℕ)) (F : Drawn D own Sound) (w : List ℕ) where
+module _ {K : Kind} {D : Table K} {own : List ℕ → ℕ → Fun K} {Sound : List ℕ → Type 0} (looked : Answer (Amount K × ℕ)) (F : Drawn D own Sound) (w : List ℕ) where
   abbrev T : Tabled K
   T = tabled D Sound looked
 

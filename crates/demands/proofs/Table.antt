@@ -9,7 +9,8 @@ use lib.Seq.{ext-getD}
 use Rattle.theory.specs.Kind.{Kind}
 use Rattle.theory.specs.Settings.{Valid}
 use Rattle.theory.specs.Functions.{Amount, Fun}
-use Rattle.table_words.specs.Picture.{Drawing, Pictures}
+use Rattle.table_words.specs.Table.{Table}
+use Rattle.table_words.specs.Picture.{Pictures}
 use Rattle.table_words.proofs.Picture.{one-picture, shows-ext}
 use Rattle.table_words.proofs.Tab.{split}
 use Rattle.promises.specs.Words.{head, capacity, sizes, bound}
@@ -36,7 +37,7 @@ alike-sym {w} {u} a =
     let c : capacity u ≡ capacity w = a .words 1 (omega arith) in
     record { long = omega (arith, a .long′, c); long′ = omega (arith, a .long, c); words = λ j h. sym (a .words j (omega (arith, h, c))) }
 
-module _ {K : Kind} {D : Drawing K} {own : List ℕ → ℕ → Fun K} {Sound : List ℕ → Type 0} (looked : Answer (Amount K × ℕ)) (F : Drawn D own Sound) where
+module _ {K : Kind} {D : Table K} {own : List ℕ → ℕ → Fun K} {Sound : List ℕ → Type 0} (looked : Answer (Amount K × ℕ)) (F : Drawn D own Sound) where
   abbrev T : Tabled K
   T = tabled D Sound looked
 

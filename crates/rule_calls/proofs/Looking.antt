@@ -11,7 +11,7 @@ use Rattle.theory.specs.Questions.{asked}
 use Rattle.theory.proofs.Asked.{asked-counts}
 use Rattle.theory.proofs.Ways as W
 use Rattle.table_calls.proofs.Ways as C
-use Rattle.rule_words.specs.Words.{code}
+use Rattle.rule_words.specs.Table.{ruleTable}
 use Rattle.rule_words.proofs.Reading.{decode-phrase, decode-node, under-word, at-rules}
 use Rattle.rule_calls.proofs.Sounding.{sound-wf, sound-root}
 use Rattle.promises.specs.Words.{features, count, sizes, feature, body}
@@ -46,30 +46,30 @@ module _ (w s : List ℕ) (p : ℕ) (ok : Sound w) (hp : p < 32) (valid : Valid 
     here = subst (W.OnWay (sizes w) (nodes w) (ruleOf w p) s n) (decode-node b h ∙ ap node (sym ei)) o
 
     pub read-node : i < count w
-    read-node = C.read-node code w (sound-wf ok) (ruleOf w p) s valid n tt i here
+    read-node = C.read-node ruleTable w (sound-wf ok) (ruleOf w p) s valid n tt i here
 
     pub read-room : n < features w
-    read-room = C.read-room code w (sound-wf ok) (ruleOf w p) s valid n tt i here
+    read-room = C.read-room ruleTable w (sound-wf ok) (ruleOf w p) s valid n tt i here
 
     module _ (k : ℕ) (ek : k ≡ feature w i) where
       pub read-feature : k < length s
-      read-feature = C.read-feature code w (sound-wf ok) (ruleOf w p) s valid n tt i here k ek
+      read-feature = C.read-feature ruleTable w (sound-wf ok) (ruleOf w p) s valid n tt i here k ek
 
       module _ (v : ℕ) (ev : v ≡ getD s k 0) where
         pub read-value : v < 8
         read-value =
             omega (
               arith,
-              C.read-value code w (sound-wf ok) (ruleOf w p) s valid n tt i here k ek v ev,
-              ok .header .fit .large k (C.read-known code w (sound-wf ok) (ruleOf w p) s valid n tt i here k ek) .1,
+              C.read-value ruleTable w (sound-wf ok) (ruleOf w p) s valid n tt i here k ek v ev,
+              ok .header .fit .large k (C.read-known ruleTable w (sound-wf ok) (ruleOf w p) s valid n tt i here k ek) .1,
             )
 
         module _ (c : ℕ) (ec : c ≡ body w i v) where
           pub read-on : OnWay w p s (n + 1) c
-          read-on = rw ec (C.read-on code w (sound-wf ok) (ruleOf w p) s valid n tt i here k ek v ev)
+          read-on = rw ec (C.read-on ruleTable w (sound-wf ok) (ruleOf w p) s valid n tt i here k ek v ev)
 
           pub read-less : c < b
-          read-less = omega (arith, under-word (nodes w) i (suc k) (body w i v) (C.read-under code w (sound-wf ok) (ruleOf w p) s valid n tt i here k ek v ev))
+          read-less = omega (arith, under-word (nodes w) i (suc k) (body w i v) (C.read-under ruleTable w (sound-wf ok) (ruleOf w p) s valid n tt i here k ek v ev))
 
 -- what a look up found is what the edge asks of it
 pub looked-up : (w : List ℕ) (p : ℕ) (s : List ℕ) (n a : ℕ) → p < 32 → n ≡ ruleOf w p s .end → a ≡ asked (sizes w) (ruleOf w p) s

@@ -11,7 +11,7 @@ use Rattle.table_words.proofs.Tab.{split, getD-tab}
 use Rattle.table_calls.specs.Opening.{Named}
 use Rattle.table_calls.proofs.Opened as C
 use Rattle.rule_words.specs.Words.{encode}
-use Rattle.rule_words.specs.Picture.{drawing}
+use Rattle.rule_words.specs.Table.{ruleTable}
 use Rattle.rule_calls.specs.Opening.{Opens}
 use Rattle.promises.specs.TableDeeds.{Openable}
 
@@ -20,4 +20,4 @@ module _ {S : List ℕ} {cap : ℕ} {w w′ : List ℕ} (o : Openable S cap (len
   root p h = ⊎-elim (λ l. n .zero (32 + p) (omega (arith, o .list .few)) (omega arith)) (λ l. n .bases (32 + p) (omega arith) (omega arith)) (split p 16)
 
   pub opened : Opens S cap w w′ Taken
-  opened = C.opened drawing o n (λ p h. root p h ∙ sym (ap encode (getD-tab (λ q. blank) 32 p blank h))) (λ s. let z : 0 < 65536 = omega arith in z)
+  opened = C.opened ruleTable o n (λ p h. root p h ∙ sym (ap encode (getD-tab (λ q. blank) 32 p blank h))) (λ s. let z : 0 < 65536 = omega arith in z)

@@ -15,7 +15,8 @@ pub use Rattle.table_calls.proofs.Theorems.{ended}
 use Rattle.table_calls.proofs.Theorems as C
 use Rattle.rule_words.specs.Picture.{Becomes}
 use Rattle.rule_words.proofs.Reading.{length-nodes}
-use Rattle.rule_sound.proofs.Pictures.{read, sound-table, picture-sound, picture-rules}
+use Rattle.rule_words.proofs.Regular.{regular}
+use Rattle.rule_sound.proofs.Pictures.{sound-table, picture-sound, picture-rules}
 use Rattle.rule_calls.proofs.Sounding.{sound-pos, sound-wf, sound-root}
 use Rattle.promises.specs.Words.{capacity, count, sizes}
 use Rattle.promises.specs.RuleWords.{decode, ruleNodes as nodes, ruleRoot as root, ruleOf, rulesOf}
@@ -28,7 +29,7 @@ becomes-sound b = picture-sound (b .proper) (b .pictures)
 -- ---- a call gives the place that it writes its rule, and keeps capacity and list
 module _ {p : ℕ} {g : Rule} {w w′ : List ℕ} (b : Becomes p g w w′) where
   pub place-written : p < 32 → Agree (sizes w) (ruleOf w′ p) g
-  place-written h = C.place-written read p g w w′ (picture-rules (b .proper) (b .pictures) .2) h
+  place-written h = C.place-written regular p g w w′ (picture-rules (b .proper) (b .pictures) .2) h
 
   pub frame-kept : (capacity w′ ≡ capacity w) × (sizes w′ ≡ sizes w)
   frame-kept = (picture-rules (b .proper) (b .pictures) .0, picture-rules (b .proper) (b .pictures) .1)

@@ -5,8 +5,8 @@ use Rattle.theory.specs.Rules.{Rule}
 use Rattle.settings.specs.Refusals.{Cases}
 use Rattle.settings.specs.declared.refusals.Outcome.{Outcome}
 use Rattle.table_calls.specs.Writing as C
-use Rattle.rule_words.specs.Picture.{drawing}
+use Rattle.rule_words.specs.Table.{ruleTable}
 
 -- a call with the refusals l that writes the rule g into place p makes w into w′ and ends as o
 abbrev pub Writes : Cases → ℕ → Rule → List ℕ → List ℕ → Outcome → Type 0
-Writes l p g w w′ o = C.Writes drawing l p g w w′ o
+Writes l p g w w′ o = C.Writes ruleTable l p g w w′ o

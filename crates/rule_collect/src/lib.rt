@@ -13,10 +13,10 @@ use table_words::wide;
 ghost use Prim.Native.Nat.{_<_};
 ghost use Rattle.theory.specs.Diagrams.{meaning};
 ghost use Rattle.theory.specs.WellFormed.{Ok};
-ghost use Rattle.rule_words.specs.Words.{code};
+ghost use Rattle.rule_words.specs.Table.{ruleTable};
 ghost use Rattle.rule_words.specs.Picture.{Becomes};
 ghost use Rattle.table_sweep.specs.Collecting.{Good, Loose, Ready, Moved, Moving, Rooted, Collected};
-ghost use Rattle.rule_collect.specs.Tidy.{form, Untidy, Tidied};
+ghost use Rattle.rule_collect.specs.Tidy.{Untidy, Tidied};
 ghost use Rattle.promises.specs.Words.{count, size, feature};
 ghost use Rattle.promises.specs.RuleWords.{decode, ruleNodes as nodes};
 
@@ -25,8 +25,8 @@ const BEFORE_NODES: u32 = 65535;
 
 // The copy of a branch, made where there is none.
 fn copy_branch(t: &mut [u32], b: u32) -> u32
-    requires { ⌜ (Ready code (now t)) × (Good code (now t) (decode b .to)) ⌝ }
-    ensures { λ r. ⌜ Moved code (now (t .entry)) (now (t .exit)) (decode b .to) (decode r .to) ⌝ }
+    requires { ⌜ (Ready ruleTable (now t)) × (Good ruleTable (now t) (decode b .to)) ⌝ }
+    ensures { λ r. ⌜ Moved ruleTable (now (t .entry)) (now (t .exit)) (decode b .to) (decode r .to) ⌝ }
 {
     if b < NUMBERS {
         return b;
@@ -42,8 +42,8 @@ fn copy_branch(t: &mut [u32], b: u32) -> u32
 
 // The copies of node i's branches in turn, 0 past them.
 fn copy_list(t: &mut [u32], i: usize) -> [u32; 12]
-    requires { ⌜ (Ready code (now t)) × (i < count (now t)) ⌝ }
-    ensures { λ r. ⌜ Moving code (now (t .entry)) (now (t .exit)) i (size (now (t .entry)) (feature (now (t .entry)) i)) r ⌝ }
+    requires { ⌜ (Ready ruleTable (now t)) × (i < count (now t)) ⌝ }
+    ensures { λ r. ⌜ Moving ruleTable (now (t .entry)) (now (t .exit)) i (size (now (t .entry)) (feature (now (t .entry)) i)) r ⌝ }
 {
     let m = wide(size_word(t, wide(record_word(t, i, 0))));
     let mut list = [0u32; 12];
@@ -58,8 +58,8 @@ fn copy_list(t: &mut [u32], i: usize) -> [u32; 12]
 
 // Copies from each root in turn, and sets the root to the copy.
 fn copy_roots(t: &mut [u32])
-    requires { ⌜ Loose form (now t) ⌝ }
-    ensures { λ _. ⌜ Rooted form (now (t .entry)) (now (t .exit)) ⌝ }
+    requires { ⌜ Loose ruleTable (now t) ⌝ }
+    ensures { λ _. ⌜ Rooted ruleTable (now (t .entry)) (now (t .exit)) ⌝ }
 {
     let mut p: usize = 0;
     while p < 32 {
@@ -73,7 +73,7 @@ fn copy_roots(t: &mut [u32])
 // Only the nodes that the roots reach stay, in the order of the rules built in turn. The chain heads are 0 afterwards.
 fn collect(t: &mut [u32])
     requires { ⌜ Untidy (now t) ⌝ }
-    ensures { λ _. ⌜ Collected form (now (t .entry)) (now (t .exit)) ⌝ }
+    ensures { λ _. ⌜ Collected ruleTable (now (t .entry)) (now (t .exit)) ⌝ }
 {
     clear_heads(t);
     copy_roots(t);

@@ -5,14 +5,14 @@ use native.Mathlib.Omega.{arith}
 use lib.ListN.{length}
 use Rattle.table_words.specs.Holding.{Lawful}
 use Rattle.table_records.proofs.Making as M
-use Rattle.rule_words.specs.Words.{code}
+use Rattle.rule_words.specs.Table.{ruleTable}
 use Rattle.rule_words.proofs.Reading.{under-word, length-nodes}
 use Rattle.rule_nodes.specs.Nodes.{layout, Good}
 use Rattle.promises.specs.Words.{count}
 use Rattle.promises.specs.RuleWords.{ruleNodes as nodes}
 
 pub lawful : Lawful layout
-lawful = M.lawful code
+lawful = M.lawful ruleTable
 
 -- a branch word of the table
 pub good-small : (w : List ℕ) (k x : ℕ) → Good w k x → x < 65536 + count w

@@ -12,7 +12,8 @@ use Rattle.theory.specs.WellFormed.{Ok}
 use Rattle.table_words.specs.Holding as H
 use Rattle.table_words.specs.Words.{listed}
 use Rattle.table_records.specs.Nodes as R
-use Rattle.rule_words.specs.Words.{branches, code, branchOf, Worded}
+use Rattle.rule_words.specs.Table.{ruleTable}
+use Rattle.rule_words.specs.Words.{branches, branchOf, Worded}
 use Rattle.rule_nodes.specs.declared.Found.{Found}
 use Rattle.rule_nodes.specs.declared.Found.the-variants.{At, Missing}
 use Rattle.rule_nodes.specs.declared.Answer.{Answer}
@@ -23,11 +24,11 @@ use Rattle.promises.specs.RuleWords.{decode, ruleNodes as nodes}
 -- ---- the table
 -- laid out as every table, and a body is 0 past the values of its feature
 abbrev pub RuleLaid : List ℕ → Type 0
-RuleLaid w = R.NodesLaid code w
+RuleLaid w = R.NodesLaid ruleTable w
 
 -- how a rule table is read
 abbrev pub layout : H.Layout rules
-layout = R.layoutOf code
+layout = R.layoutOf ruleTable
 
 abbrev pub Holds : List ℕ → Type 0
 Holds w = H.Holds layout w
@@ -61,7 +62,7 @@ Good w k b = Ok (nodes w) k (decode b)
 
 -- a list of branch words for feature k, 0 past its size
 abbrev pub Listed : List ℕ → ℕ → List ℕ → Type 0
-Listed w k l = R.Listed code w k l
+Listed w k l = R.Listed ruleTable w k l
 
 -- the first m of a list are all its first
 pub record AllSame (m : ℕ) (l : List ℕ) : Type 0 where
@@ -70,7 +71,7 @@ pub record AllSame (m : ℕ) (l : List ℕ) : Type 0 where
 -- the unique search is right: what it found is what `make` gives, and it says missing only where `make` adds a node
 abbrev pub Finds : List ℕ → ℕ → List ℕ → Found → Type 0
 Finds w k l (At b) = (make k (branches (size w k) (listed l)) (nodes w) ≡ (branchOf b, nodes w)) × (Worded b)
-Finds w k l Missing = R.Absent code w k l
+Finds w k l Missing = R.Absent ruleTable w k l
 
 -- the answer and the table are those of `make` with the list's branches
 abbrev pub Makes : List ℕ → List ℕ → ℕ → List ℕ → Answer → Type 0

@@ -9,7 +9,7 @@ use Rattle.table_records.specs.Laid.{Laid}
 use Rattle.table_notes.specs.Plain.{plain}
 use Rattle.table_notes.proofs.Alike as N
 use Rattle.table_notes.proofs.Alike.{Like, plain-like, like-sym, like-head, like-laid, like-size, like-record, plain-grown}
-use Rattle.rule_words.proofs.Reading.{faithful}
+use Rattle.rule_words.proofs.Regular.{regular}
 use Rattle.rule_nodes.specs.Nodes.{Holds, Makes, Listed, Place, top}
 use Rattle.rule_nodes.specs.declared.Answer.{Answer}
 use Rattle.rule_nodes.proofs.Stepping.{top-phrase, top-node}
@@ -18,7 +18,7 @@ use Rattle.promises.specs.RuleWords.{ruleNodes as nodes}
 
 module _ {w u : List ℕ} (e : Like w u) where
   pub like-holds : Holds w → Holds u
-  like-holds ok = N.like-holds e faithful ok
+  like-holds ok = N.like-holds e regular ok
 
   pub like-top : Laid w → (b : ℕ) → b < 65536 + count w → top u b ≡ top w b
   like-top d b h = ⊎-elim
@@ -28,7 +28,7 @@ module _ {w u : List ℕ} (e : Like w u) where
 
   module _ (ok : Holds w) where
     pub like-nodes : nodes u ≡ nodes w
-    like-nodes = N.like-nodes e (ok .laid .laid) faithful
+    like-nodes = N.like-nodes e (ok .laid .laid) regular
 
     pub like-place : (k b : ℕ) → Place w k b → Place u k b
     like-place k b p = let n = like-nodes in record { holds = like-holds ok; good = rw n (p .good); upTo = omega (arith, p .upTo, like-head e 2 (omega arith)) }
@@ -71,4 +71,4 @@ plain-makes t t′ k l a ok h g =
     let n = like-nodes (plain-like t) ok in
     let s : size (plain t) k ≡ size t k = like-size (plain-like t) (ok .laid .laid) k h in
     let c : capacity (plain t) ≡ capacity t = like-head (plain-like t) 1 (omega arith) in
-    rw (n, s) (record { grown = plain-grown faithful t t′ _ (g .grown); answers = rw c (g .answers) })
+    rw (n, s) (record { grown = plain-grown regular t t′ _ (g .grown); answers = rw c (g .answers) })

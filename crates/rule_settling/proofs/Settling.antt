@@ -18,8 +18,8 @@ use Rattle.rule_nodes.specs.Nodes.{layout, Holds, Gives, Result, told}
 use Rattle.rule_nodes.specs.declared.Answer.{Answer}
 use Rattle.rule_nodes.specs.declared.Answer.the-variants.{Is, NoRoom as Full}
 use Rattle.rule_nodes.proofs.Filling.{result-mean}
-use Rattle.rule_sound.proofs.Pictures.{read, sound-tested}
-use Rattle.rule_collect.proofs.Forming.{regular}
+use Rattle.rule_words.proofs.Regular.{regular}
+use Rattle.rule_sound.proofs.Pictures.{sound-tested}
 use Rattle.rule_settling.specs.Settling.{Exceeds, Puts, Asks, Settled}
 use Rattle.promises.specs.Words.{count, sizes}
 use Rattle.promises.specs.RuleWords.{decode, ruleNodes as nodes}
@@ -27,11 +27,11 @@ use Rattle.promises.specs.RuleSound.{RuleSound as Sound}
 
 -- a sound table can be built onto
 pub sound-holds : {w : List ℕ} → Sound w → Holds w
-sound-holds s = tested-holds read (sound-tested s)
+sound-holds s = tested-holds regular (sound-tested s)
 
 -- rules that agree exceed a table's room together
 pub exceeds-agree : {w : List ℕ} {g h : Rule} → Sound w → Agree (sizes w) g h → Exceeds w g → Exceeds w h
-exceeds-agree s e x = C.exceeds-agree read (sound-tested s) e x
+exceeds-agree s e x = C.exceeds-agree regular (sound-tested s) e x
 
 -- the contract as that of every kind
 gives : {w t : List ℕ} {q : Built} {a : Answer} → Gives w t q a → H.Gives layout w t q (told a)
@@ -39,12 +39,12 @@ gives r = record { grown = r .grown; answers = r .answers }
 
 -- `settle` may be asked
 pub settle-asks : {w t : List ℕ} {p n : ℕ} (g : Rule) (a : Answer) → Sound w → Result w t 0 g a → p < 32 → n ≡ count w → Asks p n t a
-settle-asks {w} {t} g (Is b) s r hp e = (C.built-untidy read regular g (sound-tested s) (gives r), hp, result-mean w t 0 g b (sound-holds s) r .ok)
-settle-asks g Full s r hp e = C.none-asks read g (sound-tested s) (gives r) e
+settle-asks {w} {t} g (Is b) s r hp e = (C.built-untidy regular g (sound-tested s) (gives r), hp, result-mean w t 0 g b (sound-holds s) r .ok)
+settle-asks g Full s r hp e = C.none-asks regular g (sound-tested s) (gives r) e
 
 -- THE LAW of every call that builds: NO ROOM exactly where the rests exceed the capacity, and then nothing is changed; else the rule is written
 pub settles : {w t t′ : List ℕ} {p n : ℕ} {o : Outcome} (g : Rule) (a : Answer) → Sound w → Result w t 0 g a → p < 32 → n ≡ count w → Settled p n t t′ a o → Puts p g w t′ o
-settles g a s r hp e d = C.settles read regular g (told a) (sound-tested s) (gives r) hp e d
+settles g a s r hp e d = C.settles regular g (told a) (sound-tested s) (gives r) hp e d
 
 -- ---- what `settle` learns of the answer
 pub settled-none : {w w′ : List ℕ} {n : ℕ} (p : ℕ) (a : Answer) → a ≡ Full → Rolled w w′ n → Settled p n w w′ a (Refused NoRoom)

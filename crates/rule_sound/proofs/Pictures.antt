@@ -1,5 +1,5 @@
 -- A sound table is the picture of its rules, and every picture is a sound table. Assumes nothing.
-use mathlib.Core.Path.{_≡_, refl, sym, ap, _∙_}
+use mathlib.Core.Path.{_≡_, ap, _∙_}
 use mathlib.Core.List.{List, []}
 use Prim.Native.Nat.{ℕ, _+_, _-_, _*_, _<_}
 use native.Mathlib.Omega.{arith}
@@ -8,45 +8,27 @@ use Rattle.theory.specs.Functions.{Agree, zero-fun}
 use Rattle.theory.specs.Diagrams.{at, blank}
 use Rattle.theory.specs.Build.{table}
 use Rattle.theory.specs.Walk.{Tidy}
-use Rattle.theory.specs.Rules.{rules, Rule}
+use Rattle.theory.specs.Rules.{Rule}
 use Rattle.theory.proofs.Bounded.{Results, empty-bounded, rules-bounded}
 use Rattle.rule_words.specs.Words.{encode}
-use Rattle.rule_words.specs.Picture.{drawing, Pictures, Proper, IsTable}
-use Rattle.rule_words.proofs.Reading.{encode-decode, faithful, length-roots, at-roots, length-rules, at-rules}
+use Rattle.rule_words.specs.Table.{ruleTable}
+use Rattle.rule_words.specs.Picture.{Pictures, Proper, IsTable}
+use Rattle.rule_words.proofs.Regular.{regular}
 use Rattle.rule_words.proofs.Bounding.{decode-encode, rules-small}
-use Rattle.rule_words.proofs.Showing.{body-shows}
 use Rattle.table_checks.proofs.Pictures as C
-use Rattle.table_checks.proofs.Pictures.{Reading, Read, Tested}
-use Rattle.rule_sound.specs.Walk.{going, Ordered}
-use Rattle.rule_sound.proofs.Sitting.{goes, node-fits}
+use Rattle.table_checks.proofs.Pictures.{Tested}
+use Rattle.rule_sound.specs.Walk.{Ordered}
+use Rattle.rule_sound.proofs.Sitting.{node-fits}
 use Rattle.promises.specs.Words.{word, capacity, size, sizes, feature, body, Zeros}
 use Rattle.promises.specs.RuleWords.{decode, ruleNodes as nodes, ruleRoot as root, ruleRoots as roots, rulesOf}
 use Rattle.promises.specs.RuleSound.{RuleSound as Sound}
-
-abbrev pub reading : Reading rules
-reading = record { going = going; drawing = drawing; rootAt = λ w p. decode (root w p); roots = roots }
-
-pub read : Read reading
-read =
-    record {
-      goes = goes;
-      faithful = faithful;
-      root-goes = λ w p. refl;
-      length-roots = length-roots;
-      at-roots = at-roots;
-      length-said = length-rules;
-      at-said = at-rules;
-      spare-shows = λ S N i j. refl;
-      body-shows = λ w pad i v h hv. body-shows w (λ j u l s g. pad j l u s g) i v h hv;
-      root-shows = λ w p h. sym (ap encode (at-roots w p h) ∙ encode-decode (root w p));
-    }
 
 -- ---- a sound table is tested, and the other way round
 pub ordered : {w : List ℕ} → Sound w → Ordered w
 ordered s = record { header = s .header; nodes-ok = s .nodes-ok; chained = s .chained }
 
-pub sound-tested : {w : List ℕ} → Sound w → Tested reading w
-unfolding word
+pub sound-tested : {w : List ℕ} → Sound w → Tested ruleTable w
+unfolding word roots
 sound-tested s =
     record {
       header = s .header;
@@ -57,7 +39,7 @@ sound-tested s =
       in-order = s .in-order;
     }
 
-zeros-past : (w : List ℕ) (i : ℕ) → going .code .Padded (size w (feature w i)) (body w i) → Zeros w (8192 + 16 * i + 1 + size w (feature w i)) (8192 + 16 * i + 13)
+zeros-past : (w : List ℕ) (i : ℕ) → ruleTable .Padded (size w (feature w i)) (body w i) → Zeros w (8192 + 16 * i + 1 + size w (feature w i)) (8192 + 16 * i + 13)
 unfolding word
 zeros-past w i pad =
     record {
@@ -75,7 +57,8 @@ zeros-spare w i z =
           ap (λ (x : ℕ). getD w x 0) e ∙ z (j - (8192 + 16 * i + 14)) (omega arith);
     }
 
-tested-sound : {w : List ℕ} → Tested reading w → Sound w
+tested-sound : {w : List ℕ} → Tested ruleTable w → Sound w
+unfolding roots
 tested-sound {w} t =
     record {
       header = t .header;
@@ -95,16 +78,18 @@ tested-sound {w} t =
 
 -- ---- THEOREMS: a sound table's roots and nodes are those of its rules in turn, its words their picture
 pub sound-tidy : {w : List ℕ} → Sound w → Tidy (sizes w) (roots w) (nodes w)
-sound-tidy s = C.tested-tidy read (sound-tested s)
+unfolding roots
+sound-tidy s = C.tested-tidy regular (sound-tested s)
 
 pub sound-table : {w : List ℕ} → Sound w → table (sizes w) (rulesOf w) ≡ (roots w, nodes w)
-sound-table s = C.tested-table read (sound-tested s)
+unfolding roots
+sound-table s = C.tested-table regular (sound-tested s)
 
 pub sound-pictures : {w : List ℕ} → Sound w → Pictures (capacity w) (sizes w) (rulesOf w) w
-sound-pictures s = C.tested-pictures read (sound-tested s)
+sound-pictures s = C.tested-pictures regular (sound-tested s)
 
 pub sound-proper : {w : List ℕ} → Sound w → Proper (capacity w) (sizes w) (rulesOf w)
-sound-proper {w} s = C.tested-proper read (sound-tested s) (λ p h t x. rules-small w p h t)
+sound-proper {w} s = C.tested-proper regular (sound-tested s) (λ p h t x. rules-small w p h t)
 
 pub sound-is : {w : List ℕ} → Sound w → IsTable w
 sound-is {w} s = record { cap = capacity w; sizes = sizes w; places = rulesOf w; proper = sound-proper s; pictures = sound-pictures s }
@@ -118,7 +103,7 @@ module _ {cap : ℕ} {S : List ℕ} {gs : List Rule} {w : List ℕ} (p : Proper 
       → decode (encode (getD (at (table S gs .1) i .branches) v blank)) ≡ getD (at (table S gs .1) i .branches) v blank
   arms i v h hv = decode-encode (getD (at (table S gs .1) i .branches) v blank) (bounded .list .node i .branch v)
 
-  pads : (i : ℕ) → i < length (table S gs .1) → going .code .Padded (length (at (table S gs .1) i .branches)) (drawing .bodyOf (at (table S gs .1) i))
+  pads : (i : ℕ) → i < length (table S gs .1) → ruleTable .Padded (length (at (table S gs .1) i .branches)) (ruleTable .bodyOf (at (table S gs .1) i))
   pads i h v l hv = ap encode (List·getD-eq-default (at (table S gs .1) i .branches) blank l)
 
   tops : (q : ℕ) → q < 32 → decode (root w q) ≡ getD (table S gs .0) q blank
@@ -126,11 +111,11 @@ module _ {cap : ℕ} {S : List ℕ} {gs : List Rule} {w : List ℕ} (p : Proper 
 
   -- THEOREM
   pub picture-sound : Sound w
-  picture-sound = tested-sound (C.picture-tested read p d arms pads tops)
+  picture-sound = tested-sound (C.picture-tested regular p d arms pads tops)
 
   -- THEOREM: what the words say are the capacity, the feature list and the rules that they picture
   pub picture-rules : (capacity w ≡ cap) × (sizes w ≡ S) × ((q : ℕ) → q < 32 → Agree S (getD (rulesOf w) q zero-fun) (getD gs q zero-fun))
-  picture-rules = C.picture-said read p d arms pads tops
+  picture-rules = C.picture-said regular p d arms pads tops
 
 pub is-sound : {w : List ℕ} → IsTable w → Sound w
 is-sound t = picture-sound (t .proper) (t .pictures)

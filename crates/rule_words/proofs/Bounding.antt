@@ -10,7 +10,7 @@ use Rattle.theory.specs.Diagrams.{Target, at, blank, empty}
 use Rattle.theory.specs.Functions.{zero-fun}
 use Rattle.theory.specs.Rules.{rules, Branch, Node, Rule}
 use Rattle.theory.proofs.Bounded.{Bounded, Bounds, value-bounded}
-use Rattle.table_words.proofs.Coding.{branch-past}
+use Rattle.table_words.proofs.Reading.{branch-past}
 use Rattle.table_words.proofs.Tab.{split, getD-tab}
 use Rattle.rule_words.specs.Words.{encode, encodeTo}
 use Rattle.rule_words.proofs.Reading.{decode-phrase, decode-node, decode-index, length-nodes, at-nodes, at-rules}

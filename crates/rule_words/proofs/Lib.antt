@@ -1,3 +1,3 @@
 pub mod Reading
 pub mod Bounding
-pub mod Showing
+pub mod Regular

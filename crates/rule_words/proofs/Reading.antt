@@ -1,5 +1,5 @@
--- Branch words decoded, and the node list, the roots and the rules by index. Assumes nothing.
-use mathlib.Core.Path.{_≡_, refl, sym, ap, subst, _∙_}
+-- Branch words decoded, and the node list and the rules by index. Assumes nothing.
+use mathlib.Core.Path.{_≡_, sym, ap, subst, _∙_}
 use mathlib.Core.Logic.{⊎-elim}
 use mathlib.Core.List.{List}
 use Prim.Native.Nat.{ℕ, _+_, _-_, _≤_, _<_}
@@ -10,14 +10,15 @@ use Rattle.theory.specs.Diagrams.{at, blank, leaf, node as to-node}
 use Rattle.theory.specs.Functions.{zero-fun}
 use Rattle.theory.specs.WellFormed.{Under}
 use Rattle.theory.specs.Rules.{Branch, Node, phrase, node}
-use Rattle.table_words.specs.Coding.{Faithful}
-use Rattle.table_words.proofs.Coding as C
-use Rattle.table_words.proofs.Tab.{split, tab-ext, length-tab, getD-tab}
-use Rattle.rule_words.specs.Words.{encode, branches, code, nodeAt, branchOf, Worded}
+use Rattle.table_words.specs.Table.{nodeAt}
+use Rattle.table_words.proofs.Reading as R
+use Rattle.table_words.proofs.Tab.{split, length-tab, getD-tab}
+use Rattle.rule_words.specs.Table.{ruleTable}
+use Rattle.rule_words.specs.Words.{encode, branchOf, Worded}
 use Rattle.rule_words.specs.declared.Branch.{Branch as CodeBranch}
 use Rattle.rule_words.specs.declared.Branch.the-variants.{Phrase, Node as NodeIs}
 use Rattle.promises.specs.Words.{count, size, feature, body}
-use Rattle.promises.specs.RuleWords.{decode, ruleNodes as nodes, ruleRoot as root, ruleRoots as roots, ruleOf, rulesOf}
+use Rattle.promises.specs.RuleWords.{decode, ruleNodes as nodes, ruleOf, rulesOf}
 
 pub decode-phrase : (x : ℕ) → x < 65536 → decode x ≡ phrase x
 unfolding decode
@@ -67,43 +68,16 @@ word-again (NodeIs i) x e h = let q : 65536 + i ≡ x = ap encode e ∙ encode-d
 
 -- the node list
 pub length-nodes : (w : List ℕ) → length (nodes w) ≡ count w
-length-nodes w = C.length-nodes code w
+length-nodes w = R.length-nodes ruleTable w
 
-pub at-nodes : (w : List ℕ) (i : ℕ) → i < count w → at (nodes w) i ≡ nodeAt w i
-at-nodes w i h = C.at-nodes code w i h
+pub at-nodes : (w : List ℕ) (i : ℕ) → i < count w → at (nodes w) i ≡ nodeAt ruleTable w i
+at-nodes w i h = R.at-nodes ruleTable w i h
 
 -- branch v of node i
 pub branch-at : (w : List ℕ) (i v : ℕ) → i < count w → v < size w (feature w i) → getD (at (nodes w) i .branches) v blank ≡ decode (body w i v)
-branch-at w i v h hv = C.branch-at code w i v h hv
+branch-at w i v h hv = R.branch-at ruleTable w i v h hv
 
--- the branches tell the body words
-pub faithful : Faithful code
-faithful =
-    record {
-      reads = λ f g v h e. ap decode (e v (omega arith));
-      padded = λ m f g e p v l h. sym (e v h) ∙ p v l h;
-      told = λ m f g l e p q v h. ⊎-elim (λ s. decode-inj (f v) (g v) (e v s)) (λ s. p v s h ∙ sym (q v s h)) (split v m);
-      spared = λ S N M i n j t. refl;
-    }
-
--- records with the same words hold the same node
-pub node-same : (w w′ : List ℕ) (i i′ : ℕ) → feature w′ i′ ≡ feature w i → size w′ (feature w i) ≡ size w (feature w i)
-    → ((v : ℕ) → v < size w (feature w i) → body w′ i′ v ≡ body w i v) → nodeAt w′ i′ ≡ nodeAt w i
-node-same w w′ i i′ f s b =
-    let e : branches (size w′ (feature w′ i′)) (body w′ i′) ≡ branches (size w (feature w i)) (body w i) =
-    ap (λ (k : ℕ). branches (size w′ k) (body w′ i′)) f ∙ ap (λ (m : ℕ). branches m (body w′ i′)) s
-    ∙ tab-ext (λ v. decode (body w′ i′ v)) (λ v. decode (body w i v)) (size w (feature w i)) (λ v h. ap decode (b v h)) in
-    λ j. record { feature = f j; branches = e j }
-
--- roots and rules
-pub length-roots : (w : List ℕ) → length (roots w) ≡ 32
-unfolding roots
-length-roots w = length-tab (λ p. decode (root w p)) 32
-
-pub at-roots : (w : List ℕ) (p : ℕ) → p < 32 → getD (roots w) p blank ≡ decode (root w p)
-unfolding roots
-at-roots w p h = getD-tab (λ q. decode (root w q)) 32 p blank h
-
+-- the rules
 pub length-rules : (w : List ℕ) → length (rulesOf w) ≡ 32
 unfolding rulesOf
 length-rules w = length-tab (ruleOf w) 32

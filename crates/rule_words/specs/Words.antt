@@ -1,10 +1,8 @@
--- Contract between layers: what the words of a rule table say: its nodes, its roots, its rules. Assumes nothing.
-use mathlib.Core.Path.{_≡_}
+-- Contract between layers: the words that say branches of a rule table, and the code's branches. Assumes nothing.
 use mathlib.Core.List.{List}
-use Prim.Native.Nat.{ℕ, _+_, _≤_, _<_}
+use Prim.Native.Nat.{ℕ, _+_, _<_}
 use Rattle.theory.specs.Diagrams as D
-use Rattle.theory.specs.Rules.{rules, Branch, Node, node}
-use Rattle.table_words.specs.Coding as C
+use Rattle.theory.specs.Rules.{rules, Branch}
 use Rattle.rule_words.specs.declared.Branch.{Branch as CodeBranch}
 use Rattle.rule_words.specs.declared.Branch.the-variants.{Phrase, Node as NodeIs}
 use Rattle.promises.specs.RuleWords.{decode}
@@ -21,14 +19,6 @@ encode b = encodeTo (b .to)
 -- the branches that the first m words of a list say
 abbrev pub branches : ℕ → (ℕ → ℕ) → List Branch
 branches m f = tab (λ v. decode (f v)) m
-
--- how a record's body says them: a word for each branch, 0 past them
-abbrev pub code : C.Code rules
-code = record { arm = λ f v. decode (f v); Padded = λ m f. (v : ℕ) → m ≤ v → v < 12 → f v ≡ 0; spareOf = λ S N i j. 0 }
-
--- node i, and all nodes
-abbrev pub nodeAt : List ℕ → ℕ → Node
-nodeAt w i = C.nodeAt code w i
 
 -- where the code's branch goes, and the branch
 abbrev pub targetOf : CodeBranch → D.Target rules

@@ -21,13 +21,14 @@ use Rattle.promises.specs.Deed.{Answer, Deed, refusals, Meets}
 use Rattle.promises.specs.State.{State, on, put, Outnumber, room-cases}
 use Rattle.promises.specs.Table.{Tabled, Effect, puts, stateOf, Made, Leaves, table}
 use Rattle.promises.specs.TableDeeds.{fresh}
-use Rattle.table_words.specs.Picture.{Drawing, Pictures, Proper, Becomes}
+use Rattle.table_words.specs.Table.{Table}
+use Rattle.table_words.specs.Picture.{Pictures, Proper, Becomes}
 use Rattle.table_calls.specs.Writing.{Exceeds, Writes}
 use Rattle.table_calls.specs.Opening.{Opens}
 use Rattle.table_calls.proofs.Like.{alike, more, like-ends}
 
-module _ {K : Kind} (D : Drawing K) (Sound : List ℕ → Type 0) (looked : Answer (Amount K × ℕ)) where
-  -- the kind of table that a drawing draws
+module _ {K : Kind} (D : Table K) (Sound : List ℕ → Type 0) (looked : Answer (Amount K × ℕ)) where
+  -- a kind of table at the edge
   abbrev pub tabled : Tabled K
   tabled = record { places = D .places; said = D .said; Sound = Sound; InRange = D .InRange; looked = looked }
 
@@ -41,7 +42,7 @@ module _ {K : Kind} {z : State K} {g : Fun K} where
       omega (arith, o .more, counts-unique (z .list) (z .places ++ (g ∷ [])) (o .number) (tally (z .list) (z .places ++ (g ∷ []))) (o .counts) (tally-counts (z .list) (z .places ++ (g ∷ []))))
 
 -- what a kind of table gives; own is the function of a place as the kind's own definitions say it
-module _ {K : Kind} (D : Drawing K) (own : List ℕ → ℕ → Fun K) (Sound : List ℕ → Type 0) where
+module _ {K : Kind} (D : Table K) (own : List ℕ → ℕ → Fun K) (Sound : List ℕ → Type 0) where
   pub record Drawn : Type 0 where
     pub at-said : (w : List ℕ) (p : ℕ) → p < D .places → getD (D .said w) p zero-fun ≡ own w p
     pub length-said : (w : List ℕ) → length (D .said w) ≡ D .places
@@ -51,7 +52,7 @@ module _ {K : Kind} (D : Drawing K) (own : List ℕ → ℕ → Fun K) (Sound : 
     pub says : {cap : ℕ} {S : List ℕ} {gs : List (Fun K)} {w : List ℕ} → Proper D cap S gs → Pictures D cap S gs w →
         (capacity w ≡ cap) × (sizes w ≡ S) × ((q : ℕ) → q < D .places → Agree S (getD (D .said w) q zero-fun) (getD gs q zero-fun))
 
-module _ {K : Kind} {D : Drawing K} {own : List ℕ → ℕ → Fun K} {Sound : List ℕ → Type 0} (looked : Answer (Amount K × ℕ)) (F : Drawn D own Sound) where
+module _ {K : Kind} {D : Table K} {own : List ℕ → ℕ → Fun K} {Sound : List ℕ → Type 0} (looked : Answer (Amount K × ℕ)) (F : Drawn D own Sound) where
   abbrev T : Tabled K
   T = tabled D Sound looked
 

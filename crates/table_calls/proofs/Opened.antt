@@ -19,7 +19,8 @@ use Rattle.theory.proofs.WellFormed.{wf-empty}
 use Rattle.settings.specs.declared.refusals.Refusal.the-variants.{BadOpening}
 use Rattle.settings.specs.declared.refusals.Outcome.the-variants.{Taken, Refused}
 use Rattle.settings.proofs.Endings.{stop, pass, not-taken, not-refused}
-use Rattle.table_words.specs.Picture.{Drawing, Shows, Pictures, Proper, nodeHash}
+use Rattle.table_words.specs.Table.{Table}
+use Rattle.table_words.specs.Picture.{Shows, Pictures, Proper, nodeHash}
 use Rattle.table_words.proofs.Tab.{split, tab-none, tab-snoc, getD-tab, length-tab}
 use Rattle.table_words.proofs.Chains.{last-none}
 use Rattle.table_calls.specs.Opening.{fresh, Opens, Cleared, Based, Sized, Named}
@@ -70,10 +71,10 @@ module _ {K : Kind} where
       (canonical S 0 S refl (features-pos S f) [] (wf-empty S) blank zero-fun (record { ok = tt; says = λ s v. value-ending [] 0 (zero-fun []) s }))
       ∙ ap (λ (l : List (Branch K)). let t : List (Branch K) × List (Node K) = (l, []) in t) (sym (tab-snoc (λ p. blank) n))
 
-module _ {K : Kind} (D : Drawing K) {b : ℕ} {S : List ℕ} {cap : ℕ} {w w′ : List ℕ} (o : Openable S cap (length w)) (n : Named (D .number) b S cap w w′) where
-  pub fresh-pictures : ((p : ℕ) → p < 32 → getD w′ (32 + p) 0 ≡ D .rootOf (ends (D .places)) p) → Pictures D cap S (fresh (D .places)) w′
+module _ {K : Kind} (T : Table K) {b : ℕ} {S : List ℕ} {cap : ℕ} {w w′ : List ℕ} (o : Openable S cap (length w)) (n : Named (T .number) b S cap w w′) where
+  pub fresh-pictures : ((p : ℕ) → p < 32 → getD w′ (32 + p) 0 ≡ T .rootOf (ends (T .places)) p) → Pictures T cap S (fresh (T .places)) w′
   unfolding head word
-  fresh-pictures roots = subst (λ (q : List (Branch K) × List (Node K)). Shows D cap S (q .0) (q .1) w′) (sym (zeros-built S (o .list) (D .places))) (shown roots)
+  fresh-pictures roots = subst (λ (q : List (Branch K) × List (Node K)). Shows T cap S (q .0) (q .1) w′) (sym (zeros-built S (o .list) (T .places))) (shown roots)
     where
       sizes : (k : ℕ) → k < 16 → getD w′ (3 + k) 0 ≡ getD S k 0
       sizes k h = ⊎-elim
@@ -81,7 +82,7 @@ module _ {K : Kind} (D : Drawing K) {b : ℕ} {S : List ℕ} {cap : ℕ} {w w′
           (λ l. n .zero (3 + k) (omega arith) (omega arith) ∙ sym (List·getD-eq-default S 0 l))
           (split k (length S))
 
-      shown : ((p : ℕ) → p < 32 → getD w′ (32 + p) 0 ≡ D .rootOf (ends (D .places)) p) → Shows D cap S (ends (D .places)) [] w′
+      shown : ((p : ℕ) → p < 32 → getD w′ (32 + p) 0 ≡ T .rootOf (ends (T .places)) p) → Shows T cap S (ends (T .places)) [] w′
       shown roots =
           let l = o .list .few in
           let c = o .some in
@@ -95,7 +96,7 @@ module _ {K : Kind} (D : Drawing K) {b : ℕ} {S : List ℕ} {cap : ℕ} {w w′
             shares = record { zeros = λ j h g. n .zero j (omega arith) (omega arith) };
             roots-are = roots;
             middle = record { zeros = λ j h g. n .clean j h (omega arith) };
-            heads = λ h l. n .clean (4096 + h) (omega arith) (omega arith) ∙ sym (last-none (nodeHash D []) h);
+            heads = λ h l. n .clean (4096 + h) (omega arith) (omega arith) ∙ sym (last-none (nodeHash T []) h);
             tests = λ i h. absurd (omega arith);
             bodies = λ i v h. absurd (omega arith);
             links = λ i h. absurd (omega arith);
@@ -103,21 +104,21 @@ module _ {K : Kind} (D : Drawing K) {b : ℕ} {S : List ℕ} {cap : ℕ} {w w′
             clean = record { zeros = λ j h g. n .clean j (omega arith) g };
           }
 
-  pub fresh-proper : ((s : List ℕ) → D .InRange (zero-fun s)) → Proper D cap S (fresh (D .places))
+  pub fresh-proper : ((s : List ℕ) → T .InRange (zero-fun s)) → Proper T cap S (fresh (T .places))
   fresh-proper range =
       record {
         some = o .some;
         most = o .most;
         list = o .list;
-        places = length-tab (λ p. zero-fun) (D .places);
-        range = λ p h s v. subst (λ (g : Fun K). D .InRange (g s)) (sym (getD-tab (λ q. zero-fun) (D .places) p zero-fun h)) (range s);
-        fits = omega (arith, ap (λ (q : List (Branch K) × List (Node K)). length (q .1)) (zeros-built S (o .list) (D .places)), o .some);
+        places = length-tab (λ p. zero-fun) (T .places);
+        range = λ p h s v. subst (λ (g : Fun K). T .InRange (g s)) (sym (getD-tab (λ q. zero-fun) (T .places) p zero-fun h)) (range s);
+        fits = omega (arith, ap (λ (q : List (Branch K) × List (Node K)). length (q .1)) (zeros-built S (o .list) (T .places)), o .some);
       }
 
   -- the promise met
-  pub opened : ((p : ℕ) → p < 32 → getD w′ (32 + p) 0 ≡ D .rootOf (ends (D .places)) p) → ((s : List ℕ) → D .InRange (zero-fun s)) → Opens D S cap w w′ Taken
+  pub opened : ((p : ℕ) → p < 32 → getD w′ (32 + p) 0 ≡ T .rootOf (ends (T .places)) p) → ((s : List ℕ) → T .InRange (zero-fun s)) → Opens T S cap w w′ Taken
   opened roots range =
       record { ends = pass (λ q. q o) refl; long = n .long; proper = λ e. fresh-proper range; pictures = λ e. fresh-pictures roots; past = λ e. n .past; refused = λ x. not-refused }
 
-pub not-opened : {K : Kind} {D : Drawing K} {S : List ℕ} {cap : ℕ} {w : List ℕ} → (Openable S cap (length w) → ⊥) → Opens D S cap w w (Refused BadOpening)
+pub not-opened : {K : Kind} {T : Table K} {S : List ℕ} {cap : ℕ} {w : List ℕ} → (Openable S cap (length w) → ⊥) → Opens T S cap w w (Refused BadOpening)
 not-opened h = record { ends = stop h; long = refl; proper = not-taken; pictures = not-taken; past = not-taken; refused = λ x e. refl }

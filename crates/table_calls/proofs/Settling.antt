@@ -19,11 +19,12 @@ use Rattle.theory.proofs.Values.{value-ext}
 use Rattle.theory.proofs.WellFormed.{ok-ext}
 use Rattle.settings.proofs.Endings.{pass, not-taken, not-refused}
 use Rattle.settings.specs.declared.refusals.Outcome.{Outcome}
-use Rattle.table_words.specs.Coding.{Code, nodes}
-use Rattle.table_words.specs.Holding.{Layout, Result, built}
-use Rattle.table_words.specs.Picture.{Drawing, Pictures, Shows, Proper, Becomes}
+use Rattle.table_words.specs.Table.{Table, Regular, nodes, funAt}
+use Rattle.table_words.specs.Holding.{Result, built}
+use Rattle.table_words.specs.Picture.{Pictures, Shows, Proper, Becomes}
 use Rattle.table_words.specs.Words.{Kept}
 use Rattle.table_words.proofs.Filling.{grown-ext, built-ext, result-mean}
+use Rattle.table_words.proofs.Reading.{length-said, at-said}
 use Rattle.table_words.proofs.Tab.{same, split}
 use Rattle.table_words.proofs.Words.{kept-features, kept-capacity, kept-sizes}
 use Rattle.table_records.specs.Changes.{Rolled}
@@ -31,37 +32,27 @@ use Rattle.table_records.specs.Laid.{Laid}
 use Rattle.table_records.specs.Nodes.{layoutOf}
 use Rattle.table_records.proofs.Making.{lawful}
 use Rattle.table_records.proofs.Restoring.{undo-asks, undo}
-use Rattle.table_checks.proofs.Pictures.{Reading, Read, Tested, tested-wf, tested-root, tested-list, tested-table}
-use Rattle.table_sweep.specs.Form.{Regular, funAt}
+use Rattle.table_checks.proofs.Pictures.{Tested, tested-wf, tested-root, tested-list, tested-table}
 use Rattle.table_sweep.specs.Tidy.{Untidy}
 use Rattle.table_calls.specs.Writing.{Exceeds, Puts, Settled}
-use Rattle.table_calls.proofs.Sounding.{formOf, tested-pos, tested-holds}
+use Rattle.table_calls.proofs.Sounding.{tested-pos, tested-holds}
 use Rattle.promises.specs.Words.{head, capacity, features, sizes, count, bound, Zeros}
 
-module _ {K : Kind} {R : Reading K} (L : Read R) where
-  abbrev C : Code K
-  C = R .going .code
-
-  abbrev D : Drawing K
-  D = R .drawing
-
-  abbrev T : Layout K
-  T = layoutOf C
-
+module _ {K : Kind} {T : Table K} (L : Regular T) where
   -- ROOM: the nodes after building are as many as the distinct rests of all places before the call with those of the result
-  built-tally : {w : List ℕ} (g h : Fun K) → Tested R w → Agree (sizes w) g h → length (built T w 0 g .1) ≡ tally (sizes w) (D .said w ++ (h ∷ []))
+  built-tally : {w : List ℕ} (g h : Fun K) → Tested T w → Agree (sizes w) g h → length (built (layoutOf T) w 0 g .1) ≡ tally (sizes w) (T .said w ++ (h ∷ []))
   unfolding built
   built-tally {w} g h s e =
-      ap (λ (q : Built K). length (q .1)) (build-agree 0 (sizes w) g h e (nodes C w))
+      ap (λ (q : Built K). length (q .1)) (build-agree 0 (sizes w) g h e (nodes T w))
       ∙ sym (ap (λ (q : List (Branch K) × List (Node K)). length (build 0 (sizes w) h (q .1) .1)) (tested-table L s))
-      ∙ room (sizes w) (tested-pos L s) (D .said w) h
+      ∙ room (sizes w) (tested-pos L s) (T .said w) h
 
   -- functions that agree exceed a table's room together
-  pub exceeds-agree : {w : List ℕ} {g h : Fun K} → Tested R w → Agree (sizes w) g h → Exceeds D w g → Exceeds D w h
+  pub exceeds-agree : {w : List ℕ} {g h : Fun K} → Tested T w → Agree (sizes w) g h → Exceeds T w g → Exceeds T w h
   exceeds-agree {w} {g} {h} s e x = omega (arith, built-tally g h s e, built-tally g g s (λ t v. refl))
 
   -- ---- the table t after building the function g onto the tested table w
-  module _ (G : Regular (formOf R)) {w t : List ℕ} (g : Fun K) {a : Option (Branch K)} (s : Tested R w) (r : Result T w t 0 g a) where
+  module _ {w t : List ℕ} (g : Fun K) {a : Option (Branch K)} (s : Tested T w) (r : Result (layoutOf T) w t 0 g a) where
     kept : Kept w t
     kept = r .grown .kept
 
@@ -71,11 +62,11 @@ module _ {K : Kind} {R : Reading K} (L : Read R) where
     pub sizes-same : sizes t ≡ sizes w
     sizes-same = kept-sizes w t kept (s .header .few)
 
-    ext : Ext (nodes C w) (nodes C t)
-    ext = grown-ext (lawful C) w t (built T w 0 g .1) (tested-holds L s) (r .grown) (built-ext (lawful C) w 0 g)
+    ext : Ext (nodes T w) (nodes T t)
+    ext = grown-ext (lawful T) w t (built (layoutOf T) w 0 g .1) (tested-holds L s) (r .grown) (built-ext (lawful T) w 0 g)
 
-    root-same : (p : ℕ) → p < D .places → R .rootAt t p ≡ R .rootAt w p
-    root-same p h = G .places w t (λ q l. kept .header (32 + q) (omega arith) (omega arith)) p h
+    root-same : (p : ℕ) → p < T .places → T .rootAt t p ≡ T .rootAt w p
+    root-same p h = L .places w t (λ q l. kept .header (32 + q) (omega arith) (omega arith)) p h
 
     -- zero words of the header stay
     zeros-kept : (x y : ℕ) → y ≤ 4096 → ((j : ℕ) → x ≤ j → j < y → j ≡ 19 → ⊥) → Zeros w x y → Zeros t x y
@@ -92,7 +83,7 @@ module _ {K : Kind} {R : Reading K} (L : Read R) where
     }
 
     -- a place may be replaced
-    pub built-untidy : Untidy (formOf R) t
+    pub built-untidy : Untidy T t
     built-untidy =
         let h = s .header in
         record {
@@ -108,101 +99,101 @@ module _ {K : Kind} {R : Reading K} (L : Read R) where
           clean = clean-kept;
           wf = r .grown .well .wf;
           spared = r .grown .well .laid .spared;
-          rooted = λ p l. rw (root-same p l) (ok-ext (nodes C w) (nodes C t) 0 (R .rootAt w p) ext (tested-root L s p l));
+          rooted = λ p l. rw (root-same p l) (ok-ext (nodes T w) (nodes T t) 0 (T .rootAt w p) ext (tested-root L s p l));
         }
 
     -- the functions of all places are as they were
-    pub places-kept : (p : ℕ) → p < D .places → Agree (sizes w) (funAt (formOf R) t p) (funAt (formOf R) w p)
+    pub places-kept : (p : ℕ) → p < T .places → Agree (sizes w) (funAt T t p) (funAt T w p)
     places-kept p h x v =
-        ap (λ (b : Branch K). meaning (nodes C t) b x) (root-same p h)
-        ∙ value-ext (sizes w) (nodes C w) (nodes C t) 0 (R .rootAt w p) x (tested-wf L s) ext (tested-root L s p h)
+        ap (λ (b : Branch K). meaning (nodes T t) b x) (root-same p h)
+        ∙ value-ext (sizes w) (nodes T w) (nodes T t) 0 (T .rootAt w p) x (tested-wf L s) ext (tested-root L s p h)
 
   -- ---- what a settled call leaves
-  module _ (G : Regular (formOf R)) {w t : List ℕ} (g : Fun K) {b : Branch K} (s : Tested R w) (r : Result T w t 0 g (some b)) (p : ℕ) (hp : p < D .places) (h : Fun K) (e : Agree (sizes w) g h) where
+  module _ {w t : List ℕ} (g : Fun K) {b : Branch K} (s : Tested T w) (r : Result (layoutOf T) w t 0 g (some b)) (p : ℕ) (hp : p < T .places) (h : Fun K) (e : Agree (sizes w) g h) where
     after : List (Fun K)
-    after = set (D .said t) p (meaning (nodes C t) b)
+    after = set (T .said t) p (meaning (nodes T t) b)
 
     wanted : List (Fun K)
-    wanted = set (D .said w) p h
+    wanted = set (T .said w) p h
 
-    after-long : length after ≡ D .places
+    after-long : length after ≡ T .places
     unfolding after
-    after-long = length-set (D .said t) p (meaning (nodes C t) b) ∙ L .length-said t
+    after-long = length-set (T .said t) p (meaning (nodes T t) b) ∙ length-said L t
 
-    wanted-long : length wanted ≡ D .places
+    wanted-long : length wanted ≡ T .places
     unfolding wanted
-    wanted-long = length-set (D .said w) p h ∙ L .length-said w
+    wanted-long = length-set (T .said w) p h ∙ length-said L w
 
     -- place by place the functions are those that are wanted
-    place-agrees : (q : ℕ) → q < D .places → Agree (sizes w) (getD after q zero-fun) (getD wanted q zero-fun)
+    place-agrees : (q : ℕ) → q < T .places → Agree (sizes w) (getD after q zero-fun) (getD wanted q zero-fun)
     unfolding after wanted
     place-agrees q hq x v = ⊎-elim
         (λ c. rw c
-        (ap (λ (f : Fun K). f x) (getD-set-same (D .said t) p (meaning (nodes C t) b) zero-fun (omega (arith, L .length-said t)))
-        ∙ result-mean (lawful C) w t 0 g b (tested-holds L s) r .says x v
+        (ap (λ (f : Fun K). f x) (getD-set-same (T .said t) p (meaning (nodes T t) b) zero-fun (omega (arith, length-said L t)))
+        ∙ result-mean (lawful T) w t 0 g b (tested-holds L s) r .says x v
         ∙ e x v
-        ∙ ap (λ (f : Fun K). f x) (sym (getD-set-same (D .said w) p h zero-fun (omega (arith, L .length-said w))))))
+        ∙ ap (λ (f : Fun K). f x) (sym (getD-set-same (T .said w) p h zero-fun (omega (arith, length-said L w))))))
         (λ c.
-        ap (λ (f : Fun K). f x) (getD-set-other (D .said t) p q (meaning (nodes C t) b) zero-fun c ∙ L .at-said t q hq)
-        ∙ places-kept G g s r q hq x v
-        ∙ ap (λ (f : Fun K). f x) (sym (getD-set-other (D .said w) p q h zero-fun c ∙ L .at-said w q hq)))
+        ap (λ (f : Fun K). f x) (getD-set-other (T .said t) p q (meaning (nodes T t) b) zero-fun c ∙ at-said L t q hq)
+        ∙ places-kept g s r q hq x v
+        ∙ ap (λ (f : Fun K). f x) (sym (getD-set-other (T .said w) p q h zero-fun c ∙ at-said L w q hq)))
         (same q p)
 
     one-table : table (sizes w) after ≡ table (sizes w) wanted
     one-table = table-agree (sizes w) after wanted (after-long ∙ sym wanted-long) (λ q l. place-agrees q (omega (arith, after-long))) []
 
     -- the table's own words for capacity and sizes
-    proper-kept : Proper D (capacity t) (sizes t) after → Proper D (capacity w) (sizes w) after
+    proper-kept : Proper T (capacity t) (sizes t) after → Proper T (capacity w) (sizes w) after
     proper-kept d =
-        subst (λ (S : List ℕ). Proper D (capacity w) S after) (sizes-same G g s r) (subst (λ (c : ℕ). Proper D c (sizes t) after) (cap-same G g s r) d)
+        subst (λ (S : List ℕ). Proper T (capacity w) S after) (sizes-same g s r) (subst (λ (c : ℕ). Proper T c (sizes t) after) (cap-same g s r) d)
 
-    wanted-proper : Proper D (capacity w) (sizes w) after → Proper D (capacity w) (sizes w) wanted
+    wanted-proper : Proper T (capacity w) (sizes w) after → Proper T (capacity w) (sizes w) wanted
     unfolding wanted
     wanted-proper d = record {
       some = d .some;
       most = d .most;
       list = d .list;
       places = wanted-long;
-      range = λ q hq x v. subst (D .InRange) (place-agrees q hq x v) (d .range q hq x v);
+      range = λ q hq x v. subst (T .InRange) (place-agrees q hq x v) (d .range q hq x v);
       fits = subst (λ (y : List (Branch K) × List (Node K)). length (y .1) ≤ capacity w) one-table (d .fits);
     }
 
-    wanted-pictures : (u : List ℕ) → Pictures D (capacity t) (sizes t) after u → Pictures D (capacity w) (sizes w) wanted u
+    wanted-pictures : (u : List ℕ) → Pictures T (capacity t) (sizes t) after u → Pictures T (capacity w) (sizes w) wanted u
     wanted-pictures u d =
-        subst (λ (y : List (Branch K) × List (Node K)). Shows D (capacity w) (sizes w) (y .0) (y .1) u) one-table
-        (subst (λ (S : List ℕ). Pictures D (capacity w) S after u) (sizes-same G g s r) (subst (λ (c : ℕ). Pictures D c (sizes t) after u) (cap-same G g s r) d))
+        subst (λ (y : List (Branch K) × List (Node K)). Shows T (capacity w) (sizes w) (y .0) (y .1) u) one-table
+        (subst (λ (S : List ℕ). Pictures T (capacity w) S after u) (sizes-same g s r) (subst (λ (c : ℕ). Pictures T c (sizes t) after u) (cap-same g s r) d))
 
-    becomes-kept : (u : List ℕ) → Becomes D p (meaning (nodes C t) b) t u → Becomes D p h w u
+    becomes-kept : (u : List ℕ) → Becomes T p (meaning (nodes T t) b) t u → Becomes T p h w u
     unfolding after wanted
     becomes-kept u d =
         record {
-          long = d .long ∙ kept G g s r .long;
+          long = d .long ∙ kept g s r .long;
           proper = wanted-proper (proper-kept (d .proper));
           pictures = wanted-pictures u (d .pictures);
-          past = λ j l. d .past j (omega (arith, cap-same G g s r)) ∙ kept G g s r .past j (omega (arith, cap-same G g s r));
+          past = λ j l. d .past j (omega (arith, cap-same g s r)) ∙ kept g s r .past j (omega (arith, cap-same g s r));
         }
 
   -- `roll_back` may be asked
-  pub none-asks : {w t : List ℕ} {n : ℕ} (g : Fun K) → Tested R w → Result T w t 0 g none → n ≡ count w → (Laid t) × (n ≤ count t)
+  pub none-asks : {w t : List ℕ} {n : ℕ} (g : Fun K) → Tested T w → Result (layoutOf T) w t 0 g none → n ≡ count w → (Laid t) × (n ≤ count t)
   none-asks {w} {t} g s r e =
-      (r .grown .well .laid .laid, omega (arith, undo-asks (L .faithful) w t (built T w 0 g .1) (tested-holds L s) (r .grown) (built-ext (lawful C) w 0 g)))
+      (r .grown .well .laid .laid, omega (arith, undo-asks L w t (built (layoutOf T) w 0 g .1) (tested-holds L s) (r .grown) (built-ext (lawful T) w 0 g)))
 
   -- THE LAW of every call that builds: NO ROOM exactly where the rests exceed the capacity, and then nothing is changed; else the function is written
-  pub settles : (G : Regular (formOf R)) {w t t′ : List ℕ} {p n : ℕ} {o : Outcome} (g : Fun K) (a : Option (Branch K)) → Tested R w → Result T w t 0 g a → p < D .places → n ≡ count w
-      → Settled C D p n t t′ a o → Puts D p g w t′ o
-  settles G {w} {t} {t′} {p} g (some b) s r hp e d = record {
+  pub settles : {w t t′ : List ℕ} {p n : ℕ} {o : Outcome} (g : Fun K) (a : Option (Branch K)) → Tested T w → Result (layoutOf T) w t 0 g a → p < T .places → n ≡ count w
+      → Settled T p n t t′ a o → Puts T p g w t′ o
+  settles {w} {t} {t′} {p} g (some b) s r hp e d = record {
     puts = λ h c.
         record {
           ends = pass (λ over. omega (arith, r .answers .1, built-tally g h s c)) (d .0);
-          becomes = λ q. becomes-kept G g s r p hp h c t′ (d .1);
+          becomes = λ q. becomes-kept g s r p hp h c t′ (d .1);
           refused = λ x q. not-refused (sym (d .0) ∙ q);
         };
   }
-  settles G {w} {t} {t′} {p} g none s r hp e d = record {
+  settles {w} {t} {t′} {p} g none s r hp e d = record {
     puts = λ h c.
         record {
           ends = (λ over. d .0, λ fits. absurd (fits (omega (arith, r .answers, built-tally g h s c))));
           becomes = λ q. not-taken (sym (d .0) ∙ q);
-          refused = λ x q. undo (L .faithful) w t (built T w 0 g .1) (tested-holds L s) (r .grown) (built-ext (lawful C) w 0 g) t′ (subst (Rolled t t′) e (d .1));
+          refused = λ x q. undo L w t (built (layoutOf T) w 0 g .1) (tested-holds L s) (r .grown) (built-ext (lawful T) w 0 g) t′ (subst (Rolled t t′) e (d .1));
         };
   }

@@ -11,19 +11,15 @@ use Rattle.theory.specs.Tally.{tally}
 use Rattle.theory.proofs.Ranges.{features-pos}
 use Rattle.theory.proofs.Rests.{nodes-tally}
 use Rattle.table_words.specs.Holding.{Holds}
-use Rattle.table_words.proofs.Coding.{length-nodes}
+use Rattle.table_words.specs.Table.{Table, Regular}
+use Rattle.table_words.proofs.Reading.{length-nodes}
 use Rattle.table_records.specs.Laid.{Laid}
 use Rattle.table_records.specs.Nodes.{layoutOf}
-use Rattle.table_checks.proofs.Pictures.{Reading, Read, Tested, tested-wf, tested-root, tested-list, tested-table}
-use Rattle.table_sweep.specs.Form.{Form}
+use Rattle.table_checks.proofs.Pictures.{Tested, tested-wf, tested-root, tested-list, tested-table}
 use Rattle.table_sweep.specs.Tidy.{Untidy}
 use Rattle.promises.specs.Words.{word, count, sizes}
 
--- the form of the tables that are read so
-abbrev pub formOf : {K : Kind} → Reading K → Form K
-formOf R = record { code = R .going .code; drawing = R .drawing; rootAt = R .rootAt }
-
-module _ {K : Kind} {R : Reading K} (L : Read R) {w : List ℕ} (s : Tested R w) where
+module _ {K : Kind} {T : Table K} (L : Regular T) {w : List ℕ} (s : Tested T w) where
   pub tested-pos : Pos (sizes w)
   tested-pos = features-pos (sizes w) (tested-list L s)
 
@@ -44,11 +40,11 @@ module _ {K : Kind} {R : Reading K} (L : Read R) {w : List ℕ} (s : Tested R w)
       }
 
   -- it can be built onto
-  pub tested-holds : Holds (layoutOf (R .going .code)) w
+  pub tested-holds : Holds (layoutOf T) w
   tested-holds = record { laid = record { laid = laid; padded = λ i h. s .nodes-ok i h .padded; spared = s .spared }; wf = tested-wf L s }
 
   -- a place may be replaced
-  pub tested-untidy : Untidy (formOf R) w
+  pub tested-untidy : Untidy T w
   tested-untidy =
       let h = s .header in
       record {
@@ -68,8 +64,8 @@ module _ {K : Kind} {R : Reading K} (L : Read R) {w : List ℕ} (s : Tested R w)
       }
 
   -- TALLY: the nodes in use are as many as the distinct rests of all places
-  pub tested-tally : count w ≡ tally (sizes w) (R .drawing .said w)
+  pub tested-tally : count w ≡ tally (sizes w) (T .said w)
   tested-tally =
-      sym (length-nodes (R .going .code) w)
+      sym (length-nodes T w)
       ∙ sym (ap (λ (q : List (Branch K) × List (Node K)). length (q .1)) (tested-table L s))
-      ∙ nodes-tally (sizes w) tested-pos (R .drawing .said w)
+      ∙ nodes-tally (sizes w) tested-pos (T .said w)

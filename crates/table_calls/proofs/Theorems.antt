@@ -12,11 +12,10 @@ use Rattle.settings.specs.declared.refusals.Refusal.{Refusal}
 use Rattle.settings.specs.declared.refusals.Outcome.{Outcome}
 use Rattle.settings.specs.declared.refusals.Outcome.the-variants.{Taken, Refused}
 use Rattle.settings.proofs.Endings.{pass, not-taken, not-refused}
-use Rattle.table_words.specs.Picture.{Drawing, Becomes}
-use Rattle.table_checks.proofs.Pictures.{Reading, Read}
-use Rattle.table_sweep.specs.Form.{funAt}
+use Rattle.table_words.specs.Table.{Table, Regular, funAt}
+use Rattle.table_words.specs.Picture.{Becomes}
+use Rattle.table_words.proofs.Reading.{length-said, at-said}
 use Rattle.table_calls.specs.Writing.{Writes, Puts}
-use Rattle.table_calls.proofs.Sounding.{formOf}
 use Rattle.promises.specs.Words.{sizes}
 
 -- how a call ended, taken apart
@@ -24,27 +23,27 @@ pub ended : {A : Type 0} (o : Outcome) → (o ≡ Taken → A) → ((x : Refusal
 ended Taken f g = f refl
 ended (Refused x) f g = g x refl
 
-module _ {K : Kind} {D : Drawing K} where
+module _ {K : Kind} {T : Table K} where
   -- ---- the promise met: a refusal that leaves everything, a call that is taken, a refusal more that does not apply
-  pub write-refused : {l : Cases} {p : ℕ} {g : Fun K} {w : List ℕ} {x : Refusal} → Ends l (Refused x) → Writes D l p g w w (Refused x)
+  pub write-refused : {l : Cases} {p : ℕ} {g : Fun K} {w : List ℕ} {x : Refusal} → Ends l (Refused x) → Writes T l p g w w (Refused x)
   write-refused e = record { ends = e; becomes = not-taken; refused = λ y q. refl }
 
-  pub write-taken : {l : Cases} {p : ℕ} {g : Fun K} {w w′ : List ℕ} → Ends l Taken → Becomes D p g w w′ → Writes D l p g w w′ Taken
+  pub write-taken : {l : Cases} {p : ℕ} {g : Fun K} {w w′ : List ℕ} → Ends l Taken → Becomes T p g w w′ → Writes T l p g w w′ Taken
   write-taken e b = record { ends = e; becomes = λ q. b; refused = λ y. not-refused }
 
-  pub write-pass : {l : Cases} {P : Type 0} {p : ℕ} {g : Fun K} {w w′ : List ℕ} {o : Outcome} (x : Refusal) → (P → ⊥) → Writes D l p g w w′ o → Writes D (x when P else l) p g w w′ o
+  pub write-pass : {l : Cases} {P : Type 0} {p : ℕ} {g : Fun K} {w w′ : List ℕ} {o : Outcome} (x : Refusal) → (P → ⊥) → Writes T l p g w w′ o → Writes T (x when P else l) p g w w′ o
   write-pass x n r = record { ends = pass n (r .ends); becomes = r .becomes; refused = r .refused }
 
   -- whichever way the function is said
-  pub puts-agree : {p : ℕ} {g h : Fun K} {w w′ : List ℕ} {o : Outcome} → Agree (sizes w) g h → Puts D p g w w′ o → Puts D p h w w′ o
+  pub puts-agree : {p : ℕ} {g h : Fun K} {w w′ : List ℕ} {o : Outcome} → Agree (sizes w) g h → Puts T p g w w′ o → Puts T p h w w′ o
   puts-agree e r = record { puts = λ k c. r .puts k (λ x v. e x v ∙ c x v) }
 
-module _ {K : Kind} {R : Reading K} (L : Read R) where
+module _ {K : Kind} {T : Table K} (L : Regular T) where
   -- ---- where the functions said are those before with that of place p replaced by g, place p has g
   module _ (p : ℕ) (g : Fun K) (w w′ : List ℕ)
-      (a : (q : ℕ) → q < R .drawing .places → Agree (sizes w) (getD (R .drawing .said w′) q zero-fun) (getD (set (R .drawing .said w) p g) q zero-fun)) where
-    now : (q : ℕ) → q < R .drawing .places → Agree (sizes w) (funAt (formOf R) w′ q) (getD (set (R .drawing .said w) p g) q zero-fun)
-    now q h t v = ap (λ (f : Fun K). f t) (sym (L .at-said w′ q h)) ∙ a q h t v
+      (a : (q : ℕ) → q < T .places → Agree (sizes w) (getD (T .said w′) q zero-fun) (getD (set (T .said w) p g) q zero-fun)) where
+    now : (q : ℕ) → q < T .places → Agree (sizes w) (funAt T w′ q) (getD (set (T .said w) p g) q zero-fun)
+    now q h t v = ap (λ (f : Fun K). f t) (sym (at-said L w′ q h)) ∙ a q h t v
 
-    pub place-written : p < R .drawing .places → Agree (sizes w) (funAt (formOf R) w′ p) g
-    place-written h t v = now p h t v ∙ ap (λ (f : Fun K). f t) (getD-set-same (R .drawing .said w) p g zero-fun (omega (arith, L .length-said w)))
+    pub place-written : p < T .places → Agree (sizes w) (funAt T w′ p) g
+    place-written h t v = now p h t v ∙ ap (λ (f : Fun K). f t) (getD-set-same (T .said w) p g zero-fun (omega (arith, length-said L w)))

@@ -10,7 +10,8 @@ use Rattle.settings.specs.declared.refusals.Refusal.{Refusal}
 use Rattle.settings.specs.declared.refusals.Refusal.the-variants.{BadOpening}
 use Rattle.settings.specs.declared.refusals.Outcome.{Outcome}
 use Rattle.settings.specs.declared.refusals.Outcome.the-variants.{Taken, Refused}
-use Rattle.table_words.specs.Picture.{Drawing, Pictures, Proper}
+use Rattle.table_words.specs.Table.{Table}
+use Rattle.table_words.specs.Picture.{Pictures, Proper}
 use Rattle.promises.specs.Tab.{tab}
 use Rattle.promises.specs.Words.{bound}
 use Rattle.promises.specs.TableDeeds.{Openable}
@@ -20,12 +21,12 @@ abbrev pub fresh : {K : Kind} → ℕ → List (Fun K)
 fresh n = tab (λ p. zero-fun) n
 
 -- opening with the list S and the capacity cap makes w into w′ and ends as o
-module _ {K : Kind} (D : Drawing K) where
+module _ {K : Kind} (T : Table K) where
   pub record Opens (S : List ℕ) (cap : ℕ) (w w′ : List ℕ) (o : Outcome) : Type 0 where
     pub ends : Ends (BadOpening when (Openable S cap (length w) → ⊥) else taken) o
     pub long : length w′ ≡ length w
-    pub proper : o ≡ Taken → Proper D cap S (fresh (D .places))
-    pub pictures : o ≡ Taken → Pictures D cap S (fresh (D .places)) w′
+    pub proper : o ≡ Taken → Proper T cap S (fresh (T .places))
+    pub pictures : o ≡ Taken → Pictures T cap S (fresh (T .places)) w′
     pub past : o ≡ Taken → (j : ℕ) → bound cap ≤ j → getD w′ j 0 ≡ getD w j 0
     pub refused : (x : Refusal) → o ≡ Refused x → w′ ≡ w
 

@@ -15,12 +15,12 @@ use Rattle.theory.specs.Walk.{scan, scans, close}
 use Rattle.theory.proofs.Ordering.{close-same}
 use Rattle.theory.proofs.Scanning.{scan-leaf, scan-from, scan-done, scan-close, close-none, close-other, scans-step, scans-lost, scans-nil}
 use Rattle.theory.proofs.WellFormed.{under-weaken}
-use Rattle.table_words.specs.Coding.{branches, nodes}
-use Rattle.table_words.proofs.Coding.{length-nodes, at-nodes, branch-at}
+use Rattle.table_words.specs.Table.{Table, Regular, branches, nodes}
+use Rattle.table_words.proofs.Reading.{length-nodes, at-nodes, branch-at}
 use Rattle.table_words.proofs.Tab.{tab-none, tab-snoc}
 use Rattle.settings.specs.Tells.{Tells}
 use Rattle.settings.proofs.Answers.{tells-eqb}
-use Rattle.table_checks.specs.Walk.{Going, Goes, Good, Says, Visits, VisitsAll, scan-below}
+use Rattle.table_checks.specs.Walk.{Good, Says, Visits, VisitsAll, scan-below}
 use Rattle.promises.specs.Tab.{tab}
 use Rattle.promises.specs.Words.{size, count, sizes, feature, body}
 
@@ -33,12 +33,12 @@ says-lost : (n d i : ℕ) (o : Option ℕ) → Says n d o → (d ≡ i → ⊥) 
 says-lost n d i none s e = subst (Says n 8192) (sym (close-none i)) refl
 says-lost n d i (some x) s e = subst (Says n 8192) (sym (close-other i x (λ q. e (s .0 ∙ q)))) refl
 
-module _ {K : Kind} {G : Going K} (L : Goes G) (w : List ℕ) where
+module _ {K : Kind} {T : Table K} (L : Regular T) (w : List ℕ) where
   abbrev N : List (Node K)
-  N = nodes (G .code) w
+  N = nodes T w
 
   -- ---- a branch
-  pub visits-end : {b c : ℕ} → b < G .first → c ≤ count w → Visits G w b c c
+  pub visits-end : {b c : ℕ} → b < T .first → c ≤ count w → Visits T w b c c
   visits-end {b} {c} h hc =
       let e = L .ends b h in
       record {
@@ -46,54 +46,54 @@ module _ {K : Kind} {G : Going K} (L : Goes G) (w : List ℕ) where
             (subst (Says (count w) c) (sym (scan-leaf N k (drop k (sizes w)) (e .0) c)) (refl, hc));
       }
 
-  module _ (b c i : ℕ) (wf : WF (sizes w) N) (most : count w ≤ 4096) (eb : b ≡ G .first + i) (h : i < count w) where
-    goal-is : G .goal b ≡ node i
-    goal-is = ap (G .goal) eb ∙ L .indices i
+  module _ (b c i : ℕ) (wf : WF (sizes w) N) (most : count w ≤ 4096) (eb : b ≡ T .first + i) (h : i < count w) where
+    goal-is : T .goal b ≡ node i
+    goal-is = ap (T .goal) eb ∙ L .indices i
 
     feature-in : at N i .feature < length (sizes w)
-    feature-in = wf .fits i (omega (arith, length-nodes (G .code) w)) .known
+    feature-in = wf .fits i (omega (arith, length-nodes T w)) .known
 
     -- from the node's own feature
-    from-own : (r : ℕ) → Says (count w) r (scan N (at N i .feature) (drop (at N i .feature) (sizes w)) (node i) c) → Visits G w b c r
+    from-own : (r : ℕ) → Says (count w) r (scan N (at N i .feature) (drop (at N i .feature) (sizes w)) (node i) c) → Visits T w b c r
     from-own r s =
         record {
           visits = λ k ok. subst (λ (t : Target K). Says (count w) r (scan N k (drop k (sizes w)) t c)) (sym goal-is)
               (subst (Says (count w) r) (sym (scan-from (sizes w) N wf i c k (subst (Under N (length N) k) goal-is ok))) s);
         }
 
-    pub visits-done : i < c → c ≤ count w → Visits G w b c c
+    pub visits-done : i < c → c ≤ count w → Visits T w b c c
     visits-done l hc = from-own c (subst (Says (count w) c) (sym (scan-done (sizes w) N i c feature-in l)) (refl, hc))
 
-    all-there : {d : ℕ} → VisitsAll G w i c d → Says (count w) d (scans (scan-below G w i) (at N i .branches) c)
+    all-there : {d : ℕ} → VisitsAll T w i c d → Says (count w) d (scans (scan-below T w i) (at N i .branches) c)
     all-there {d} v =
-        subst (λ (bs : List (Branch K)). Says (count w) d (scans (scan-below G w i) bs c)) (sym (ap (λ (x : Node K). x .branches) (at-nodes (G .code) w i h))) (v .visits)
+        subst (λ (bs : List (Branch K)). Says (count w) d (scans (scan-below T w i) bs c)) (sym (ap (λ (x : Node K). x .branches) (at-nodes T w i h))) (v .visits)
 
-    pub visits-close : {d : ℕ} → ¬ (i < c) → VisitsAll G w i c d → d ≡ i → Visits G w b c (i + 1)
+    pub visits-close : {d : ℕ} → ¬ (i < c) → VisitsAll T w i c d → d ≡ i → Visits T w b c (i + 1)
     visits-close {d} l v e =
         from-own (i + 1)
         (subst (Says (count w) (i + 1)) (sym (scan-close (sizes w) N i c feature-in l))
-        (says-close (count w) d i (scans (scan-below G w i) (at N i .branches) c) h most (all-there v) e))
+        (says-close (count w) d i (scans (scan-below T w i) (at N i .branches) c) h most (all-there v) e))
 
-    pub visits-lost : {d : ℕ} → ¬ (i < c) → VisitsAll G w i c d → (d ≡ i → ⊥) → Visits G w b c 8192
+    pub visits-lost : {d : ℕ} → ¬ (i < c) → VisitsAll T w i c d → (d ≡ i → ⊥) → Visits T w b c 8192
     visits-lost {d} l v e =
         from-own 8192
         (subst (Says (count w) 8192) (sym (scan-close (sizes w) N i c feature-in l))
-        (says-lost (count w) d i (scans (scan-below G w i) (at N i .branches) c) (all-there v) e))
+        (says-lost (count w) d i (scans (scan-below T w i) (at N i .branches) c) (all-there v) e))
 
   -- ---- branch v of node i, said by the word b
-  module _ {b : ℕ} (wf : WF (sizes w) N) (i v : ℕ) (h : i < count w) (hv : v < size w (feature w i)) (e : b ≡ G .word (body w i) v) where
-    goes-there : G .code .arm (body w i) v .to ≡ G .goal b
-    goes-there = L .arms (body w i) v ∙ ap (G .goal) (sym e)
+  module _ {b : ℕ} (wf : WF (sizes w) N) (i v : ℕ) (h : i < count w) (hv : v < size w (feature w i)) (e : b ≡ T .word (body w i) v) where
+    goes-there : T .arm (body w i) v .to ≡ T .goal b
+    goes-there = L .arms (body w i) v ∙ ap (T .goal) (sym e)
 
-    branch-good : Good G w (suc (at N i .feature)) b
+    branch-good : Good T w (suc (at N i .feature)) b
     branch-good =
-        let l : i < length N = omega (arith, length-nodes (G .code) w) in
-        subst (Under N (length N) (suc (at N i .feature))) (ap (λ (x : Branch K). x .to) (branch-at (G .code) w i v h hv) ∙ goes-there)
+        let l : i < length N = omega (arith, length-nodes T w) in
+        subst (Under N (length N) (suc (at N i .feature))) (ap (λ (x : Branch K). x .to) (branch-at T w i v h hv) ∙ goes-there)
         (under-weaken N i (length N) (suc (at N i .feature)) (suc (at N i .feature)) (getD (at N i .branches) v blank .to) (omega arith) (le-refl _) (wf .fits i l .lower v))
 
-    pub says-branch : {d r : ℕ} → Visits G w b d r → Says (count w) r (scan-below G w i (G .code .arm (body w i) v .to) d)
+    pub says-branch : {d r : ℕ} → Visits T w b d r → Says (count w) r (scan-below T w i (T .arm (body w i) v .to) d)
     says-branch {d} {r} s =
-        subst (λ (t : Target K). Says (count w) r (scan-below G w i t d)) (sym goes-there) (s .visits (suc (at N i .feature)) branch-good)
+        subst (λ (t : Target K). Says (count w) r (scan-below T w i t d)) (sym goes-there) (s .visits (suc (at N i .feature)) branch-good)
 
 -- ---- branches in turn: the first v are walked from c, and d nodes are done
 module _ {K : Kind} where
@@ -140,18 +140,18 @@ module _ {K : Kind} where
       walked : scans f bs 0 ≡ some d
       walked = ap (λ (l : List (Branch K)). scans f l 0) (eb ∙ ap (tab F) (sym ep)) ∙ k .walked
 
-module _ {K : Kind} {G : Going K} {w : List ℕ} {i c : ℕ} where
+module _ {K : Kind} {T : Table K} {w : List ℕ} {i c : ℕ} where
   -- ---- the branches of a node
-  pub visits-all : {d : ℕ} (v : ℕ) → Walk (scan-below G w i) (G .code .arm (body w i)) (count w) c v d → v ≡ size w (feature w i) → VisitsAll G w i c d
+  pub visits-all : {d : ℕ} (v : ℕ) → Walk (scan-below T w i) (T .arm (body w i)) (count w) c v d → v ≡ size w (feature w i) → VisitsAll T w i c d
   visits-all {d} v k e =
       record {
-        visits = subst (λ (m : ℕ). Says (count w) d (scans (scan-below G w i) (branches (G .code) m (body w i)) c)) e (subst (Says (count w) d) (sym (k .walked)) (refl, k .top));
+        visits = subst (λ (m : ℕ). Says (count w) d (scans (scan-below T w i) (branches T m (body w i)) c)) e (subst (Says (count w) d) (sym (k .walked)) (refl, k .top));
       }
 
-  pub visits-none : scans (scan-below G w i) (branches (G .code) (size w (feature w i)) (body w i)) c ≡ none → VisitsAll G w i c 8192
+  pub visits-none : scans (scan-below T w i) (branches T (size w (feature w i)) (body w i)) c ≡ none → VisitsAll T w i c 8192
   visits-none e = record { visits = subst (Says (count w) 8192) (sym e) refl }
 
 -- ---- the roots: r is the walk from the root x, said by the word b
-pub says-root : {K : Kind} {G : Going K} {w : List ℕ} {b d r : ℕ} (x : Branch K) → x .to ≡ G .goal b → Good G w 0 b → Visits G w b d r
-    → Says (count w) r (scan (nodes (G .code) w) 0 (sizes w) (x .to) d)
-says-root {G = G} {w} {b} {d} {r} x e o s = subst (λ (t : Target _). Says (count w) r (scan (nodes (G .code) w) 0 (sizes w) t d)) (sym e) (s .visits 0 o)
+pub says-root : {K : Kind} {T : Table K} {w : List ℕ} {b d r : ℕ} (x : Branch K) → x .to ≡ T .goal b → Good T w 0 b → Visits T w b d r
+    → Says (count w) r (scan (nodes T w) 0 (sizes w) (x .to) d)
+says-root {T = T} {w} {b} {d} {r} x e o s = subst (λ (t : Target _). Says (count w) r (scan (nodes T w) 0 (sizes w) t d)) (sym e) (s .visits 0 o)

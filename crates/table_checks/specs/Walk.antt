@@ -2,48 +2,33 @@
 use mathlib.Core.Path.{_≡_}
 use mathlib.Core.List.{List}
 use mathlib.Core.Option.{Option, none, some}
-use Prim.Native.Nat.{ℕ, suc, _+_, _≤_, _<_}
+use Prim.Native.Nat.{ℕ, suc, _≤_}
 use lib.ListN.{length, drop}
 use Rattle.theory.specs.Kind.{Kind}
-use Rattle.theory.specs.Diagrams.{Target, at, leaf, node}
+use Rattle.theory.specs.Diagrams.{Target, at}
 use Rattle.theory.specs.WellFormed.{Under}
 use Rattle.theory.specs.Walk.{scan, scans}
-use Rattle.table_words.specs.Coding.{Code, branches, nodes}
+use Rattle.table_words.specs.Table.{Table, branches, nodes}
 use Rattle.promises.specs.Words.{size, count, sizes, feature, body}
-
--- how the words of a kind say where branches go
-pub record Going (K : Kind) : Type 1 where
-  pub code : Code K
-  -- words below it end, the others say nodes
-  pub first : ℕ
-  -- the word of branch v of a body, and where a word goes
-  pub word : (ℕ → ℕ) → ℕ → ℕ
-  pub goal : ℕ → Target K
-
--- what they must obey
-pub record Goes {K : Kind} (G : Going K) : Type 0 where
-  pub arms : (f : ℕ → ℕ) (v : ℕ) → G .code .arm f v .to ≡ G .goal (G .word f v)
-  pub ends : (x : ℕ) → x < G .first → (e : K .End) × (G .goal x ≡ leaf e)
-  pub indices : (i : ℕ) → G .goal (G .first + i) ≡ node i
 
 -- a number up to n, or 8192 for a lost walk
 abbrev pub Says : ℕ → ℕ → Option ℕ → Type 0
 Says n r none = r ≡ 8192
 Says n r (some d) = (r ≡ d) × (d ≤ n)
 
-module _ {K : Kind} (G : Going K) where
+module _ {K : Kind} (T : Table K) where
   -- the branch word b may stand where features k and up are left
   abbrev pub Good : List ℕ → ℕ → ℕ → Type 0
-  Good w k b = Under (nodes (G .code) w) (length (nodes (G .code) w)) k (G .goal b)
+  Good w k b = Under (nodes T w) (length (nodes T w)) k (T .goal b)
 
   -- r is the walk from the branch word b, the nodes below c done; from whatever feature it sets out
   pub record Visits (w : List ℕ) (b c r : ℕ) : Type 0 where
-    pub visits : (k : ℕ) → Good w k b → Says (count w) r (scan (nodes (G .code) w) k (drop k (sizes w)) (G .goal b) c)
+    pub visits : (k : ℕ) → Good w k b → Says (count w) r (scan (nodes T w) k (drop k (sizes w)) (T .goal b) c)
 
   -- the walk over the features after that of node i
   abbrev pub scan-below : List ℕ → ℕ → Target K → ℕ → Option ℕ
-  scan-below w i = scan (nodes (G .code) w) (suc (at (nodes (G .code) w) i .feature)) (drop (suc (at (nodes (G .code) w) i .feature)) (sizes w))
+  scan-below w i = scan (nodes T w) (suc (at (nodes T w) i .feature)) (drop (suc (at (nodes T w) i .feature)) (sizes w))
 
   -- r is the walk over the branches of node i in turn
   pub record VisitsAll (w : List ℕ) (i c r : ℕ) : Type 0 where
-    pub visits : Says (count w) r (scans (scan-below w i) (branches (G .code) (size w (feature w i)) (body w i)) c)
+    pub visits : Says (count w) r (scans (scan-below w i) (branches T (size w (feature w i)) (body w i)) c)

@@ -7,11 +7,11 @@ use native.Mathlib.Omega.{arith}
 use lib.ListN.{length, getD}
 use Rattle.theory.specs.Diagrams.{Node}
 use Rattle.theory.specs.Kind.{Kind}
-use Rattle.table_words.specs.Coding.{Code, Faithful, nodeAt, nodes}
+use Rattle.table_words.specs.Table.{Table, Regular, nodeAt, nodes}
 use Rattle.table_words.specs.Holding as H
 use Rattle.table_words.specs.Words.{Kept}
 use Rattle.table_words.proofs.Chains.{last-ext}
-use Rattle.table_words.proofs.Coding.{node-is}
+use Rattle.table_words.proofs.Reading.{node-is}
 use Rattle.table_words.proofs.Sparing.{spared-same}
 use Rattle.table_words.proofs.Tab.{split, tab-ext}
 use Rattle.table_words.proofs.Words.{hashAt-ext}
@@ -81,7 +81,7 @@ module _ {w u : List ℕ} (e : Like w u) where
       clean = λ j a b. e .near j (omega (arith, cap)) ∙ d .clean j (omega (arith, cnt)) (omega (arith, cap));
     }
 
-    module _ {K : Kind} {C : Code K} (F : Faithful C) where
+    module _ {K : Kind} {C : Table K} (F : Regular C) where
       pub like-nodes : nodes C u ≡ nodes C w
       unfolding nodesBy
       like-nodes =
@@ -90,7 +90,7 @@ module _ {w u : List ℕ} (e : Like w u) where
           (λ i h. node-is F u i (feature w i) (size w (feature w i)) (body w i) (like-record i 0 h (omega arith)) (like-size (feature w i) (d .tests i h))
           (d .large (feature w i) (d .tests i h) .1) (λ v b. like-record i (1 + v) h (omega arith)))
 
-  module _ {K : Kind} {C : Code K} (F : Faithful C) where
+  module _ {K : Kind} {C : Table K} (F : Regular C) where
     like-padded : NodesLaid C w → NodesLaid C u
     like-padded ok =
         let d : Laid w = ok .laid in
@@ -130,7 +130,7 @@ grown-roomy t t′ k r =
     let l : length t′ ≡ length t = sym (length-plain t′) ∙ k .long ∙ length-plain t in
     record { room = omega (arith, c, l, r .room); most = omega (arith, c, r .most) }
 
-module _ {K : Kind} {C : Code K} (F : Faithful C) where
+module _ {K : Kind} {C : Table K} (F : Regular C) where
   pub plain-grown : (t t′ : List ℕ) (N : List (Node K)) → H.Grown (layoutOf C) t t′ N → H.Grown (layoutOf C) (plain t) (plain t′) N
   plain-grown t t′ N g =
       let c : capacity (plain t) ≡ capacity t = like-head (plain-like t) 1 (omega arith) in

@@ -1,4 +1,4 @@
--- The exact undo of a refused call: what was added, rolled back, leaves the words as they were. For every kind whose code is faithful. Assumes nothing.
+-- The exact undo of a refused call: what was added, rolled back, leaves the words as they were. For every table that is regular. Assumes nothing.
 use mathlib.Core.Path.{_≡_, sym, ap, _∙_}
 use mathlib.Core.Logic.{⊎-elim}
 use mathlib.Core.List.{List}
@@ -9,9 +9,9 @@ use Rattle.theory.specs.Build.{Ext}
 use Rattle.theory.specs.Diagrams.{Node, at}
 use Rattle.theory.proofs.Growing.{ext-le}
 use Rattle.theory.proofs.WellFormed.{at-more}
-use Rattle.table_words.specs.Coding.{Code, Faithful, branches, nodeAt, nodes}
+use Rattle.table_words.specs.Table.{Table, Regular, branches, nodeAt, nodes}
 use Rattle.table_words.specs.Holding.{Holds, Grown}
-use Rattle.table_words.proofs.Coding.{length-nodes, at-nodes, bodies-same}
+use Rattle.table_words.proofs.Reading.{length-nodes, at-nodes, bodies-same}
 use Rattle.table_words.proofs.Filling.{grown-ext}
 use Rattle.table_words.proofs.Sparing.{spare-ext}
 use Rattle.table_words.proofs.Tab.{same, split}
@@ -22,18 +22,18 @@ use Rattle.table_records.proofs.Making.{lawful}
 use Rattle.table_records.proofs.Undoing.{undone}
 use Rattle.promises.specs.Words.{size, sizes, count, word, feature, body}
 
-module _ {K : Kind} {C : Code K} (F : Faithful C) (w t : List ℕ) (N : List (Node K)) (ok : Holds (layoutOf C) w) (g : Grown (layoutOf C) w t N) (e : Ext (nodes C w) N) where
-  x : Ext (nodes C w) (nodes C t)
-  x = grown-ext (lawful C) w t N ok g e
+module _ {K : Kind} {T : Table K} (L : Regular T) (w t : List ℕ) (N : List (Node K)) (ok : Holds (layoutOf T) w) (g : Grown (layoutOf T) w t N) (e : Ext (nodes T w) N) where
+  x : Ext (nodes T w) (nodes T t)
+  x = grown-ext (lawful T) w t N ok g e
 
   -- `roll_back` may be asked
   pub undo-asks : count w ≤ count t
-  undo-asks = omega (arith, ext-le x, length-nodes C w, length-nodes C t)
+  undo-asks = omega (arith, ext-le x, length-nodes T w, length-nodes T t)
 
-  node-kept : (i : ℕ) → i < count w → nodeAt C t i ≡ nodeAt C w i
+  node-kept : (i : ℕ) → i < count w → nodeAt T t i ≡ nodeAt T w i
   node-kept i h =
-      sym (at-nodes C t i (omega (arith, undo-asks))) ∙ ap (λ (M : List (Node K)). at M i) (x .ends)
-      ∙ at-more (nodes C w) (x .more) i (omega (arith, length-nodes C w)) ∙ at-nodes C w i h
+      sym (at-nodes T t i (omega (arith, undo-asks))) ∙ ap (λ (M : List (Node K)). at M i) (x .ends)
+      ∙ at-more (nodes T w) (x .more) i (omega (arith, length-nodes T w)) ∙ at-nodes T w i h
 
   feature-kept : (i : ℕ) → i < count w → feature t i ≡ feature w i
   feature-kept i h = ap (λ (y : Node K). y .feature) (node-kept i h)
@@ -43,8 +43,8 @@ module _ {K : Kind} {C : Code K} (F : Faithful C) (w t : List ℕ) (N : List (No
 
   body-kept : (i : ℕ) → i < count w → (v : ℕ) → v < 12 → body t i v ≡ body w i v
   body-kept i h =
-      bodies-same F (size w (feature w i)) (body t i) (body w i) (ok .laid .laid .large (feature w i) (ok .laid .laid .tests i h) .1)
-      (sym (ap (λ (m : ℕ). branches C m (body t i)) (size-kept i h)) ∙ ap (λ (y : Node K). y .branches) (node-kept i h))
+      bodies-same L (size w (feature w i)) (body t i) (body w i) (ok .laid .laid .large (feature w i) (ok .laid .laid .tests i h) .1)
+      (sym (ap (λ (m : ℕ). branches T m (body t i)) (size-kept i h)) ∙ ap (λ (y : Node K). y .branches) (node-kept i h))
       (rw (size-kept i h) at (g .well .laid .padded i (omega (arith, undo-asks))))
       (ok .laid .padded i h)
 
@@ -52,8 +52,8 @@ module _ {K : Kind} {C : Code K} (F : Faithful C) (w t : List ℕ) (N : List (No
   spare-kept : (i j : ℕ) → i < count w → j < 2 → word t i (14 + j) ≡ word w i (14 + j)
   spare-kept i j h l =
       g .well .laid .spared i j (omega (arith, undo-asks)) l
-      ∙ ap (λ (S : List ℕ). C .spareOf S (nodes C t) i j) (kept-sizes w t (g .kept) (ok .laid .laid .few))
-      ∙ sym (spare-ext F (sizes w) (nodes C w) (nodes C t) (ok .wf) x i j (omega (arith, length-nodes C w)))
+      ∙ ap (λ (S : List ℕ). T .spareOf S (nodes T t) i j) (kept-sizes w t (g .kept) (ok .laid .laid .few))
+      ∙ sym (spare-ext L (sizes w) (nodes T w) (nodes T t) (ok .wf) x i j (omega (arith, length-nodes T w)))
       ∙ sym (ok .laid .spared i j h l)
 
   -- equal nodes have equal words

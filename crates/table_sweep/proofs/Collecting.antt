@@ -8,11 +8,10 @@ use Rattle.theory.specs.Build.{table}
 use Rattle.theory.specs.Diagrams.{Branch, Node, meaning}
 use Rattle.theory.specs.Functions.{Fun}
 use Rattle.theory.specs.Kind.{Kind}
-use Rattle.table_words.specs.Coding.{Code, nodeAt, nodes}
+use Rattle.table_words.specs.Table.{Table, Regular, nodeAt, nodes, rootsOf, funAt, funsOf}
 use Rattle.table_words.proofs.Tab.{split, same, tab-ext}
 use Rattle.table_sweep.specs.Marks.{done}
 use Rattle.table_sweep.specs.Sweeping.{Cleared, Full, Brought}
-use Rattle.table_sweep.specs.Form.{Form, Regular, rootsOf, funAt, funsOf}
 use Rattle.table_sweep.specs.Collecting.{copies, Framed, Loose, Ready, Steady, Rooted, Collected}
 use Rattle.table_sweep.specs.Tidy.{Untidy}
 use Rattle.table_sweep.proofs.Bringing.{brought-record, brought-clean}
@@ -21,15 +20,15 @@ use Rattle.table_sweep.proofs.Framing.{few, size-most, known-copy, stea
 use Rattle.promises.specs.Tab.{tab}
 use Rattle.promises.specs.Words.{nodesBy, head, word, capacity, size, count, feature, Zeros}
 
-pub untidy-framed : {K : Kind} {F : Form K} {w : List ℕ} → Untidy F w → Framed (F .code) w
+pub untidy-framed : {K : Kind} {T : Table K} {w : List ℕ} → Untidy T w → Framed T w
 untidy-framed u = record { room = u .room; most = u .most; within = u .within; list = u .list; wf = u .wf; spared = u .spared }
 
-pub full-of : {K : Kind} {C : Code K} {w : List ℕ} → Ready C w → Full w
+pub full-of : {K : Kind} {T : Table K} {w : List ℕ} → Ready T w → Full w
 full-of r = record { room = r .framed .room; most = r .framed .most; within = r .framed .within; fewer = done-small r }
 
-module _ {K : Kind} {F : Form K} (R : Regular F) where
+module _ {K : Kind} {T : Table K} (L : Regular T) where
   -- ---- the chain heads cleared
-  module _ {w w′ : List ℕ} (u : Untidy F w) (c : Cleared w w′) where
+  module _ {w w′ : List ℕ} (u : Untidy T w) (c : Cleared w w′) where
     cleared-steady : Steady w w′
     unfolding word
     cleared-steady =
@@ -41,43 +40,43 @@ module _ {K : Kind} {F : Form K} (R : Regular F) where
           past = λ j h. c .after j (omega arith);
         }
 
-    abbrev framed : Framed (F .code) w
+    abbrev framed : Framed T w
     framed = untidy-framed u
 
-    cleared-nodes : nodes (F .code) w′ ≡ nodes (F .code) w
-    cleared-nodes = same-nodes (R .faithful) framed cleared-steady
+    cleared-nodes : nodes T w′ ≡ nodes T w
+    cleared-nodes = same-nodes L framed cleared-steady
 
-    cleared-root : (p : ℕ) → p < F .drawing .places → F .rootAt w′ p ≡ F .rootAt w p
-    cleared-root = R .places w w′ (λ p h. c .front (32 + p) (omega arith))
+    cleared-root : (p : ℕ) → p < T .places → T .rootAt w′ p ≡ T .rootAt w p
+    cleared-root = L .places w w′ (λ p h. c .front (32 + p) (omega arith))
 
-    pub cleared-loose : Loose F w′
+    pub cleared-loose : Loose T w′
     unfolding head
     cleared-loose =
         let e1 = same-capacity cleared-steady in
         let e19 = same-count cleared-steady in
         record {
-          framed = steady-framed (R .faithful) framed cleared-steady;
+          framed = steady-framed L framed cleared-steady;
           rooted = λ p h. rw (cleared-root p h, cleared-nodes) (u .rooted p h);
           nothing = c .front 31 (omega arith) ∙ u .shares .zeros 31 (omega arith) (omega arith);
           unmarked = λ i h. c .heads (4096 + i) (omega arith) (omega (arith, u .within, u .most));
           clean = record { zeros = λ j h g. c .after j (omega arith) ∙ u .clean .zeros j (omega arith) (omega arith) };
         }
 
-    cleared-funs : funsOf F w′ ≡ funsOf F w
+    cleared-funs : funsOf T w′ ≡ funsOf T w
     cleared-funs =
-        tab-ext (funAt F w′) (funAt F w) (F .drawing .places)
+        tab-ext (funAt T w′) (funAt T w) (T .places)
         (λ p h. ap₂ (λ (N : List (Node K)) (b : Branch K). let g : Fun K = meaning N b in g) cleared-nodes (cleared-root p h))
 
-    pub rooted-from : {t : List ℕ} → Rooted F w′ t → Rooted F w t
+    pub rooted-from : {t : List ℕ} → Rooted T w′ t → Rooted T w t
     rooted-from a =
         record {
           steady = steady-trans cleared-steady (a .steady);
           ready = a .ready;
-          holds = ap₂ (λ (S : List ℕ) (gs : List (Fun K)). table S gs) (sym (same-sizes (R .faithful) framed cleared-steady)) (sym cleared-funs) ∙ a .holds;
+          holds = ap₂ (λ (S : List ℕ) (gs : List (Fun K)). table S gs) (sym (same-sizes L framed cleared-steady)) (sym cleared-funs) ∙ a .holds;
         }
 
   -- ---- the way back
-  module _ {w t w′ : List ℕ} (u : Untidy F w) (a : Rooted F w t) (b : Brought t w′) where
+  module _ {w t w′ : List ℕ} (u : Untidy T w) (a : Rooted T w t) (b : Brought t w′) where
     abbrev full : Full t
     full = full-of (a .ready)
 
@@ -94,16 +93,16 @@ module _ {K : Kind} {F : Form K} (R : Regular F) where
     size-at : (i : ℕ) → i < done t → size w′ (feature t (capacity t + i)) ≡ size t (feature t (capacity t + i))
     size-at i h = b .header (3 + feature t (capacity t + i)) (omega (arith, known-copy (a .ready) i h, few (a .ready .framed)))
 
-    roots-back : rootsOf F t ≡ rootsOf F w′
+    roots-back : rootsOf T t ≡ rootsOf T w′
     roots-back =
-        tab-ext (F .rootAt t) (F .rootAt w′) (F .drawing .places) (λ p h. sym (R .places t w′ (λ q g. b .middle (32 + q) (omega arith) (omega arith)) p h))
+        tab-ext (T .rootAt t) (T .rootAt w′) (T .places) (λ p h. sym (L .places t w′ (λ q g. b .middle (32 + q) (omega arith) (omega arith)) p h))
 
-    nodes-back : nodes (F .code) w′ ≡ copies (F .code) t
+    nodes-back : nodes T w′ ≡ copies T t
     unfolding nodesBy copies
     nodes-back =
-        ap (tab (nodeAt (F .code) w′)) (b .fewer)
-        ∙ tab-ext (nodeAt (F .code) w′) (λ i. nodeAt (F .code) t (capacity t + i)) (done t)
-        (λ i h. node-same (R .faithful) t w′ (capacity t + i) i (record-at i 0 h (omega arith)) (size-at i h) (λ v hv. record-at i (1 + v) h (omega arith))
+        ap (tab (nodeAt T w′)) (b .fewer)
+        ∙ tab-ext (nodeAt T w′) (λ i. nodeAt T t (capacity t + i)) (done t)
+        (λ i h. node-same L t w′ (capacity t + i) i (record-at i 0 h (omega arith)) (size-at i h) (λ v hv. record-at i (1 + v) h (omega arith))
         (size-most (a .ready .framed) (feature t (capacity t + i)) (known-copy (a .ready) i h)))
 
     -- past the nodes the near records are as they were: 0
@@ -124,7 +123,7 @@ module _ {K : Kind} {F : Form K} (R : Regular F) where
         (same j 31))
         (split j 19)
 
-    pub collected : Collected F w w′
+    pub collected : Collected T w w′
     collected =
         let n = b .fewer in
         let z = brought-clean full b near-clean (a .ready .clean) in
@@ -137,9 +136,9 @@ module _ {K : Kind} {F : Form K} (R : Regular F) where
           fewer = omega (arith, full .fewer, cnt);
           padded = λ i h.
               let l : i < done t = omega arith in
-              padded-same (R .faithful) t w′ (capacity t + i) i (record-at i 0 l (omega arith)) (size-at i l) (λ v hv. record-at i (1 + v) l (omega arith)) (a .ready .padded i l);
+              padded-same L t w′ (capacity t + i) i (record-at i 0 l (omega arith)) (size-at i l) (λ v hv. record-at i (1 + v) l (omega arith)) (a .ready .padded i l);
           spared = λ i j h g. record-at i (14 + j) (omega arith) (omega arith) ∙ a .ready .spared i j (omega arith) g
-              ∙ ap₂ (λ (S : List ℕ) (M : List (Node K)). F .code .spareOf S M i j) (same-sizes (R .faithful) (untidy-framed u) (a .steady)) (sym nodes-back);
+              ∙ ap₂ (λ (S : List ℕ) (M : List (Node K)). T .spareOf S M i j) (same-sizes L (untidy-framed u) (a .steady)) (sym nodes-back);
           clean = record { zeros = λ j h g. z .zeros j h (omega (arith, cap)) };
           past = λ j h. b .past j (omega (arith, full .within, cap)) ∙ a .steady .past j h;
         }

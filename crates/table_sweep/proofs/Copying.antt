@@ -10,10 +10,10 @@ use Rattle.theory.specs.Diagrams.{Branch, Node, at, blank, leaf, node}
 use Rattle.theory.specs.Kind.{Kind}
 use Rattle.theory.proofs.Growing.{ext-append}
 use Rattle.theory.proofs.Copying.{copies-leaf, copies-twin, copies-new, lists-none, lists-more, half-new, marked-le, marked-lt, marked-more}
-use Rattle.table_words.specs.Coding.{Code, Faithful, branches, nodeAt, nodes}
+use Rattle.table_words.specs.Table.{Table, Regular, branches, nodeAt, nodes}
 use Rattle.table_words.specs.Words.{listed}
 use Rattle.table_words.proofs.Sparing.{spare-ext}
-use Rattle.table_words.proofs.Coding.{length-nodes, at-nodes, branch-at, node-is}
+use Rattle.table_words.proofs.Reading.{length-nodes, at-nodes, branch-at, node-is}
 use Rattle.table_words.proofs.Tab.{split, tab-snoc, tab-ext, length-tab}
 use Rattle.table_sweep.specs.Marks.{done, mark}
 use Rattle.table_sweep.specs.Sweeping.{Spare, Put}
@@ -24,52 +24,52 @@ use Rattle.table_sweep.proofs.Framing.{same-size, same-sizes, steady-fr
 use Rattle.promises.specs.Tab.{tab}
 use Rattle.promises.specs.Words.{word, capacity, size, count, sizes, feature, body}
 
-module _ {K : Kind} {C : Code K} where
-  still-refl : {w : List ℕ} → Ready C w → Still C w w
+module _ {K : Kind} {T : Table K} where
+  still-refl : {w : List ℕ} → Ready T w → Still T w w
   still-refl {w} r = record { steady = steady-refl w; ready = r; places-kept = λ p h. refl }
 
-  still-trans : {a b c : List ℕ} → Still C a b → Still C b c → Still C a c
+  still-trans : {a b c : List ℕ} → Still T a b → Still T b c → Still T a c
   still-trans p q = record { steady = steady-trans (p .steady) (q .steady); ready = q .ready; places-kept = λ n h. q .places-kept n h ∙ p .places-kept n h }
 
   -- ---- an end, and a node that has a copy
-  pub moved-leaf : {w : List ℕ} {e : K .End} → Ready C w → Moved C w w (leaf e) (leaf e)
+  pub moved-leaf : {w : List ℕ} {e : K .End} → Ready T w → Moved T w w (leaf e) (leaf e)
   moved-leaf r = record { still = still-refl r; moved = copies-leaf (positive (r .framed)) (r .half .wf); later = λ x hx l. refl }
 
   -- no more copies than nodes
-  pub done-small : {w : List ℕ} → Ready C w → done w ≤ count w
+  pub done-small : {w : List ℕ} → Ready T w → done w ≤ count w
   done-small {w} r = omega (arith, r .tallied, marked-le (mark w) (count w))
 
-  pub marked-small : {w : List ℕ} → Ready C w → (i c : ℕ) → i < count w → c ≡ mark w i → c ≤ done w
+  pub marked-small : {w : List ℕ} → Ready T w → (i c : ℕ) → i < count w → c ≡ mark w i → c ≤ done w
   marked-small {w} r i zero h e = omega arith
   marked-small {w} r i (suc c) h e =
-      let t : Twin (sizes w) (nodes C w) (copies C w) i c = r .half .twin i c (omega (arith, length-nodes C w)) (sym e) in
-      omega (arith, t .mean .ok .0, length-copies C w)
+      let t : Twin (sizes w) (nodes T w) (copies T w) i c = r .half .twin i c (omega (arith, length-nodes T w)) (sym e) in
+      omega (arith, t .mean .ok .0, length-copies T w)
 
-  pub moved-marked : {w : List ℕ} (i j : ℕ) → Ready C w → i < count w → mark w i ≡ suc j → Moved C w w (node i) (node j)
+  pub moved-marked : {w : List ℕ} (i j : ℕ) → Ready T w → i < count w → mark w i ≡ suc j → Moved T w w (node i) (node j)
   moved-marked {w} i j r h e =
-      let t : Twin (sizes w) (nodes C w) (copies C w) i j = r .half .twin i j (omega (arith, length-nodes C w)) e in
+      let t : Twin (sizes w) (nodes T w) (copies T w) i j = r .half .twin i j (omega (arith, length-nodes T w)) e in
       record { still = still-refl r; moved = copies-twin (positive (r .framed)) (r .framed .wf) (r .half .wf) t; later = λ x hx l. refl }
 
   -- ---- the branches of a node in turn
-  pub turning-none : {w : List ℕ} (i : ℕ) → Ready C w → Turning C w w i 0 []
+  pub turning-none : {w : List ℕ} (i : ℕ) → Ready T w → Turning T w w i 0 []
   turning-none i r = record { still = still-refl r; turned = lists-none; later = λ x hx h. refl }
 
-module _ {K : Kind} {C : Code K} (F : Faithful C) where
-  module _ {w t t′ : List ℕ} {i v : ℕ} {bs : List (Branch K)} (b : Branch K) (ready : Ready C w) (h : i < count w) (hv : v < size w (feature w i)) (m : Turning C w t i v bs)
-      (c : Moved C t t′ (C .arm (body t i) v .to) (b .to)) (e : b .adds ≡ C .arm (body w i) v .adds) where
-    copied : Copies (sizes w) (nodes C w) (getD (at (nodes C w) i .branches) v blank .to) (copies C t) (b .to) (copies C t′)
+module _ {K : Kind} {T : Table K} (L : Regular T) where
+  module _ {w t t′ : List ℕ} {i v : ℕ} {bs : List (Branch K)} (b : Branch K) (ready : Ready T w) (h : i < count w) (hv : v < size w (feature w i)) (m : Turning T w t i v bs)
+      (c : Moved T t t′ (T .arm (body t i) v .to) (b .to)) (e : b .adds ≡ T .arm (body w i) v .adds) where
+    copied : Copies (sizes w) (nodes T w) (getD (at (nodes T w) i .branches) v blank .to) (copies T t) (b .to) (copies T t′)
     copied =
-        subst (λ (x : Branch K). Copies (sizes w) (nodes C w) (x .to) (copies C t) (b .to) (copies C t′))
-        (arm-kept F (ready .framed) (m .still .steady) i v h hv ∙ sym (branch-at C w i v h hv))
-        (copies-back F (ready .framed) (m .still .steady) (c .moved))
+        subst (λ (x : Branch K). Copies (sizes w) (nodes T w) (x .to) (copies T t) (b .to) (copies T t′))
+        (arm-kept L (ready .framed) (m .still .steady) i v h hv ∙ sym (branch-at T w i v h hv))
+        (copies-back L (ready .framed) (m .still .steady) (c .moved))
 
-    pub turning-more : Turning C w t′ i (suc v) (bs ++ (b ∷ []))
+    pub turning-more : Turning T w t′ i (suc v) (bs ++ (b ∷ []))
     turning-more =
         record {
           still = still-trans (m .still) (c .still);
-          turned = lists-more (ready .framed .wf) (omega (arith, length-nodes C w)) (m .turned) (e ∙ ap (λ (x : Branch K). x .adds) (sym (branch-at C w i v h hv))) copied;
+          turned = lists-more (ready .framed .wf) (omega (arith, length-nodes T w)) (m .turned) (e ∙ ap (λ (x : Branch K). x .adds) (sym (branch-at T w i v h hv))) copied;
           later = λ x hx hi.
-              c .later x (omega (arith, same-count (m .still .steady))) (still-before F (ready .framed) (m .still .steady) i v h hv x hi) ∙ m .later x hx hi;
+              c .later x (omega (arith, same-count (m .still .steady))) (still-before L (ready .framed) (m .still .steady) i v h hv x hi) ∙ m .later x hx hi;
         }
 
   -- ---- a new copy
@@ -83,8 +83,8 @@ module _ {K : Kind} {C : Code K} (F : Faithful C) where
         past = λ j hj. p .after j (omega (arith, s .free));
       }
 
-  module _ {w t : List ℕ} {i : ℕ} {l : List ℕ} (ready : Ready C w) (h : i < count w) (none : mark w i ≡ 0) (m : Moving C w t i (size w (feature w i)) l) where
-    abbrev then : Ready C t
+  module _ {w t : List ℕ} {i : ℕ} {l : List ℕ} (ready : Ready T w) (h : i < count w) (none : mark w i ≡ 0) (m : Moving T w t i (size w (feature w i)) l) where
+    abbrev then : Ready T t
     then = m .turning .still .ready
 
     abbrev so-far : Steady w t
@@ -116,7 +116,7 @@ module _ {K : Kind} {C : Code K} (F : Faithful C) where
       room-same = p .low 1 (omega arith) (omega arith) (omega arith)
 
       abbrev new : Node K
-      new = record { feature = at (nodes C w) i .feature; branches = branches C (size w (feature w i)) (listed l) }
+      new = record { feature = at (nodes T w) i .feature; branches = branches T (size w (feature w i)) (listed l) }
 
       -- word j of an old copy, and the words of the new one
       old-word : (x j : ℕ) → x < done t → j < 16 → word t′ (capacity t′ + x) j ≡ word t (capacity t + x) j
@@ -129,100 +129,100 @@ module _ {K : Kind} {C : Code K} (F : Faithful C) where
       body-new v hv = ap (λ (n : ℕ). body t′ (n + done t) v) room-same ∙ p .new v hv
 
       size-same : size t′ (feature w i) ≡ size w (feature w i)
-      size-same = same-size F (ready .framed) steady-all (feature w i) (known (ready .framed) i h)
+      size-same = same-size L (ready .framed) steady-all (feature w i) (known (ready .framed) i h)
 
       size-old : (x : ℕ) → x < done t → size t′ (feature t (capacity t + x)) ≡ size t (feature t (capacity t + x))
-      size-old x hx = same-size F (then .framed) steady (feature t (capacity t + x)) (known-copy then x hx)
+      size-old x hx = same-size L (then .framed) steady (feature t (capacity t + x)) (known-copy then x hx)
 
-      new-node : nodeAt C t′ (capacity t′ + done t) ≡ new
+      new-node : nodeAt T t′ (capacity t′ + done t) ≡ new
       new-node =
-          node-is F t′ (capacity t′ + done t) (feature w i) (size w (feature w i)) (listed l) feature-new size-same (size-small (ready .framed) i h) body-new
-          ∙ ap (λ (k : ℕ). let x : Node K = record { feature = k; branches = branches C (size w (feature w i)) (listed l) } in x)
-          (sym (ap (λ (x : Node K). x .feature) (at-nodes C w i h)))
+          node-is L t′ (capacity t′ + done t) (feature w i) (size w (feature w i)) (listed l) feature-new size-same (size-small (ready .framed) i h) body-new
+          ∙ ap (λ (k : ℕ). let x : Node K = record { feature = k; branches = branches T (size w (feature w i)) (listed l) } in x)
+          (sym (ap (λ (x : Node K). x .feature) (at-nodes T w i h)))
 
-      copies-put : copies C t′ ≡ copies C t ++ (new ∷ [])
+      copies-put : copies T t′ ≡ copies T t ++ (new ∷ [])
       unfolding copies
       copies-put =
-          ap (tab (λ x. nodeAt C t′ (capacity t′ + x))) (p .more)
-          ∙ tab-snoc (λ x. nodeAt C t′ (capacity t′ + x)) (done t)
+          ap (tab (λ x. nodeAt T t′ (capacity t′ + x))) (p .more)
+          ∙ tab-snoc (λ x. nodeAt T t′ (capacity t′ + x)) (done t)
           ∙ ap₂ (λ (N : List (Node K)) (x : Node K). N ++ (x ∷ []))
-          (tab-ext (λ x. nodeAt C t′ (capacity t′ + x)) (λ x. nodeAt C t (capacity t + x)) (done t)
-          (λ x hx. node-same F t t′ (capacity t + x) (capacity t′ + x) (old-word x 0 hx (omega arith)) (size-old x hx)
+          (tab-ext (λ x. nodeAt T t′ (capacity t′ + x)) (λ x. nodeAt T t (capacity t + x)) (done t)
+          (λ x hx. node-same L t t′ (capacity t + x) (capacity t′ + x) (old-word x 0 hx (omega arith)) (size-old x hx)
           (λ v hv. old-word x (1 + v) hx (omega arith)) (size-most (then .framed) (feature t (capacity t + x)) (known-copy then x hx))))
           new-node
 
-      abbrev was-half : Half (sizes w) (nodes C w) (copies C t) (mark t)
-      was-half = half-back F (ready .framed) so-far (then .half)
+      abbrev was-half : Half (sizes w) (nodes T w) (copies T t) (mark t)
+      was-half = half-back L (ready .framed) so-far (then .half)
 
-      there : i < length (nodes C w)
-      there = omega (arith, length-nodes C w)
+      there : i < length (nodes T w)
+      there = omega (arith, length-nodes T w)
 
-      all-listed : Lists (sizes w) (nodes C w) i (copies C w) (length (at (nodes C w) i .branches)) (branches C (size w (feature w i)) (listed l)) (copies C t)
+      all-listed : Lists (sizes w) (nodes T w) i (copies T w) (length (at (nodes T w) i .branches)) (branches T (size w (feature w i)) (listed l)) (copies T t)
       all-listed =
-          subst (λ (n : ℕ). Lists (sizes w) (nodes C w) i (copies C w) n (branches C (size w (feature w i)) (listed l)) (copies C t))
-          (sym (ap (λ (x : Node K). length (x .branches)) (at-nodes C w i h) ∙ length-tab (C .arm (body w i)) (size w (feature w i))))
+          subst (λ (n : ℕ). Lists (sizes w) (nodes T w) i (copies T w) n (branches T (size w (feature w i)) (listed l)) (copies T t))
+          (sym (ap (λ (x : Node K). length (x .branches)) (at-nodes T w i h) ∙ length-tab (T .arm (body w i)) (size w (feature w i))))
           (m .turning .turned)
 
-      now-copied : Copies (sizes w) (nodes C w) (node i) (copies C w) (node (length (copies C t))) (copies C t ++ (new ∷ []))
+      now-copied : Copies (sizes w) (nodes T w) (node i) (copies T w) (node (length (copies T t))) (copies T t ++ (new ∷ []))
       now-copied = copies-new (positive (ready .framed)) (ready .framed .wf) (ready .half .wf) there was-half unmarked all-listed
 
       others : (x : ℕ) → x < count w → (x ≡ i → ⊥) → mark t′ x ≡ mark t x
       others x hx q = put-marks p x (omega (arith, ready .framed .within, ready .framed .most)) q
 
-      now-half : Half (sizes w) (nodes C w) (copies C t ++ (new ∷ [])) (mark t′)
+      now-half : Half (sizes w) (nodes T w) (copies T t ++ (new ∷ [])) (mark t′)
       now-half =
           half-new (positive (ready .framed)) (ready .framed .wf) (ready .half .wf) there was-half unmarked all-listed
-          (p .noted ∙ ap suc (sym (length-copies C t))) (λ x hx q. others x (omega (arith, length-nodes C w)) q)
+          (p .noted ∙ ap suc (sym (length-copies T t))) (λ x hx q. others x (omega (arith, length-nodes T w)) q)
 
       -- a far record is an old one or the new one
-      now-padded : (x : ℕ) → x < done t′ → C .Padded (size t′ (feature t′ (capacity t′ + x))) (body t′ (capacity t′ + x))
+      now-padded : (x : ℕ) → x < done t′ → T .Padded (size t′ (feature t′ (capacity t′ + x))) (body t′ (capacity t′ + x))
       now-padded x hx = ⊎-elim old fresh (split x (done t))
         where
-          old : x < done t → C .Padded (size t′ (feature t′ (capacity t′ + x))) (body t′ (capacity t′ + x))
+          old : x < done t → T .Padded (size t′ (feature t′ (capacity t′ + x))) (body t′ (capacity t′ + x))
           old g =
-              padded-same F t t′ (capacity t + x) (capacity t′ + x) (old-word x 0 g (omega arith)) (size-old x g) (λ v hv. old-word x (1 + v) g (omega arith)) (then .padded x g)
+              padded-same L t t′ (capacity t + x) (capacity t′ + x) (old-word x 0 g (omega arith)) (size-old x g) (λ v hv. old-word x (1 + v) g (omega arith)) (then .padded x g)
 
-          new-padded : C .Padded (size t′ (feature t′ (capacity t′ + done t))) (body t′ (capacity t′ + done t))
+          new-padded : T .Padded (size t′ (feature t′ (capacity t′ + done t))) (body t′ (capacity t′ + done t))
           new-padded =
-              subst (λ (n : ℕ). C .Padded n (body t′ (capacity t′ + done t))) (sym (ap (size t′) feature-new ∙ size-same))
-              (F .padded (size w (feature w i)) (listed l) (body t′ (capacity t′ + done t)) (λ v hv. sym (body-new v hv)) (m .pad))
+              subst (λ (n : ℕ). T .Padded n (body t′ (capacity t′ + done t))) (sym (ap (size t′) feature-new ∙ size-same))
+              (L .padded (size w (feature w i)) (listed l) (body t′ (capacity t′ + done t)) (λ v hv. sym (body-new v hv)) (m .pad))
 
-          fresh : done t ≤ x → C .Padded (size t′ (feature t′ (capacity t′ + x))) (body t′ (capacity t′ + x))
+          fresh : done t ≤ x → T .Padded (size t′ (feature t′ (capacity t′ + x))) (body t′ (capacity t′ + x))
           fresh g =
               let e : done t ≡ x = omega (arith, p .more) in
-              subst (λ (n : ℕ). C .Padded (size t′ (feature t′ (capacity t′ + n))) (body t′ (capacity t′ + n))) e new-padded
+              subst (λ (n : ℕ). T .Padded (size t′ (feature t′ (capacity t′ + n))) (body t′ (capacity t′ + n))) e new-padded
 
       -- an old copy's spare words are those that it has in the longer list, the new one's are those of its node
-      now-spared : (x j : ℕ) → x < done t′ → j < 2 → word t′ (capacity t′ + x) (14 + j) ≡ C .spareOf (sizes t′) (copies C t′) x j
+      now-spared : (x j : ℕ) → x < done t′ → j < 2 → word t′ (capacity t′ + x) (14 + j) ≡ T .spareOf (sizes t′) (copies T t′) x j
       now-spared x j hx g = ⊎-elim old fresh (split x (done t))
         where
-          old : x < done t → word t′ (capacity t′ + x) (14 + j) ≡ C .spareOf (sizes t′) (copies C t′) x j
+          old : x < done t → word t′ (capacity t′ + x) (14 + j) ≡ T .spareOf (sizes t′) (copies T t′) x j
           old l =
               old-word x (14 + j) l (omega arith)
               ∙ then .spared x j l g
-              ∙ spare-ext F (sizes t) (copies C t) (copies C t ++ (new ∷ [])) (then .half .wf) (ext-append (copies C t) (new ∷ [])) x j (omega (arith, length-copies C t))
-              ∙ sym (ap₂ (λ (S : List ℕ) (M : List (Node K)). C .spareOf S M x j) (same-sizes F (then .framed) steady) copies-put)
+              ∙ spare-ext L (sizes t) (copies T t) (copies T t ++ (new ∷ [])) (then .half .wf) (ext-append (copies T t) (new ∷ [])) x j (omega (arith, length-copies T t))
+              ∙ sym (ap₂ (λ (S : List ℕ) (M : List (Node K)). T .spareOf S M x j) (same-sizes L (then .framed) steady) copies-put)
 
-          new-spared : word t′ (capacity t′ + done t) (14 + j) ≡ C .spareOf (sizes t′) (copies C t′) (done t) j
+          new-spared : word t′ (capacity t′ + done t) (14 + j) ≡ T .spareOf (sizes t′) (copies T t′) (done t) j
           new-spared =
               ap (λ (n : ℕ). word t′ (n + done t) (14 + j)) room-same
               ∙ p .spare j g
               ∙ so-far .near i (14 + j) (omega (arith, ready .framed .within)) (omega arith)
               ∙ ready .framed .spared i j h g
-              ∙ F .spared (sizes w) (nodes C w) (copies C t ++ (new ∷ [])) i (done t) j (now-half .twin i (done t) there (p .noted))
-              ∙ sym (ap₂ (λ (S : List ℕ) (M : List (Node K)). C .spareOf S M (done t) j) (same-sizes F (ready .framed) steady-all) copies-put)
+              ∙ L .spared (sizes w) (nodes T w) (copies T t ++ (new ∷ [])) i (done t) j (now-half .twin i (done t) there (p .noted))
+              ∙ sym (ap₂ (λ (S : List ℕ) (M : List (Node K)). T .spareOf S M (done t) j) (same-sizes L (ready .framed) steady-all) copies-put)
 
-          fresh : done t ≤ x → word t′ (capacity t′ + x) (14 + j) ≡ C .spareOf (sizes t′) (copies C t′) x j
+          fresh : done t ≤ x → word t′ (capacity t′ + x) (14 + j) ≡ T .spareOf (sizes t′) (copies T t′) x j
           fresh l =
               let e : done t ≡ x = omega (arith, p .more) in
-              subst (λ (n : ℕ). word t′ (capacity t′ + n) (14 + j) ≡ C .spareOf (sizes t′) (copies C t′) n j) e new-spared
+              subst (λ (n : ℕ). word t′ (capacity t′ + n) (14 + j) ≡ T .spareOf (sizes t′) (copies T t′) n j) e new-spared
 
-      now-ready : Ready C t′
+      now-ready : Ready T t′
       now-ready =
           let c = room-same in
           record {
-            framed = steady-framed F (then .framed) steady;
-            half = subst (λ (M : List (Node K)). Half (sizes t′) (nodes C t′) M (mark t′)) (sym copies-put) (half-on F (ready .framed) steady-all now-half);
+            framed = steady-framed L (then .framed) steady;
+            half = subst (λ (M : List (Node K)). Half (sizes t′) (nodes T t′) M (mark t′)) (sym copies-put) (half-on L (ready .framed) steady-all now-half);
             tallied =
                 p .more
                 ∙ ap suc (then .tallied)
@@ -233,12 +233,12 @@ module _ {K : Kind} {C : Code K} (F : Faithful C) where
             clean = record { zeros = λ j hj g. p .after j (omega (arith, p .more)) ∙ then .clean .zeros j (omega (arith, p .more)) (omega arith) };
           }
 
-      pub moved-new : Moved C w t′ (node i) (node (done t))
+      pub moved-new : Moved T w t′ (node i) (node (done t))
       moved-new =
           record {
             still = still-trans (m .turning .still) (record { steady = steady; ready = now-ready; places-kept = λ n hn. p .low (32 + n) (omega arith) (omega arith) (omega arith) });
             moved =
-                subst (λ (M : List (Node K)). Copies (sizes w) (nodes C w) (node i) (copies C w) (node (done t)) M) (sym copies-put)
-                (subst (λ (n : ℕ). Copies (sizes w) (nodes C w) (node i) (copies C w) (node n) (copies C t ++ (new ∷ []))) (length-copies C t) now-copied);
+                subst (λ (M : List (Node K)). Copies (sizes w) (nodes T w) (node i) (copies T w) (node (done t)) M) (sym copies-put)
+                (subst (λ (n : ℕ). Copies (sizes w) (nodes T w) (node i) (copies T w) (node n) (copies T t ++ (new ∷ []))) (length-copies T t) now-copied);
             later = λ x hx hb. others x hx (omega (arith, hb .0)) ∙ m .turning .later x hx (omega (arith, hb .0));
           }

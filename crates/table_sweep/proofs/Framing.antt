@@ -10,8 +10,8 @@ use Rattle.theory.specs.Kind.{Kind}
 use Rattle.theory.specs.Settings.{FeatureList, Pos}
 use Rattle.theory.specs.WellFormed.{Under, WF}
 use Rattle.theory.proofs.Lists.{pos-of}
-use Rattle.table_words.specs.Coding.{Code, Faithful, nodeAt, nodes}
-use Rattle.table_words.proofs.Coding.{length-nodes, at-nodes, branch-at, node-is}
+use Rattle.table_words.specs.Table.{Table, Regular, nodeAt, nodes}
+use Rattle.table_words.proofs.Reading.{length-nodes, at-nodes, branch-at, node-is}
 use Rattle.table_words.proofs.Sparing.{spared-same}
 use Rattle.table_words.proofs.Tab.{length-tab, getD-tab, tab-ext}
 use Rattle.table_words.proofs.Words.{length-sizes, at-sizes}
@@ -32,20 +32,20 @@ under-zero N m n k (leaf p) h u = tt
 under-zero N m n k (node j) h u = (omega (arith, u .0), omega arith)
 
 -- ---- the copies by index
-module _ {K : Kind} (C : Code K) where
-  pub length-copies : (w : List ℕ) → length (copies C w) ≡ done w
+module _ {K : Kind} (T : Table K) where
+  pub length-copies : (w : List ℕ) → length (copies T w) ≡ done w
   unfolding copies
-  length-copies w = length-tab (λ n. nodeAt C w (capacity w + n)) (done w)
+  length-copies w = length-tab (λ n. nodeAt T w (capacity w + n)) (done w)
 
-  at-copies : (w : List ℕ) (i : ℕ) → i < done w → at (copies C w) i ≡ nodeAt C w (capacity w + i)
+  at-copies : (w : List ℕ) (i : ℕ) → i < done w → at (copies T w) i ≡ nodeAt T w (capacity w + i)
   unfolding copies
-  at-copies w i h = getD-tab (λ n. nodeAt C w (capacity w + n)) (done w) i empty h
+  at-copies w i h = getD-tab (λ n. nodeAt T w (capacity w + n)) (done w) i empty h
 
-pub known-copy : {K : Kind} {C : Code K} {w : List ℕ} → Ready C w → (i : ℕ) → i < done w → feature w (capacity w + i) < features w
-known-copy {K} {C} {w} r i h = known-in w (r .half .wf) i (omega (arith, length-copies C w)) (at-copies C w i h)
+pub known-copy : {K : Kind} {T : Table K} {w : List ℕ} → Ready T w → (i : ℕ) → i < done w → feature w (capacity w + i) < features w
+known-copy {K} {T} {w} r i h = known-in w (r .half .wf) i (omega (arith, length-copies T w)) (at-copies T w i h)
 
 -- ---- the header, node i and its branch v
-module _ {K : Kind} {C : Code K} {w : List ℕ} (f : Framed C w) where
+module _ {K : Kind} {T : Table K} {w : List ℕ} (f : Framed T w) where
   pub few : features w ≤ 16
   few = omega (arith, f .list .few, length-sizes w)
 
@@ -56,7 +56,7 @@ module _ {K : Kind} {C : Code K} {w : List ℕ} (f : Framed C w) where
   positive = pos-of (sizes w) (λ k h. omega (arith, f .list .least k h))
 
   pub known : (i : ℕ) → i < count w → feature w i < features w
-  known i h = known-in w (f .wf) i (omega (arith, length-nodes C w)) (at-nodes C w i h)
+  known i h = known-in w (f .wf) i (omega (arith, length-nodes T w)) (at-nodes T w i h)
 
   pub size-small : (i : ℕ) → i < count w → size w (feature w i) ≤ 8
   size-small i h = size-most (feature w i) (known i h)
@@ -65,13 +65,13 @@ module _ {K : Kind} {C : Code K} {w : List ℕ} (f : Framed C w) where
     pub value-small : v < 8
     value-small = omega (arith, size-small i h)
 
-    pub branch-under : Under (nodes C w) i (suc (at (nodes C w) i .feature)) (C .arm (body w i) v .to)
+    pub branch-under : Under (nodes T w) i (suc (at (nodes T w) i .feature)) (T .arm (body w i) v .to)
     branch-under =
-        subst (λ (b : Branch K). Under (nodes C w) i (suc (at (nodes C w) i .feature)) (b .to)) (branch-at C w i v h hv) (f .wf .fits i (omega (arith, length-nodes C w)) .lower v)
+        subst (λ (b : Branch K). Under (nodes T w) i (suc (at (nodes T w) i .feature)) (b .to)) (branch-at T w i v h hv) (f .wf .fits i (omega (arith, length-nodes T w)) .lower v)
 
     -- it goes to a node below n, where n is past node i
-    pub branch-before : (n : ℕ) → i ≤ n → Under (nodes C w) n 0 (C .arm (body w i) v .to)
-    branch-before n l = under-zero (nodes C w) i n (suc (at (nodes C w) i .feature)) (C .arm (body w i) v .to) l branch-under
+    pub branch-before : (n : ℕ) → i ≤ n → Under (nodes T w) n 0 (T .arm (body w i) v .to)
+    branch-before n l = under-zero (nodes T w) i n (suc (at (nodes T w) i .feature)) (T .arm (body w i) v .to) l branch-under
 
 -- ---- what stays
 pub steady-refl : (w : List ℕ) → Steady w w
@@ -106,16 +106,16 @@ module _ {w w′ : List ℕ} (k : Steady w w′) where
       ap (λ (x : ℕ). getD w′ x 0) e ∙ k .near ((j - 8192) / 16) ((j - 8192) % 16) (omega arith) (omega arith) ∙ ap (λ (x : ℕ). getD w x 0) (sym e)
 
 -- a record with the words of another says the same
-module _ {K : Kind} {C : Code K} (F : Faithful C) (w w′ : List ℕ) (i i′ : ℕ) (f : feature w′ i′ ≡ feature w i) (s : size w′ (feature w i) ≡ size w (feature w i))
+module _ {K : Kind} {T : Table K} (L : Regular T) (w w′ : List ℕ) (i i′ : ℕ) (f : feature w′ i′ ≡ feature w i) (s : size w′ (feature w i) ≡ size w (feature w i))
     (b : (v : ℕ) → v < 12 → body w′ i′ v ≡ body w i v) where
-  pub node-same : size w (feature w i) ≤ 8 → nodeAt C w′ i′ ≡ nodeAt C w i
-  node-same m = node-is F w′ i′ (feature w i) (size w (feature w i)) (body w i) f s m b
+  pub node-same : size w (feature w i) ≤ 8 → nodeAt T w′ i′ ≡ nodeAt T w i
+  node-same m = node-is L w′ i′ (feature w i) (size w (feature w i)) (body w i) f s m b
 
-  pub padded-same : C .Padded (size w (feature w i)) (body w i) → C .Padded (size w′ (feature w′ i′)) (body w′ i′)
+  pub padded-same : T .Padded (size w (feature w i)) (body w i) → T .Padded (size w′ (feature w′ i′)) (body w′ i′)
   padded-same p =
-      subst (λ (n : ℕ). C .Padded n (body w′ i′)) (sym (ap (size w′) f ∙ s)) (F .padded (size w (feature w i)) (body w i) (body w′ i′) (λ v h. sym (b v h)) p)
+      subst (λ (n : ℕ). T .Padded n (body w′ i′)) (sym (ap (size w′) f ∙ s)) (L .padded (size w (feature w i)) (body w i) (body w′ i′) (λ v h. sym (b v h)) p)
 
-module _ {K : Kind} {C : Code K} (F : Faithful C) {w w′ : List ℕ} (f : Framed C w) (k : Steady w w′) where
+module _ {K : Kind} {T : Table K} (L : Regular T) {w w′ : List ℕ} (f : Framed T w) (k : Steady w w′) where
   pub same-size : (n : ℕ) → n < features w → size w′ n ≡ size w n
   same-size n h = k .low (3 + n) (omega (arith, few f))
 
@@ -123,15 +123,15 @@ module _ {K : Kind} {C : Code K} (F : Faithful C) {w w′ : List ℕ} (f : Frame
   unfolding sizes
   same-sizes = ap (tab (size w′)) (same-features k) ∙ tab-ext (size w′) (size w) (features w) same-size
 
-  pub same-nodes : nodes C w′ ≡ nodes C w
+  pub same-nodes : nodes T w′ ≡ nodes T w
   unfolding nodesBy
   same-nodes =
-      ap (tab (nodeAt C w′)) (same-count k)
-      ∙ tab-ext (nodeAt C w′) (nodeAt C w) (count w)
+      ap (tab (nodeAt T w′)) (same-count k)
+      ∙ tab-ext (nodeAt T w′) (nodeAt T w) (count w)
       (λ i h. let l : i < capacity w = omega (arith, f .within) in
-      node-same F w w′ i i (k .near i 0 l (omega arith)) (same-size (feature w i) (known f i h)) (λ v hv. k .near i (1 + v) l (omega arith)) (size-small f i h))
+      node-same L w w′ i i (k .near i 0 l (omega arith)) (same-size (feature w i) (known f i h)) (λ v hv. k .near i (1 + v) l (omega arith)) (size-small f i h))
 
-  pub steady-framed : Framed C w′
+  pub steady-framed : Framed T w′
   steady-framed =
       let e1 = same-capacity k in
       let e19 = same-count k in
@@ -140,28 +140,28 @@ module _ {K : Kind} {C : Code K} (F : Faithful C) {w w′ : List ℕ} (f : Frame
         most = omega (arith, f .most);
         within = omega (arith, f .within);
         list = subst FeatureList (sym same-sizes) (f .list);
-        wf = subst (λ (S : List ℕ). WF S (nodes C w′)) (sym same-sizes) (subst (WF (sizes w)) (sym same-nodes) (f .wf));
-        spared = spared-same C w w′ (same-count k) same-sizes same-nodes (λ i j h g. k .near i (14 + j) (omega (arith, f .within)) (omega arith)) (f .spared);
+        wf = subst (λ (S : List ℕ). WF S (nodes T w′)) (sym same-sizes) (subst (WF (sizes w)) (sym same-nodes) (f .wf));
+        spared = spared-same T w w′ (same-count k) same-sizes same-nodes (λ i j h g. k .near i (14 + j) (omega (arith, f .within)) (omega arith)) (f .spared);
       }
 
   -- branch v of node i is as it was, so it may be copied
   module _ (i v : ℕ) (h : i < count w) (hv : v < size w (feature w i)) where
-    pub arm-kept : C .arm (body w′ i) v ≡ C .arm (body w i) v
-    arm-kept = F .reads (body w′ i) (body w i) v (value-small f i v h hv) (λ u l. k .near i (1 + u) (omega (arith, f .within)) (omega arith))
+    pub arm-kept : T .arm (body w′ i) v ≡ T .arm (body w i) v
+    arm-kept = L .reads (body w′ i) (body w i) v (value-small f i v h hv) (λ u l. k .near i (1 + u) (omega (arith, f .within)) (omega arith))
 
-    pub still-before : (n : ℕ) → i ≤ n → Under (nodes C w′) n 0 (C .arm (body w′ i) v .to)
+    pub still-before : (n : ℕ) → i ≤ n → Under (nodes T w′) n 0 (T .arm (body w′ i) v .to)
     still-before n l = rw (same-nodes, arm-kept) (branch-before f i v h hv n l)
 
-    pub still-good : Good C w′ (C .arm (body w′ i) v .to)
-    still-good = still-before (length (nodes C w′)) (omega (arith, length-nodes C w′, same-count k))
+    pub still-good : Good T w′ (T .arm (body w′ i) v .to)
+    still-good = still-before (length (nodes T w′)) (omega (arith, length-nodes T w′, same-count k))
 
-  pub half-back : {M : List (Node K)} {g : ℕ → ℕ} → Half (sizes w′) (nodes C w′) M g → Half (sizes w) (nodes C w) M g
-  half-back {M} {g} h = subst (λ (S : List ℕ). Half S (nodes C w) M g) same-sizes (subst (λ (O : List (Node K)). Half (sizes w′) O M g) same-nodes h)
+  pub half-back : {M : List (Node K)} {g : ℕ → ℕ} → Half (sizes w′) (nodes T w′) M g → Half (sizes w) (nodes T w) M g
+  half-back {M} {g} h = subst (λ (S : List ℕ). Half S (nodes T w) M g) same-sizes (subst (λ (O : List (Node K)). Half (sizes w′) O M g) same-nodes h)
 
-  pub half-on : {M : List (Node K)} {g : ℕ → ℕ} → Half (sizes w) (nodes C w) M g → Half (sizes w′) (nodes C w′) M g
+  pub half-on : {M : List (Node K)} {g : ℕ → ℕ} → Half (sizes w) (nodes T w) M g → Half (sizes w′) (nodes T w′) M g
   half-on {M} {g} h =
-      subst (λ (S : List ℕ). Half S (nodes C w′) M g) (sym same-sizes) (subst (λ (O : List (Node K)). Half (sizes w) O M g) (sym same-nodes) h)
+      subst (λ (S : List ℕ). Half S (nodes T w′) M g) (sym same-sizes) (subst (λ (O : List (Node K)). Half (sizes w) O M g) (sym same-nodes) h)
 
-  pub copies-back : {b b′ : Target K} {M M′ : List (Node K)} → Copies (sizes w′) (nodes C w′) b M b′ M′ → Copies (sizes w) (nodes C w) b M b′ M′
+  pub copies-back : {b b′ : Target K} {M M′ : List (Node K)} → Copies (sizes w′) (nodes T w′) b M b′ M′ → Copies (sizes w) (nodes T w) b M b′ M′
   copies-back {b} {b′} {M} {M′} h =
-      subst (λ (S : List ℕ). Copies S (nodes C w) b M b′ M′) same-sizes (subst (λ (O : List (Node K)). Copies (sizes w′) O b M b′ M′) same-nodes h)
+      subst (λ (S : List ℕ). Copies S (nodes T w) b M b′ M′) same-sizes (subst (λ (O : List (Node K)). Copies (sizes w′) O b M b′ M′) same-nodes h)

@@ -12,11 +12,10 @@ use Rattle.theory.specs.Kind.{Kind}
 use Rattle.theory.specs.WellFormed.{Ok}
 use Rattle.theory.proofs.Copying.{half-none, marked-none}
 use Rattle.theory.proofs.Growing.{each-last}
-use Rattle.table_words.specs.Coding.{Code, Faithful, nodeAt, nodes}
-use Rattle.table_words.proofs.Coding.{length-nodes}
+use Rattle.table_words.specs.Table.{Table, Regular, nodeAt, nodes, funAt}
+use Rattle.table_words.proofs.Reading.{length-nodes}
 use Rattle.table_words.proofs.Tab.{tab-none, tab-snoc, tab-ext}
 use Rattle.table_sweep.specs.Marks.{done, mark}
-use Rattle.table_sweep.specs.Form.{Form, Regular, funAt}
 use Rattle.table_sweep.specs.Collecting.{copies, Loose, Ready, Steady, Moved, Rooted}
 use Rattle.table_sweep.proofs.Framing.{known-copy, size-most, steady-refl, steady-trans, node-same, padded-same, same-size, same-sizes, same-nodes, steady-framed, half-on, copies-back}
 use Rattle.promises.specs.Tab.{tab}
@@ -29,10 +28,10 @@ pub record Replaced (w w′ : List ℕ) : Type 0 where
   pub rest : (j : ℕ) → 64 ≤ j → getD w′ j 0 ≡ getD w j 0
 
 -- and b stands in place p, in the others what stood there
-pub record Placed {K : Kind} (F : Form K) (w w′ : List ℕ) (p : ℕ) (b : Branch K) : Type 0 where
+pub record Placed {K : Kind} (T : Table K) (w w′ : List ℕ) (p : ℕ) (b : Branch K) : Type 0 where
   pub replaced : Replaced w w′
-  pub here : F .rootAt w′ p ≡ b
-  pub others : (q : ℕ) → q < F .drawing .places → (q ≡ p → ⊥) → F .rootAt w′ q ≡ F .rootAt w q
+  pub here : T .rootAt w′ p ≡ b
+  pub others : (q : ℕ) → q < T .places → (q ≡ p → ⊥) → T .rootAt w′ q ≡ T .rootAt w q
 
 -- ---- what stays
 module _ {w w′ : List ℕ} (c : Replaced w w′) where
@@ -53,114 +52,114 @@ module _ {w w′ : List ℕ} (c : Replaced w w′) where
   unfolding head
   marks = λ k i. c .rest (4096 + i) (omega arith) k
 
-  module _ {K : Kind} {C : Code K} (F : Faithful C) (r : Ready C w) where
+  module _ {K : Kind} {T : Table K} (L : Regular T) (r : Ready T w) where
     far-size : (x : ℕ) → x < done w → size w′ (feature w (capacity w + x)) ≡ size w (feature w (capacity w + x))
-    far-size x h = same-size F (r .framed) replaced-steady (feature w (capacity w + x)) (known-copy r x h)
+    far-size x h = same-size L (r .framed) replaced-steady (feature w (capacity w + x)) (known-copy r x h)
 
-    replaced-copies : copies C w′ ≡ copies C w
+    replaced-copies : copies T w′ ≡ copies T w
     unfolding copies
     replaced-copies =
-        ap (tab (λ x. nodeAt C w′ (capacity w′ + x))) (c .low 31 (omega arith))
-        ∙ tab-ext (λ x. nodeAt C w′ (capacity w′ + x)) (λ x. nodeAt C w (capacity w + x)) (done w)
-        (λ x h. node-same F w w′ (capacity w + x) (capacity w′ + x) (far-word x 0) (far-size x h) (λ v hv. far-word x (1 + v))
+        ap (tab (λ x. nodeAt T w′ (capacity w′ + x))) (c .low 31 (omega arith))
+        ∙ tab-ext (λ x. nodeAt T w′ (capacity w′ + x)) (λ x. nodeAt T w (capacity w + x)) (done w)
+        (λ x h. node-same L w w′ (capacity w + x) (capacity w′ + x) (far-word x 0) (far-size x h) (λ v hv. far-word x (1 + v))
         (size-most (r .framed) (feature w (capacity w + x)) (known-copy r x h)))
 
-    replaced-ready : Ready C w′
+    replaced-ready : Ready T w′
     replaced-ready =
         let e : capacity w′ ≡ capacity w = c .low 1 (omega arith) in
         let n : count w′ ≡ count w = c .low 19 (omega arith) in
         let d : done w′ ≡ done w = c .low 31 (omega arith) in
         record {
-          framed = steady-framed F (r .framed) replaced-steady;
+          framed = steady-framed L (r .framed) replaced-steady;
           half =
-              subst (λ (M : List (Node K)). Half (sizes w′) (nodes C w′) M (mark w′)) (sym replaced-copies)
-              (subst (λ (g : ℕ → ℕ). Half (sizes w′) (nodes C w′) (copies C w) g) (sym marks) (half-on F (r .framed) replaced-steady (r .half)));
+              subst (λ (M : List (Node K)). Half (sizes w′) (nodes T w′) M (mark w′)) (sym replaced-copies)
+              (subst (λ (g : ℕ → ℕ). Half (sizes w′) (nodes T w′) (copies T w) g) (sym marks) (half-on L (r .framed) replaced-steady (r .half)));
           tallied = d ∙ r .tallied ∙ ap (λ (g : ℕ → ℕ). marked g (count w)) (sym marks) ∙ ap (marked (mark w′)) (sym n);
           padded = λ x hx.
               let l : x < done w = omega arith in
-              padded-same F w w′ (capacity w + x) (capacity w′ + x) (far-word x 0) (far-size x l) (λ v hv. far-word x (1 + v)) (r .padded x l);
+              padded-same L w w′ (capacity w + x) (capacity w′ + x) (far-word x 0) (far-size x l) (λ v hv. far-word x (1 + v)) (r .padded x l);
           spared = λ x j hx g. far-word x (14 + j) ∙ r .spared x j (omega arith) g
-              ∙ sym (ap₂ (λ (S : List ℕ) (M : List (Node K)). C .spareOf S M x j) (same-sizes F (r .framed) replaced-steady) replaced-copies);
+              ∙ sym (ap₂ (λ (S : List ℕ) (M : List (Node K)). T .spareOf S M x j) (same-sizes L (r .framed) replaced-steady) replaced-copies);
           clean = record { zeros = λ j h g. c .rest j (omega arith) ∙ r .clean .zeros j (omega arith) (omega arith) };
         }
 
 -- ---- the roots in turn
-module _ {K : Kind} (F : Form K) where
+module _ {K : Kind} (T : Table K) where
   -- the first p roots copied
   pub record Rooting (w t : List ℕ) (p : ℕ) : Type 0 where
     pub steady : Steady w t
-    pub ready : Ready (F .code) t
-    pub turned : each (build 0 (sizes w)) (tab (funAt F w) p) [] ≡ (tab (F .rootAt t) p, copies (F .code) t)
-    pub ahead : (q : ℕ) → p ≤ q → q < F .drawing .places → F .rootAt t q ≡ F .rootAt w q
+    pub ready : Ready T t
+    pub turned : each (build 0 (sizes w)) (tab (funAt T w) p) [] ≡ (tab (T .rootAt t) p, copies T t)
+    pub ahead : (q : ℕ) → p ≤ q → q < T .places → T .rootAt t q ≡ T .rootAt w q
 
-module _ {K : Kind} {F : Form K} where
-  no-copies : {w : List ℕ} → Loose F w → copies (F .code) w ≡ []
+module _ {K : Kind} {T : Table K} where
+  no-copies : {w : List ℕ} → Loose T w → copies T w ≡ []
   unfolding copies
-  no-copies {w} l = ap (tab (λ x. nodeAt (F .code) w (capacity w + x))) (l .nothing) ∙ tab-none (λ x. nodeAt (F .code) w (capacity w + x))
+  no-copies {w} l = ap (tab (λ x. nodeAt T w (capacity w + x))) (l .nothing) ∙ tab-none (λ x. nodeAt T w (capacity w + x))
 
-  loose-ready : {w : List ℕ} → Loose F w → Ready (F .code) w
+  loose-ready : {w : List ℕ} → Loose T w → Ready T w
   loose-ready {w} l =
       let n = l .nothing in
       record {
         framed = l .framed;
-        half = rw (no-copies l) (half-none (λ i h. l .unmarked i (omega (arith, length-nodes (F .code) w))));
+        half = rw (no-copies l) (half-none (λ i h. l .unmarked i (omega (arith, length-nodes T w))));
         tallied = l .nothing ∙ sym (marked-none (mark w) (count w) (l .unmarked));
         padded = λ i h. absurd (omega arith);
         spared = λ i j h. absurd (omega arith);
         clean = record { zeros = λ j h g. l .clean .zeros j (omega (arith, l .framed .within)) g };
       }
 
-  pub rooting-none : {w : List ℕ} → Loose F w → Rooting F w w 0
+  pub rooting-none : {w : List ℕ} → Loose T w → Rooting T w w 0
   rooting-none {w} l =
       record { steady = steady-refl w; ready = loose-ready l; turned = rw (tab-none, tab-none, no-copies l); ahead = λ q h g. refl }
 
-  pub rooting-all : {w t : List ℕ} → Rooting F w t (F .drawing .places) → Rooted F w t
+  pub rooting-all : {w t : List ℕ} → Rooting T w t (T .places) → Rooted T w t
   rooting-all m = record { steady = m .steady; ready = m .ready; holds = m .turned }
 
-module _ {K : Kind} {F : Form K} (R : Regular F) where
-  pub rooting-good : {w t : List ℕ} {p : ℕ} → Loose F w → Rooting F w t p → p < F .drawing .places → Ok (nodes (F .code) t) 0 (F .rootAt t p)
-  rooting-good {w} {t} {p} l m h = rw (m .ahead p (omega arith) h, same-nodes (R .faithful) (l .framed) (m .steady)) (l .rooted p h)
+module _ {K : Kind} {T : Table K} (L : Regular T) where
+  pub rooting-good : {w t : List ℕ} {p : ℕ} → Loose T w → Rooting T w t p → p < T .places → Ok (nodes T t) 0 (T .rootAt t p)
+  rooting-good {w} {t} {p} l m h = rw (m .ahead p (omega arith) h, same-nodes L (l .framed) (m .steady)) (l .rooted p h)
 
-  module _ {w t t′ t″ : List ℕ} {p : ℕ} (r : Target K) (l : Loose F w) (m : Rooting F w t p) (hp : p < F .drawing .places) (c : Moved (F .code) t t′ (F .rootAt t p .to) r)
-      (s : Placed F t′ t″ p (record { adds = F .rootAt t′ p .adds; to = r })) where
-    kept : (q : ℕ) → q < F .drawing .places → F .rootAt t′ q ≡ F .rootAt t q
-    kept = R .places t t′ (c .still .places-kept)
+  module _ {w t t′ t″ : List ℕ} {p : ℕ} (r : Target K) (l : Loose T w) (m : Rooting T w t p) (hp : p < T .places) (c : Moved T t t′ (T .rootAt t p .to) r)
+      (s : Placed T t′ t″ p (record { adds = T .rootAt t′ p .adds; to = r })) where
+    kept : (q : ℕ) → q < T .places → T .rootAt t′ q ≡ T .rootAt t q
+    kept = L .places t t′ (c .still .places-kept)
 
-    same-root : F .rootAt t p ≡ F .rootAt w p
+    same-root : T .rootAt t p ≡ T .rootAt w p
     same-root = m .ahead p (omega arith) hp
 
     abbrev out : Branch K
-    out = record { adds = F .rootAt w p .adds; to = r }
+    out = record { adds = T .rootAt w p .adds; to = r }
 
-    now-root : F .rootAt t″ p ≡ out
+    now-root : T .rootAt t″ p ≡ out
     now-root =
         s .here ∙ ap (λ (b : Branch K). let x : Branch K = record { adds = b .adds; to = r } in x) (kept p hp ∙ same-root)
 
-    other-root : (q : ℕ) → q < F .drawing .places → (q ≡ p → ⊥) → F .rootAt t″ q ≡ F .rootAt t q
+    other-root : (q : ℕ) → q < T .places → (q ≡ p → ⊥) → T .rootAt t″ q ≡ T .rootAt t q
     other-root q hq n = s .others q hq n ∙ kept q hq
 
-    step : build 0 (sizes w) (funAt F w p) (copies (F .code) t) ≡ (out, copies (F .code) t′)
+    step : build 0 (sizes w) (funAt T w p) (copies T t) ≡ (out, copies T t′)
     step =
-        subst (λ (b : Branch K). Copies (sizes w) (nodes (F .code) w) (b .to) (copies (F .code) t) r (copies (F .code) t′)) same-root
-        (copies-back (R .faithful) (l .framed) (m .steady) (c .moved))
-        .built 0 (F .rootAt w p .adds) (l .rooted p hp)
+        subst (λ (b : Branch K). Copies (sizes w) (nodes T w) (b .to) (copies T t) r (copies T t′)) same-root
+        (copies-back L (l .framed) (m .steady) (c .moved))
+        .built 0 (T .rootAt w p .adds) (l .rooted p hp)
 
-    now-roots : tab (F .rootAt t) p ++ (out ∷ []) ≡ tab (F .rootAt t″) (suc p)
+    now-roots : tab (T .rootAt t) p ++ (out ∷ []) ≡ tab (T .rootAt t″) (suc p)
     now-roots =
         ap₂ (λ (bs : List (Branch K)) (x : Branch K). bs ++ (x ∷ []))
-        (tab-ext (F .rootAt t) (F .rootAt t″) p (λ q h. sym (other-root q (omega arith) (omega arith))))
+        (tab-ext (T .rootAt t) (T .rootAt t″) p (λ q h. sym (other-root q (omega arith) (omega arith))))
         (sym now-root)
-        ∙ sym (tab-snoc (F .rootAt t″) p)
+        ∙ sym (tab-snoc (T .rootAt t″) p)
 
-    pub rooting-more : Rooting F w t″ (suc p)
+    pub rooting-more : Rooting T w t″ (suc p)
     rooting-more =
         record {
           steady = steady-trans (m .steady) (steady-trans (c .still .steady) (replaced-steady (s .replaced)));
-          ready = replaced-ready (s .replaced) (R .faithful) (c .still .ready);
+          ready = replaced-ready (s .replaced) L (c .still .ready);
           turned =
-              ap (λ (gs : List (Fun K)). each (build 0 (sizes w)) gs []) (tab-snoc (funAt F w) p)
-              ∙ each-last (build 0 (sizes w)) (tab (funAt F w) p) (funAt F w p) [] (copies (F .code) t) (copies (F .code) t′) (tab (F .rootAt t) p) out (m .turned) step
+              ap (λ (gs : List (Fun K)). each (build 0 (sizes w)) gs []) (tab-snoc (funAt T w) p)
+              ∙ each-last (build 0 (sizes w)) (tab (funAt T w) p) (funAt T w p) [] (copies T t) (copies T t′) (tab (T .rootAt t) p) out (m .turned) step
               ∙ ap₂ (λ (bs : List (Branch K)) (M : List (Node K)). let x : List (Branch K) × List (Node K) = (bs, M) in x) now-roots
-              (sym (replaced-copies (s .replaced) (R .faithful) (c .still .ready)));
+              (sym (replaced-copies (s .replaced) L (c .still .ready)));
           ahead = λ q h g. other-root q g (omega arith) ∙ m .ahead q (omega arith) g;
         }

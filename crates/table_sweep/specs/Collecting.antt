@@ -9,10 +9,9 @@ use Rattle.theory.specs.Diagrams.{Branch, Node, Target}
 use Rattle.theory.specs.Kind.{Kind}
 use Rattle.theory.specs.Settings.{FeatureList}
 use Rattle.theory.specs.WellFormed.{Ok, Under, WF}
-use Rattle.table_words.specs.Coding.{Code, Spared, branches, nodeAt, nodes}
+use Rattle.table_words.specs.Table.{Table, Spared, branches, nodeAt, nodes, rootsOf, funsOf}
 use Rattle.table_words.specs.Words.{listed}
 use Rattle.table_sweep.specs.Marks.{done, mark}
-use Rattle.table_sweep.specs.Form.{Form, rootsOf, funsOf}
 use Rattle.promises.specs.Tab.{tab}
 use Rattle.promises.specs.Words.{head, word, capacity, size, count, sizes, bound, feature, body, Zeros}
 
@@ -24,10 +23,10 @@ pub record Steady (w w′ : List ℕ) : Type 0 where
   pub near : (i j : ℕ) → i < capacity w → j < 16 → word w′ i j ≡ word w i j
   pub past : (j : ℕ) → bound (capacity w) ≤ j → getD w′ j 0 ≡ getD w j 0
 
-module _ {K : Kind} (C : Code K) where
+module _ {K : Kind} (T : Table K) where
   -- the nodes that the far records hold
   unfoldable pub copies : List ℕ → List (Node K)
-  copies w = tab (λ i. nodeAt C w (capacity w + i)) (done w)
+  copies w = tab (λ i. nodeAt T w (capacity w + i)) (done w)
 
   -- the header's numbers, and a well-formed node list with its spare words
   pub record Framed (w : List ℕ) : Type 0 where
@@ -35,20 +34,20 @@ module _ {K : Kind} (C : Code K) where
     pub most : capacity w ≤ 4096
     pub within : count w ≤ capacity w
     pub list : FeatureList (sizes w)
-    pub wf : WF (sizes w) (nodes C w)
-    pub spared : Spared C w
+    pub wf : WF (sizes w) (nodes T w)
+    pub spared : Spared T w
 
   -- a root may go there
   abbrev pub Good : List ℕ → Target K → Type 0
-  Good w t = Under (nodes C w) (length (nodes C w)) 0 t
+  Good w t = Under (nodes T w) (length (nodes T w)) 0 t
 
   -- the far records hold copies of the marked nodes with their spare words, 0 past each body and past the last
   pub record Ready (w : List ℕ) : Type 0 where
     pub framed : Framed w
-    pub half : Half (sizes w) (nodes C w) (copies w) (mark w)
+    pub half : Half (sizes w) (nodes T w) (copies w) (mark w)
     pub tallied : done w ≡ marked (mark w) (count w)
-    pub padded : (i : ℕ) → i < done w → C .Padded (size w (feature w (capacity w + i))) (body w (capacity w + i))
-    pub spared : (i j : ℕ) → i < done w → j < 2 → word w (capacity w + i) (14 + j) ≡ C .spareOf (sizes w) (copies w) i j
+    pub padded : (i : ℕ) → i < done w → T .Padded (size w (feature w (capacity w + i))) (body w (capacity w + i))
+    pub spared : (i j : ℕ) → i < done w → j < 2 → word w (capacity w + i) (14 + j) ≡ T .spareOf (sizes w) (copies w) i j
     pub clean : Zeros w (8192 + 16 * (capacity w + done w)) (bound (capacity w))
 
   -- more may be copied, and the places are as they were
@@ -60,25 +59,24 @@ module _ {K : Kind} (C : Code K) where
   -- what goes to t copied: it goes to t′ now. A node that t does not reach keeps its mark
   pub record Moved (w w′ : List ℕ) (t t′ : Target K) : Type 0 where
     pub still : Still w w′
-    pub moved : Copies (sizes w) (nodes C w) t (copies w) t′ (copies w′)
-    pub later : (x : ℕ) → x < count w → Under (nodes C w) x 0 t → mark w′ x ≡ mark w x
+    pub moved : Copies (sizes w) (nodes T w) t (copies w) t′ (copies w′)
+    pub later : (x : ℕ) → x < count w → Under (nodes T w) x 0 t → mark w′ x ≡ mark w x
 
   -- the first v branches of node i copied: they are bs
   pub record Turning (w w′ : List ℕ) (i v : ℕ) (bs : List (Branch K)) : Type 0 where
     pub still : Still w w′
-    pub turned : Lists (sizes w) (nodes C w) i (copies w) v bs (copies w′)
+    pub turned : Lists (sizes w) (nodes T w) i (copies w) v bs (copies w′)
     pub later : (x : ℕ) → x < count w → i ≤ x → mark w′ x ≡ mark w x
 
   -- and the list is a body that says them
   pub record Moving (w w′ : List ℕ) (i v : ℕ) (l : List ℕ) : Type 0 where
-    pub turning : Turning w w′ i v (branches C v (listed l))
-    pub pad : C .Padded v (listed l)
+    pub turning : Turning w w′ i v (branches T v (listed l))
+    pub pad : T .Padded v (listed l)
 
-module _ {K : Kind} (F : Form K) where
   -- no node has a copy yet
   pub record Loose (w : List ℕ) : Type 0 where
-    pub framed : Framed (F .code) w
-    pub rooted : (p : ℕ) → p < F .drawing .places → Ok (nodes (F .code) w) 0 (F .rootAt w p)
+    pub framed : Framed w
+    pub rooted : (p : ℕ) → p < T .places → Ok (nodes T w) 0 (T .rootAt w p)
     pub nothing : done w ≡ 0
     pub unmarked : (i : ℕ) → i < count w → mark w i ≡ 0
     pub clean : Zeros w (8192 + 16 * count w) (bound (capacity w))
@@ -86,8 +84,8 @@ module _ {K : Kind} (F : Form K) where
   -- all roots copied: roots and copies are those of the functions built in turn from nothing
   pub record Rooted (w w′ : List ℕ) : Type 0 where
     pub steady : Steady w w′
-    pub ready : Ready (F .code) w′
-    pub holds : table (sizes w) (funsOf F w) ≡ (rootsOf F w′, copies (F .code) w′)
+    pub ready : Ready w′
+    pub holds : table (sizes w) (funsOf T w) ≡ (rootsOf T w′, copies w′)
 
   -- the same of the nodes; every word that shows none of them is 0 or kept
   pub record Collected (w w′ : List ℕ) : Type 0 where
@@ -95,9 +93,9 @@ module _ {K : Kind} (F : Form K) where
     pub low : (j : ℕ) → j < 32 → (j ≡ 19 → ⊥) → head w′ j ≡ head w j
     pub middle : (j : ℕ) → 64 ≤ j → j < 4096 → head w′ j ≡ head w j
     pub heads : (j : ℕ) → 4096 ≤ j → j < 8192 → head w′ j ≡ 0
-    pub holds : table (sizes w) (funsOf F w) ≡ (rootsOf F w′, nodes (F .code) w′)
+    pub holds : table (sizes w) (funsOf T w) ≡ (rootsOf T w′, nodes T w′)
     pub fewer : count w′ ≤ count w
-    pub padded : (i : ℕ) → i < count w′ → F .code .Padded (size w′ (feature w′ i)) (body w′ i)
-    pub spared : (i j : ℕ) → i < count w′ → j < 2 → word w′ i (14 + j) ≡ F .code .spareOf (sizes w) (nodes (F .code) w′) i j
+    pub padded : (i : ℕ) → i < count w′ → T .Padded (size w′ (feature w′ i)) (body w′ i)
+    pub spared : (i j : ℕ) → i < count w′ → j < 2 → word w′ i (14 + j) ≡ T .spareOf (sizes w) (nodes T w′) i j
     pub clean : Zeros w′ (8192 + 16 * count w′) (bound (capacity w))
     pub past : (j : ℕ) → bound (capacity w) ≤ j → getD w′ j 0 ≡ getD w j 0

@@ -6,32 +6,31 @@ use lib.ListN.{length, getD}
 use Rattle.theory.specs.Kind.{Kind}
 use Rattle.theory.specs.Settings.{FeatureList}
 use Rattle.theory.specs.WellFormed.{Ok, WF}
-use Rattle.table_words.specs.Coding.{Spared, nodes}
+use Rattle.table_words.specs.Table.{Table, Spared, nodes}
 use Rattle.table_words.specs.Picture.{Pictures, Proper}
 use Rattle.table_words.specs.Words.{kind}
-use Rattle.table_sweep.specs.Form.{Form}
 use Rattle.promises.specs.Words.{capacity, features, count, sizes, bound, Zeros}
 
-module _ {K : Kind} (F : Form K) where
+module _ {K : Kind} (T : Table K) where
   -- a table in whose places branches of its nodes stand; the nodes' order, which of them are reached, and the chains are free
   pub record Untidy (w : List ℕ) : Type 0 where
     pub room : bound (capacity w) ≤ length w
     pub some : 1 ≤ capacity w
     pub most : capacity w ≤ 4096
-    pub kind-is : kind w ≡ F .drawing .number
+    pub kind-is : kind w ≡ T .number
     pub list : FeatureList (sizes w)
     pub past-sizes : Zeros w (3 + features w) 19
     pub within : count w ≤ capacity w
     pub shares : Zeros w 20 32
     pub middle : Zeros w 64 4096
     pub clean : Zeros w (8192 + 16 * count w) (bound (capacity w))
-    pub wf : WF (sizes w) (nodes (F .code) w)
-    pub spared : Spared (F .code) w
-    pub rooted : (p : ℕ) → p < F .drawing .places → Ok (nodes (F .code) w) 0 (F .rootAt w p)
+    pub wf : WF (sizes w) (nodes T w)
+    pub spared : Spared T w
+    pub rooted : (p : ℕ) → p < T .places → Ok (nodes T w) 0 (T .rootAt w p)
 
   -- w′ is the picture of the functions that w holds; the words past the table are kept
   pub record Tidied (w w′ : List ℕ) : Type 0 where
-    pub proper : Proper (F .drawing) (capacity w) (sizes w) (F .drawing .said w)
-    pub pictures : Pictures (F .drawing) (capacity w) (sizes w) (F .drawing .said w) w′
+    pub proper : Proper T (capacity w) (sizes w) (T .said w)
+    pub pictures : Pictures T (capacity w) (sizes w) (T .said w) w′
     pub long : length w′ ≡ length w
     pub past : (j : ℕ) → bound (capacity w) ≤ j → getD w′ j 0 ≡ getD w j 0

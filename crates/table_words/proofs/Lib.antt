@@ -2,6 +2,6 @@ pub mod Tab
 pub mod Words
 pub mod Chains
 pub mod Filling
-pub mod Coding
+pub mod Reading
 pub mod Sparing
 pub mod Picture

@@ -9,18 +9,19 @@ use Rattle.theory.specs.Kind.{Kind}
 use Rattle.theory.specs.Functions.{Agree, Fun, zero-fun}
 use Rattle.theory.specs.Diagrams.{Branch, Node, at}
 use Rattle.theory.proofs.Tables.{table-agree}
-use Rattle.table_words.specs.Picture.{Drawing, nodeHash, Shows, Pictures}
+use Rattle.table_words.specs.Table.{Table}
+use Rattle.table_words.specs.Picture.{nodeHash, Shows, Pictures}
 use Rattle.table_words.proofs.Tab.{same, split}
 use Rattle.table_words.proofs.Words.{hash-ext}
 use Rattle.promises.specs.Words.{word, head, bound, feature, body, hashOf, hashAt, Zeros}
 
 -- a record that shows a node has its hash
-pub hash-shown : {K : Kind} (D : Drawing K) (N : List (Node K)) (w : List ℕ) (i : ℕ) → feature w i ≡ at N i .feature → ((v : ℕ) → v < 12 → body w i v ≡ D .bodyOf (at N i) v)
-    → hashAt w i ≡ nodeHash D N i
-hash-shown D N w i f e = ap (λ (k : ℕ). hashOf k (body w i)) f ∙ hash-ext (at N i .feature) (body w i) (D .bodyOf (at N i)) e
+pub hash-shown : {K : Kind} (T : Table K) (N : List (Node K)) (w : List ℕ) (i : ℕ) → feature w i ≡ at N i .feature → ((v : ℕ) → v < 12 → body w i v ≡ T .bodyOf (at N i) v)
+    → hashAt w i ≡ nodeHash T N i
+hash-shown T N w i f e = ap (λ (k : ℕ). hashOf k (body w i)) f ∙ hash-ext (at N i .feature) (body w i) (T .bodyOf (at N i)) e
 
 -- ---- roots and nodes are shown by one list of words only
-module _ {K : Kind} {D : Drawing K} {cap : ℕ} {S : List ℕ} {R : List (Branch K)} {N : List (Node K)} {w w′ : List ℕ} (a : Shows D cap S R N w) (b : Shows D cap S R N w′) where
+module _ {K : Kind} {T : Table K} {cap : ℕ} {S : List ℕ} {R : List (Branch K)} {N : List (Node K)} {w w′ : List ℕ} (a : Shows T cap S R N w) (b : Shows T cap S R N w′) where
   in-record : (i r : ℕ) → i < length N → r < 16 → word w i r ≡ word w′ i r
   in-record i r h hr = ⊎-elim
       (λ e. rw e (a .tests i h ∙ sym (b .tests i h)))
@@ -73,14 +74,14 @@ module _ {K : Kind} {D : Drawing K} {cap : ℕ} {S : List ℕ} {R : List (Branch
       (split j (8192 + 16 * length N))) (split j 8192)) (split j 4096)) (split j 64)) (split j 32)) (same j 19)) (split j 19)) (split j 3)
 
 -- THEOREM: pictures of functions that agree place by place are equal, word for word
-pub one-picture : {K : Kind} {D : Drawing K} {cap : ℕ} {S : List ℕ} (gs hs : List (Fun K)) {w w′ : List ℕ} → Pictures D cap S gs w → Pictures D cap S hs w′ → length gs ≡ length hs
+pub one-picture : {K : Kind} {T : Table K} {cap : ℕ} {S : List ℕ} (gs hs : List (Fun K)) {w w′ : List ℕ} → Pictures T cap S gs w → Pictures T cap S hs w′ → length gs ≡ length hs
     → ((p : ℕ) → p < length gs → Agree S (getD gs p zero-fun) (getD hs p zero-fun)) → (j : ℕ) → j < bound cap → getD w j 0 ≡ getD w′ j 0
-one-picture {K} {D} {cap} {S} gs hs {w} {w′} a b l g =
-    shows-one a (subst (λ (q : List (Branch K) × List (Node K)). Shows D cap S (q .0) (q .1) w′) (sym (table-agree S gs hs l g [])) b)
+one-picture {K} {T} {cap} {S} gs hs {w} {w′} a b l g =
+    shows-one a (subst (λ (q : List (Branch K) × List (Node K)). Shows T cap S (q .0) (q .1) w′) (sym (table-agree S gs hs l g [])) b)
 
 -- ---- words that agree up to the bound show the same
-pub shows-ext : {K : Kind} {D : Drawing K} {cap : ℕ} {S : List ℕ} {R : List (Branch K)} {N : List (Node K)} {w w′ : List ℕ} → length N ≤ cap → bound cap ≤ length w′
-    → ((j : ℕ) → j < bound cap → getD w′ j 0 ≡ getD w j 0) → Shows D cap S R N w → Shows D cap S R N w′
+pub shows-ext : {K : Kind} {T : Table K} {cap : ℕ} {S : List ℕ} {R : List (Branch K)} {N : List (Node K)} {w w′ : List ℕ} → length N ≤ cap → bound cap ≤ length w′
+    → ((j : ℕ) → j < bound cap → getD w′ j 0 ≡ getD w j 0) → Shows T cap S R N w → Shows T cap S R N w′
 unfolding word head
 shows-ext f l e a =
     record {

@@ -12,7 +12,7 @@ use Rattle.theory.specs.Kind.{Kind}
 use Rattle.theory.specs.WellFormed.{WF}
 use Rattle.theory.proofs.Values.{value-ext}
 use Rattle.theory.proofs.WellFormed.{at-ext, ok-ext}
-use Rattle.table_words.specs.Coding.{Code, Faithful, Spared, nodes}
+use Rattle.table_words.specs.Table.{Table, Regular, Spared, nodes}
 use Rattle.promises.specs.Words.{count, sizes, word}
 
 -- a node means the same in a longer list
@@ -26,13 +26,13 @@ twin-ext {K} S N M w e i h =
       };
     }
 
-module _ {K : Kind} {C : Code K} (F : Faithful C) where
+module _ {K : Kind} {T : Table K} (L : Regular T) where
   -- so its spare words are the same there
-  pub spare-ext : (S : List ℕ) (N M : List (Node K)) → WF S N → Ext N M → (i j : ℕ) → i < length N → C .spareOf S N i j ≡ C .spareOf S M i j
-  spare-ext S N M w e i j h = F .spared S N M i i j (twin-ext S N M w e i h)
+  pub spare-ext : (S : List ℕ) (N M : List (Node K)) → WF S N → Ext N M → (i j : ℕ) → i < length N → T .spareOf S N i j ≡ T .spareOf S M i j
+  spare-ext S N M w e i j h = L .spared S N M i i j (twin-ext S N M w e i h)
 
 -- words that say the same sizes and nodes, and keep the spare words
-pub spared-same : {K : Kind} (C : Code K) (w w′ : List ℕ) → count w′ ≡ count w → sizes w′ ≡ sizes w → nodes C w′ ≡ nodes C w →
-    ((i j : ℕ) → i < count w → j < 2 → word w′ i (14 + j) ≡ word w i (14 + j)) → Spared C w → Spared C w′
-spared-same {K} C w w′ n s e k h i j a b =
-    k i j (omega arith) b ∙ h i j (omega arith) b ∙ sym (ap₂ (λ (S : List ℕ) (N : List (Node K)). C .spareOf S N i j) s e)
+pub spared-same : {K : Kind} (T : Table K) (w w′ : List ℕ) → count w′ ≡ count w → sizes w′ ≡ sizes w → nodes T w′ ≡ nodes T w →
+    ((i j : ℕ) → i < count w → j < 2 → word w′ i (14 + j) ≡ word w i (14 + j)) → Spared T w → Spared T w′
+spared-same {K} T w w′ n s e k h i j a b =
+    k i j (omega arith) b ∙ h i j (omega arith) b ∙ sym (ap₂ (λ (S : List ℕ) (N : List (Node K)). T .spareOf S N i j) s e)

@@ -1,4 +1,4 @@
 pub mod Words
 pub mod Holding
-pub mod Coding
+pub mod Table
 pub mod Picture

@@ -5,47 +5,33 @@ use Prim.Native.Nat.{ℕ, _+_, _*_, _≤_, _<_}
 use lib.ListN.{length, getD, set}
 use Rattle.theory.specs.Kind.{Kind}
 use Rattle.theory.specs.Settings.{FeatureList, Valid}
-use Rattle.theory.specs.Functions.{Amount, Fun, zero-fun}
+use Rattle.theory.specs.Functions.{Fun, zero-fun}
 use Rattle.theory.specs.Diagrams.{Branch, Node, at}
 use Rattle.theory.specs.Build.{table}
+use Rattle.table_words.specs.Table.{Table}
 use Rattle.table_words.specs.Words.{kind}
 use Rattle.promises.specs.Words.{head, word, capacity, features, size, count, sizes, bound, feature, body, link, bucket, hashOf, lastOf, Zeros}
 
--- what the pictures of the kinds differ in
-pub record Drawing (K : Kind) : Type 1 where
-  -- the kind word, and how many places there are
-  pub number : ℕ
-  pub places : ℕ
-  -- body word v of a node, and word p of the 32 that say the roots
-  pub bodyOf : Node K → ℕ → ℕ
-  pub rootOf : List (Branch K) → ℕ → ℕ
-  -- spare word j of node i, of the sizes and the node list
-  pub spareOf : List ℕ → List (Node K) → ℕ → ℕ → ℕ
-  -- what a place may give a setting
-  pub InRange : Amount K → Type 0
-  -- the functions that the words of a table say
-  pub said : List ℕ → List (Fun K)
-
-module _ {K : Kind} (D : Drawing K) where
+module _ {K : Kind} (T : Table K) where
   abbrev pub nodeHash : List (Node K) → ℕ → ℕ
-  nodeHash N i = hashOf (at N i .feature) (D .bodyOf (at N i))
+  nodeHash N i = hashOf (at N i .feature) (T .bodyOf (at N i))
 
   -- the words show the capacity, the sizes, the roots R and the nodes N, and nothing else
   pub record Shows (cap : ℕ) (S : List ℕ) (R : List (Branch K)) (N : List (Node K)) (w : List ℕ) : Type 0 where
     pub long : bound cap ≤ length w
-    pub kind-is : kind w ≡ D .number
+    pub kind-is : kind w ≡ T .number
     pub room : capacity w ≡ cap
     pub many : features w ≡ length S
     pub sizes-are : (k : ℕ) → k < 16 → size w k ≡ getD S k 0
     pub used : count w ≡ length N
     pub shares : Zeros w 20 32
-    pub roots-are : (p : ℕ) → p < 32 → head w (32 + p) ≡ D .rootOf R p
+    pub roots-are : (p : ℕ) → p < 32 → head w (32 + p) ≡ T .rootOf R p
     pub middle : Zeros w 64 4096
     pub heads : (h : ℕ) → h < 4096 → bucket w h ≡ lastOf (nodeHash N) h (length N)
     pub tests : (i : ℕ) → i < length N → feature w i ≡ at N i .feature
-    pub bodies : (i v : ℕ) → i < length N → v < 12 → body w i v ≡ D .bodyOf (at N i) v
+    pub bodies : (i v : ℕ) → i < length N → v < 12 → body w i v ≡ T .bodyOf (at N i) v
     pub links : (i : ℕ) → i < length N → link w i ≡ lastOf (nodeHash N) (nodeHash N i) i
-    pub spare : (i j : ℕ) → i < length N → j < 2 → word w i (14 + j) ≡ D .spareOf S N i j
+    pub spare : (i j : ℕ) → i < length N → j < 2 → word w i (14 + j) ≡ T .spareOf S N i j
     pub clean : Zeros w (8192 + 16 * length N) (bound cap)
 
   -- the picture of the functions gs: the nodes are those that building them in turn gives
@@ -57,8 +43,8 @@ module _ {K : Kind} (D : Drawing K) where
     pub some : 1 ≤ cap
     pub most : cap ≤ 4096
     pub list : FeatureList S
-    pub places : length gs ≡ D .places
-    pub range : (p : ℕ) → p < D .places → (s : List ℕ) → Valid S s → D .InRange (getD gs p zero-fun s)
+    pub places : length gs ≡ T .places
+    pub range : (p : ℕ) → p < T .places → (s : List ℕ) → Valid S s → T .InRange (getD gs p zero-fun s)
     pub fits : length (table S gs .1) ≤ cap
 
   -- the words are a table's: the picture of some functions
@@ -72,6 +58,6 @@ module _ {K : Kind} (D : Drawing K) where
   -- w′ is w with the function of place p replaced by g: the picture of the functions so changed; the words past the table are kept
   pub record Becomes (p : ℕ) (g : Fun K) (w w′ : List ℕ) : Type 0 where
     pub long : length w′ ≡ length w
-    pub proper : Proper (capacity w) (sizes w) (set (D .said w) p g)
-    pub pictures : Pictures (capacity w) (sizes w) (set (D .said w) p g) w′
+    pub proper : Proper (capacity w) (sizes w) (set (T .said w) p g)
+    pub pictures : Pictures (capacity w) (sizes w) (set (T .said w) p g) w′
     pub past : (j : ℕ) → bound (capacity w) ≤ j → getD w′ j 0 ≡ getD w j 0

@@ -2,7 +2,7 @@
 use Rattle.cost_collect.proofs.Copying.{Packing, good-small, moved-end, moved-index, packing-none, next-small, packing-more, packing-all}
 use Rattle.table_sweep.proofs.Framing.{few, known, size-small, value-small, still-good}
 use Rattle.table_sweep.proofs.Copying.{marked-small, done-small, moved-marked, spare-for, moved-new}
-use Rattle.cost_words.proofs.Packing.{faithful}
+use Rattle.cost_words.proofs.Regular.{regular}
 use lib.ListN.{getD-replicate}
 use native.Mathlib.Numerals.{add-one}
 use native.Mathlib.Omega.{arith}
@@ -129,7 +129,7 @@ copy-list-copy-target-requires t c κs =
       (
         l .inv .2 .turning .still .ready,
         rw (c .before .before .before .goes-to .ensures)
-            (still-good faithful (a .pre .1 .0 .framed) (l .inv .2 .turning .still .steady) (a .args .i) (l .v) (a .pre .1 .1) hv),
+            (still-good regular (a .pre .1 .0 .framed) (l .inv .2 .turning .still .steady) (a .args .i) (l .v) (a .pre .1 .1) hv),
       ),
     )
 
@@ -182,14 +182,14 @@ copy-target-add-copy-requires : (t : ℕ) → copy-target-lts.Need-add-copy-requ
 copy-target-add-copy-requires t c κs = let a = (c .before .before .before .before .before .before .before .before .before .before .before) in
     let g = good-small (a .args .t .now) (a .args .x) (a .pre .1 .1) in
     let z : (c .before .before .before .before .before .before .bucket-word) .result ≡ 0 = omega arith in
-    spare-for faithful (a .pre .1 .0) (omega arith) (sym ((c .before .before .before .before .before .before .bucket-word) .ensures) ∙ z) ((c .before .before .before .copy-list) .ensures)
+    spare-for regular (a .pre .1 .0) (omega arith) (sym ((c .before .before .before .before .before .before .bucket-word) .ensures) ∙ z) ((c .before .before .before .copy-list) .ensures)
 
 copy-target-narrow-requires : (t : ℕ) → copy-target-lts.Need-narrow-requires (copy-target-claims t) (copy-target-at t) copy-target.Post
 copy-target-narrow-requires t c κs =
     let c6 = c .before .before .before .before .before .before in let c9 = c6 .before .before .before in let a = c9 .before .before .before .before .before in
     let g = good-small (a .args .t .now) (a .args .x) (a .pre .1 .1) in
     let z : (c9 .bucket-word) .result ≡ 0 = omega arith in
-    let s = spare-for faithful (a .pre .1 .0) (omega arith) (sym (c9 .bucket-word .ensures) ∙ z) (c6 .copy-list .ensures) in
+    let s = spare-for regular (a .pre .1 .0) (omega arith) (sym (c9 .bucket-word .ensures) ∙ z) (c6 .copy-list .ensures) in
     omega (arith, s .free, s .most, c .before .before .add-copy .ensures .0)
 
 copy-target-add-result : (t : ℕ) → copy-target-lts.Need-add-result (copy-target-claims t) (copy-target-at t) copy-target.Post
@@ -197,7 +197,7 @@ copy-target-add-result t c =
     let c7 = c .before .before .before .before .before .before .before in let c10 = c7 .before .before .before in let a = c10 .before .before .before .before .before in
     let g = good-small (a .args .t .now) (a .args .x) (a .pre .1 .1) in
     let z : (c10 .bucket-word) .result ≡ 0 = omega arith in
-    let s = spare-for faithful (a .pre .1 .0) (omega arith) (sym (c10 .bucket-word .ensures) ∙ z) (c7 .copy-list .ensures) in
+    let s = spare-for regular (a .pre .1 .0) (omega arith) (sym (c10 .bucket-word .ensures) ∙ z) (c7 .copy-list .ensures) in
     omega (arith, s .free, s .most, c .before .before .before .add-copy .ensures .0, c .narrow .ensures)
 
 copy-target-returns-3 : (t : ℕ) → copy-target-lts.Need-returns-3 (copy-target-claims t) (copy-target-at t) copy-target.Post
@@ -206,9 +206,9 @@ copy-target-returns-3 t c =
     let g = good-small (a .args .t .now) (a .args .x) (a .pre .1 .1) in
     let z : (c10 .bucket-word) .result ≡ 0 = omega arith in
     let h = sym (c10 .bucket-word .ensures) ∙ z in
-    let s = spare-for faithful (a .pre .1 .0) (omega arith) h (c7 .copy-list .ensures) in (
+    let s = spare-for regular (a .pre .1 .0) (omega arith) h (c7 .copy-list .ensures) in (
       moved-index _ _ _ _ (omega arith) (omega (arith, c .narrow .ensures, c .before .before .before .add-copy .ensures .0))
-          (moved-new faithful (a .pre .1 .0) (omega arith) h (c7 .copy-list .ensures) (c .before .before .before .add-copy .ensures .1)),
+          (moved-new regular (a .pre .1 .0) (omega arith) h (c7 .copy-list .ensures) (c .before .before .before .add-copy .ensures .1)),
       omega (arith, s .free, s .most, c .before .before .before .add-copy .ensures .0, c .narrow .ensures),
     )
 

@@ -1,6 +1,6 @@
 -- `cost_collect::collect` meets its contract: cleared heads mark no node, the roots are copied, the copies stand in the nodes' place. Assumes nothing.
 use Rattle.table_sweep.proofs.Collecting.{cleared-loose, rooted-from, full-of, collected}
-use Rattle.cost_collect.proofs.Forming.{regular}
+use Rattle.cost_words.proofs.Regular.{regular}
 use native.Mathlib.Omega.{arith}
 use borrow.Author.Needs.{needs}
 use Rattle.cost_collect.proofs.collect.Statement.{statement}

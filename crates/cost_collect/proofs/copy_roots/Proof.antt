@@ -1,7 +1,8 @@
 -- `cost_collect::copy_roots` meets its contract: the first p roots are copied and set (Rooting). Assumes nothing.
 use Rattle.table_sweep.proofs.Placing.{Rooting, rooting-none, rooting-all, rooting-good}
-use Rattle.cost_collect.specs.Tidy.{form}
-use Rattle.cost_collect.proofs.Forming.{regular, rooting-next}
+use Rattle.cost_words.specs.Table.{costTable}
+use Rattle.cost_words.proofs.Regular.{regular}
+use Rattle.cost_collect.proofs.Placing.{rooting-next}
 use native.Mathlib.Numerals.{add-one}
 use native.Mathlib.Omega.{arith}
 use Prim.Native.Nat.{_-_, _≤_}
@@ -11,7 +12,7 @@ use Rattle.cost_collect.proofs.copy_roots.Statement.{statement}
 use Rattle.cost_collect.proofs.copy_roots.Tie as tie
 
 abbrev Inv-loop : tie.InvT-loop
-Inv-loop t₀ p₀ t p = (p ≤ 16) × Rooting form t₀ t p
+Inv-loop t₀ p₀ t p = (p ≤ 16) × Rooting costTable t₀ t p
 
 abbrev μ-loop : tie.MeasureT-loop
 μ-loop t₀ p₀ t p = 16 - p

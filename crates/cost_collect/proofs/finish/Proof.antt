@@ -1,6 +1,7 @@
 -- `cost_collect::finish` meets its contract: with the place set the table is untidy, and tidied it is the picture with one cost replaced. Assumes nothing.
 use Rattle.table_sweep.proofs.Finishing.{finished}
-use Rattle.cost_collect.proofs.Forming.{regular, both-placed, placed-again}
+use Rattle.cost_words.proofs.Regular.{regular}
+use Rattle.cost_collect.proofs.Placing.{both-placed, placed-again}
 use native.Mathlib.Omega.{arith}
 use lib.ListN.{length-set}
 use mathlib.Core.Path.{_∙_}

@@ -1,6 +1,7 @@
 -- `cost_collect::tidy` meets its contract: what is collected has no chains, and chained anew it is the picture. Assumes nothing.
 use Rattle.table_sweep.proofs.Tidying.{bare-now, tidied}
-use Rattle.cost_collect.proofs.Forming.{regular, in-range}
+use Rattle.cost_words.proofs.Regular.{regular}
+use Rattle.cost_collect.proofs.Placing.{in-range}
 use borrow.Author.Needs.{needs}
 use Rattle.cost_collect.proofs.tidy.Statement.{statement}
 use Rattle.cost_collect.proofs.tidy.Tie as tie

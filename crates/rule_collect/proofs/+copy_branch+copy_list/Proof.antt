@@ -1,7 +1,7 @@
 -- `rule_collect::copy_branch` and `copy_list` meet their contracts: a branch word of a node says an earlier node, so the measures fall; the first v branches are copied (Moving). Assumes nothing.
 use Rattle.rule_collect.proofs.Copying.{good-below, moved-phrase, moved-index, moving-none, next-below, moving-more}
-use Rattle.rule_words.specs.Words.{code}
-use Rattle.rule_words.proofs.Reading.{faithful}
+use Rattle.rule_words.specs.Table.{ruleTable}
+use Rattle.rule_words.proofs.Regular.{regular}
 use Rattle.table_sweep.specs.Collecting.{Moving}
 use Rattle.table_sweep.proofs.Copying.{marked-small, done-small, moved-marked, spare-for, moved-new}
 use Rattle.table_sweep.proofs.Framing.{few, known, value-small, still-good}
@@ -103,14 +103,14 @@ copy-branch-add-copy-requires : (t : ℕ) → copy-branch-lts.Need-add-copy-requ
 copy-branch-add-copy-requires t c κs = let a = (c .before .before .before .before .before .before .before .before .before .before .before) in
     let g = good-below (a .args .t .now) (a .args .b) (a .pre .1 .1) in
     let z : (c .before .before .before .before .before .before .bucket-word) .result ≡ 0 = omega arith in
-    spare-for faithful (a .pre .1 .0) (omega arith) (sym ((c .before .before .before .before .before .before .bucket-word) .ensures) ∙ z) ((c .before .before .before .copy-list) .ensures)
+    spare-for regular (a .pre .1 .0) (omega arith) (sym ((c .before .before .before .before .before .before .bucket-word) .ensures) ∙ z) ((c .before .before .before .copy-list) .ensures)
 
 copy-branch-narrow-requires : (t : ℕ) → copy-branch-lts.Need-narrow-requires (copy-branch-claims t) (copy-branch-at t) copy-branch.Post
 copy-branch-narrow-requires t c κs =
     let c6 = c .before .before .before .before .before .before in let c9 = c6 .before .before .before in let a = c9 .before .before .before .before .before in
     let g = good-below (a .args .t .now) (a .args .b) (a .pre .1 .1) in
     let z : (c9 .bucket-word) .result ≡ 0 = omega arith in
-    let s = spare-for faithful (a .pre .1 .0) (omega arith) (sym (c9 .bucket-word .ensures) ∙ z) (c6 .copy-list .ensures) in
+    let s = spare-for regular (a .pre .1 .0) (omega arith) (sym (c9 .bucket-word .ensures) ∙ z) (c6 .copy-list .ensures) in
     omega (arith, s .free, s .most, c .before .before .add-copy .ensures .0)
 
 copy-branch-add-result-2 : (t : ℕ) → copy-branch-lts.Need-add-result-2 (copy-branch-claims t) (copy-branch-at t) copy-branch.Post
@@ -118,7 +118,7 @@ copy-branch-add-result-2 t c =
     let c7 = c .before .before .before .before .before .before .before in let c10 = c7 .before .before .before in let a = c10 .before .before .before .before .before in
     let g = good-below (a .args .t .now) (a .args .b) (a .pre .1 .1) in
     let z : (c10 .bucket-word) .result ≡ 0 = omega arith in
-    let s = spare-for faithful (a .pre .1 .0) (omega arith) (sym (c10 .bucket-word .ensures) ∙ z) (c7 .copy-list .ensures) in
+    let s = spare-for regular (a .pre .1 .0) (omega arith) (sym (c10 .bucket-word .ensures) ∙ z) (c7 .copy-list .ensures) in
     omega (arith, s .free, s .most, c .before .before .before .add-copy .ensures .0, c .narrow .ensures)
 
 copy-branch-returns-3 : (t : ℕ) → copy-branch-lts.Need-returns-3 (copy-branch-claims t) (copy-branch-at t) copy-branch.Post
@@ -127,10 +127,10 @@ copy-branch-returns-3 t c =
     let g = good-below (a .args .t .now) (a .args .b) (a .pre .1 .1) in
     let z : (c10 .bucket-word) .result ≡ 0 = omega arith in
     moved-index _ _ _ _ (omega arith) (ap (λ (n : ℕ). 65536 + n) (c .narrow .ensures ∙ c .before .before .before .add-copy .ensures .0))
-    (moved-new faithful (a .pre .1 .0) (omega arith) (sym (c10 .bucket-word .ensures) ∙ z) (c7 .copy-list .ensures) (c .before .before .before .add-copy .ensures .1))
+    (moved-new regular (a .pre .1 .0) (omega arith) (sym (c10 .bucket-word .ensures) ∙ z) (c7 .copy-list .ensures) (c .before .before .before .add-copy .ensures .1))
 
 abbrev copy-list-Inv-loop : copy-list-lts.InvT-loop
-copy-list-Inv-loop t₀ i m list₀ v₀ t list v = (m ≡ size t₀ (feature t₀ i)) × (v ≤ m) × Moving code t₀ t i v list × (length list ≡ 12)
+copy-list-Inv-loop t₀ i m list₀ v₀ t list v = (m ≡ size t₀ (feature t₀ i)) × (v ≤ m) × Moving ruleTable t₀ t i v list × (length list ≡ 12)
 
 abbrev copy-list-μ-loop : copy-list-lts.MeasureT-loop
 copy-list-μ-loop t₀ i m list₀ v₀ t list v = m - v
@@ -163,7 +163,7 @@ copy-list-copy-branch-requires t c κs = let a = (c .before .before .before .bef
     let k = l .inv .2 .turning .still .steady in
     let hv : l .v < size (a .args .t .now) (feature (a .args .t .now) (a .args .i)) = omega arith in (
       omega (arith, next-below _ (a .pre .1 .0) (a .pre .1 .1) hv (l .inv .3) (l .inv .2) ((c .before .record-word2) .ensures)),
-      (l .inv .2 .turning .still .ready, rw ((c .before .record-word2) .ensures) (still-good faithful f k (a .args .i) (l .v) (a .pre .1 .1) hv)),
+      (l .inv .2 .turning .still .ready, rw ((c .before .record-word2) .ensures) (still-good regular f k (a .args .i) (l .v) (a .pre .1 .1) hv)),
     )
 
 copy-list-array-write-list : (t : ℕ) → copy-list-lts.Need-array-write-list (copy-list-claims t) (copy-list-at t) copy-list.Post copy-list-Inv-loop copy-list-μ-loop

@@ -1,6 +1,7 @@
 -- `rule_collect::finish` meets its contract: with the root set the table is untidy, and tidied it is the picture with one rule replaced. Assumes nothing.
 use Rattle.table_sweep.proofs.Finishing.{placed-untidy, finished}
-use Rattle.rule_collect.proofs.Forming.{regular, placed}
+use Rattle.rule_words.proofs.Regular.{regular}
+use Rattle.rule_collect.proofs.Placing.{placed}
 use native.Mathlib.Omega.{arith}
 use lib.ListN.{length-set}
 use mathlib.Core.Path.{_∙_}
