@@ -35,8 +35,3 @@ module _ {w : List ℕ} (o : Ordered w) where
 
   pub ordered-wf : WF (sizes w) (nodes w)
   ordered-wf = nodes-wf regular w (o .header .fit) node-fits (o .chained)
-
-  pub sits-branch : {b : ℕ} (i v : ℕ) → i < count w → v < size w (feature w i) → b ≡ goes (body w i) v → (Sits w (count w) 0 b) × (b < 1 + i)
-  sits-branch {b} i v h hv e =
-      let s : Sits w i (feature w i + 1) (goes (body w i) v) = o .nodes-ok .each i h .lower .lower v hv in
-      (rw e (sits-more w i (count w) (feature w i + 1) 0 (goes (body w i) v) (omega arith) (omega arith) s), omega (arith, s .below))

@@ -4,7 +4,7 @@ use mathlib.Core.Logic.{⊎-elim}
 use mathlib.Core.List.{List}
 use Prim.Native.Nat.{ℕ, zero, suc, _+_, _*_, _-_, _/_, _%_, _≤_, _<_}
 use native.Mathlib.Omega.{arith}
-use borrow.Author.Tests.{eq-eqb, ne-eqb, lt-ltb, le-ltb}
+use borrow.Author.Tests.{lt-ltb, le-ltb}
 use lib.IntN.{pos}
 use Rattle.theory.specs.Costs.{costs}
 use Rattle.theory.specs.Copying.{Twin}
@@ -13,6 +13,7 @@ use Rattle.theory_costs.specs.Integers.{wordFor}
 use Rattle.theory_costs.proofs.Growing.{sum-copied}
 use Rattle.theory_costs.proofs.Integers.{ℕ-eq, minus-fall}
 use Rattle.theory_costs.proofs.Words.{int-ℕ, int-one, int-word, signed-word}
+use Rattle.table_words.proofs.Halves.{half-even, half-odd}
 use Rattle.table_words.proofs.Tab.{split, same}
 use Rattle.cost_words.specs.Table.{costTable}
 use Rattle.cost_words.specs.Words.{targetWord, packed, pairWord, targetOf, Worded}
@@ -74,14 +75,6 @@ pub word-branch : (b : Branch costs) → fall (b .adds) ≤ bias → branch (tar
 word-branch b h = λ i. record { adds = int-word (b .adds) h i; to = word-target (b .to) i }
 
 -- ---- halves
-pub half-even : (x v : ℕ) → v % 2 ≡ 0 → half x v ≡ x % 65536
-unfolding half
-half-even x v e = rw (eq-eqb (v % 2) 0 e)
-
-pub half-odd : (x v : ℕ) → (v % 2 ≡ 0 → ⊥) → half x v ≡ x / 65536
-unfolding half
-half-odd x v e = rw (ne-eqb (v % 2) 0 e)
-
 -- the two halves of body word u
 pub goes-low : (f : ℕ → ℕ) (u : ℕ) → goes f (2 * u) ≡ f u % 65536
 goes-low f u =

@@ -8,6 +8,7 @@ pub use sides::sides_of;
 pub use sums::difference_or_lost;
 pub use sums::further;
 pub use sums::sum_or_lost;
+use table_words::half_of;
 use table_words::head_word;
 use table_words::record_word;
 ghost use mathlib.Core.Path.{_≡_};
@@ -19,7 +20,7 @@ ghost use Rattle.cost_words.specs.Words.{packed, targetOf, Worded};
 ghost use Rattle.promises.specs.Integers.{Fit, int};
 ghost use Rattle.promises.specs.Range.{addMost};
 ghost use Rattle.promises.specs.Words.{body};
-ghost use Rattle.promises.specs.CostWords.{target, half, goes, added, costRoot as root, costBase as base};
+ghost use Rattle.promises.specs.CostWords.{target, goes, added, costRoot as root, costBase as base};
 
 // The word that stands for the integer 0, here and where words are added up.
 pub const ZERO: u32 = 2147483648;
@@ -55,13 +56,6 @@ pub fn target_at(w: u32) -> Target
     } else {
         Target::Node(w - 1)
     }
-}
-
-// The half of a word that is for value v.
-pub fn half_of(x: u32, v: usize) -> u32
-    ensures { λ r. ⌜ r ≡ half x v ⌝ }
-{
-    if v % 2 == 0 { x % HALF } else { x / HALF }
 }
 
 // The target word of value v of record i.

@@ -1,8 +1,8 @@
 // What a table keeps for its nodes, the lowest and the highest sum below each, and what that is for a body.
 use crate::ZERO;
-use crate::half_of;
 use crate::sums::further;
 use crate::sums::sum_or_lost;
+use table_words::half_of;
 use table_words::record_word;
 use table_words::wide;
 ghost use Prim.Native.Nat.{_<_};

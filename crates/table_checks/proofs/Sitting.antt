@@ -9,17 +9,16 @@ use native.Mathlib.Numerals.{add-one}
 use lib.Dec.{leb}
 use lib.ListN.{length, getD}
 use Rattle.theory.specs.Kind.{Kind}
-use Rattle.theory.specs.Diagrams.{Branch, Node, at, blank, node}
+use Rattle.theory.specs.Diagrams.{Branch, Node, Target, at, blank, leaf, node}
 use Rattle.theory.specs.WellFormed.{Fits, Under, WF}
 use Rattle.theory.proofs.WellFormed.{under-weaken}
 use Rattle.table_words.specs.Table.{Table, Regular, branches, nodeAt, nodes}
-use Rattle.table_words.proofs.Reading.{branch-past, length-nodes, at-nodes, bodies-same, node-is}
+use Rattle.table_words.proofs.Reading.{branch-past, length-nodes, at-nodes, at-nodesBy, bodies-same, node-is}
 use Rattle.table_words.proofs.Tab.{same, split, length-tab, getD-tab}
 use Rattle.table_words.proofs.Words.{length-sizes, at-sizes}
 use Rattle.settings.specs.Tells.{Tells}
 use Rattle.settings.proofs.Answers.{tells-leb}
-use Rattle.table_checks.specs.Walk.{Good}
-use Rattle.promises.specs.Words.{features, size, count, sizes, feature, body}
+use Rattle.promises.specs.Words.{features, size, count, sizes, feature, body, nodesBy}
 use Rattle.promises.specs.Sound.{Same, Alone, Chained, Sizes, Sits}
 
 pub tells-sits : (first : ℕ) (w : List ℕ) (m k b x : ℕ) → first ≤ b → b - first < m → x ≡ feature w (b - first) → Tells (leb k x) (Sits first w m k b)
@@ -30,6 +29,34 @@ tells-sits first w m k b x hb hm e =
 pub sits-more : {first : ℕ} (w : List ℕ) (m m′ k k′ b : ℕ) → m ≤ m′ → k′ ≤ k → Sits first w m k b → Sits first w m′ k′ b
 sits-more w m m′ k k′ b h l s = record { below = omega (arith, s .below); above = λ q. omega (arith, s .above q) }
 
+-- nodes whose body words say `arm`, where branch words below `first` end and the others say nodes
+module _ {K : Kind} (arm : (ℕ → ℕ) → ℕ → Branch K) (first : ℕ) (goal : ℕ → Target K) (ends : (x : ℕ) → x < first → (e : K .End) × (goal x ≡ leaf e))
+    (indices : (i : ℕ) → goal (first + i) ≡ node i) (w : List ℕ) (m k b : ℕ) (hm : m ≤ count w) where
+  goal-node : (i : ℕ) → b ≡ first + i → goal b ≡ node i
+  goal-node i e = ap goal e ∙ indices i
+
+  feature-at : (i : ℕ) → i < count w → at (nodesBy arm w) i .feature ≡ feature w i
+  feature-at i h = ap (λ (x : Node K). x .feature) (at-nodesBy arm w i h)
+
+  -- a word that sits goes where it may, ..
+  pub sits-goes : Sits first w m k b → Under (nodesBy arm w) m k (goal b)
+  sits-goes s = ⊎-elim
+      (λ h. let e = ends b h in subst (Under (nodesBy arm w) m k) (sym (e .1)) tt)
+      (λ h.
+      let l : b - first < m = omega (arith, s .below) in
+      let u : Under (nodesBy arm w) m k (node (b - first)) = (l, omega (arith, s .above h, feature-at (b - first) (omega arith))) in
+      subst (Under (nodesBy arm w) m k) (sym (goal-node (b - first) (omega arith))) u)
+      (split b first)
+
+  -- .. and the other way round
+  pub goes-sits : Under (nodesBy arm w) m k (goal b) → Sits first w m k b
+  goes-sits u = ⊎-elim
+      (λ h. record { below = omega arith; above = λ g. absurd (omega arith) })
+      (λ h.
+      let q : Under (nodesBy arm w) m k (node (b - first)) = subst (Under (nodesBy arm w) m k) (goal-node (b - first) (omega arith)) u in
+      record { below = omega (arith, q .0); above = λ g. omega (arith, q .1, feature-at (b - first) (omega (arith, q .0))) })
+      (split b first)
+
 module _ {K : Kind} {T : Table K} (L : Regular T) (w : List ℕ) where
   abbrev N : List (Node K)
   N = nodes T w
@@ -37,36 +64,17 @@ module _ {K : Kind} {T : Table K} (L : Regular T) (w : List ℕ) where
   length-N : length N ≡ count w
   length-N = length-nodes T w
 
-  goal-node : (b i : ℕ) → b ≡ T .first + i → T .goal b ≡ node i
-  goal-node b i e = ap (T .goal) e ∙ L .indices i
-
-  feature-at : (i : ℕ) → i < count w → at N i .feature ≡ feature w i
-  feature-at i h = ap (λ (x : Node K). x .feature) (at-nodes T w i h)
-
-  -- a word that sits goes where it may, ..
   pub sits-under : (m k b : ℕ) → m ≤ count w → Sits (T .first) w m k b → Under N m k (T .goal b)
-  sits-under m k b hm s = ⊎-elim
-      (λ h. let e = L .ends b h in subst (Under N m k) (sym (e .1)) tt)
-      (λ h.
-      let l : b - T .first < m = omega (arith, s .below) in
-      let u : Under N m k (node (b - T .first)) = (l, omega (arith, s .above h, feature-at (b - T .first) (omega arith))) in
-      subst (Under N m k) (sym (goal-node b (b - T .first) (omega arith))) u)
-      (split b (T .first))
+  sits-under m k b hm s = sits-goes (T .arm) (T .first) (T .goal) (L .ends) (L .indices) w m k b hm s
 
-  -- .. and the other way round
   pub under-sits : (m k b : ℕ) → m ≤ count w → Under N m k (T .goal b) → Sits (T .first) w m k b
-  under-sits m k b hm u = ⊎-elim
-      (λ h. record { below = omega arith; above = λ g. absurd (omega arith) })
-      (λ h.
-      let q : Under N m k (node (b - T .first)) = subst (Under N m k) (goal-node b (b - T .first) (omega arith)) u in
-      record { below = omega (arith, q .0); above = λ g. omega (arith, q .1, feature-at (b - T .first) (omega (arith, q .0))) })
-      (split b (T .first))
+  under-sits m k b hm u = goes-sits (T .arm) (T .first) (T .goal) (L .ends) (L .indices) w m k b hm u
 
   -- among the nodes in use
-  pub sits-good : (m k b : ℕ) → m ≤ count w → Sits (T .first) w m k b → Good T w k b
+  pub sits-good : (m k b : ℕ) → m ≤ count w → Sits (T .first) w m k b → Under (nodes T w) (length (nodes T w)) k (T .goal b)
   sits-good m k b h s = under-weaken N m (length N) k k (T .goal b) (omega (arith, length-N)) (le-refl _) (sits-under m k b h s)
 
-  pub good-sits : (k b : ℕ) → Good T w k b → Sits (T .first) w (count w) k b
+  pub good-sits : (k b : ℕ) → Under (nodes T w) (length (nodes T w)) k (T .goal b) → Sits (T .first) w (count w) k b
   good-sits k b u = under-sits (count w) k b (le-refl _) (subst (λ (m : ℕ). Under N m k (T .goal b)) length-N u)
 
 -- node i by itself

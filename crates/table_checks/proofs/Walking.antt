@@ -1,4 +1,4 @@
--- The soundness test's walk, step by step, for every kind: a branch, the branches of a node, the roots. Assumes nothing.
+-- The soundness test's walk, step by step, over the shape of a table: a branch, the branches of a node, the roots. Assumes nothing.
 use mathlib.Core.Path.{_≡_, refl, sym, ap, subst, _∙_}
 use mathlib.Core.List.{List}
 use mathlib.Core.Option.{Option, none, some}
@@ -6,23 +6,43 @@ use Prim.Native.Nat.{ℕ, zero, suc, _+_, _-_, _≤_, _<_}
 use native.Mathlib.Nat.{le-refl}
 use native.Mathlib.Omega.{arith}
 use native.Mathlib.Numerals.{add-one}
+use borrow.Author.Tests.{eq-eqb, ne-eqb, lt-ltb, le-ltb}
 use lib.Dec.{eqb}
-use lib.ListN.{length, drop, getD}
+use lib.ListN.{length, drop}
 use Rattle.theory.specs.Kind.{Kind}
-use Rattle.theory.specs.Diagrams.{Branch, Node, Target, at, blank, node}
-use Rattle.theory.specs.WellFormed.{Under, WF}
+use Rattle.theory.specs.Diagrams.{Branch, Node, Target, at, leaf, node}
+use Rattle.theory.specs.Rules.{rules}
+use Rattle.theory.specs.WellFormed.{Under}
 use Rattle.theory.specs.Walk.{scan, scans, close}
 use Rattle.theory.proofs.Ordering.{close-same}
-use Rattle.theory.proofs.Scanning.{scan-leaf, scan-from, scan-done, scan-close, close-none, close-other, scans-step, scans-lost, scans-nil}
+use Rattle.theory.proofs.Scanning.{scan-leaf, scan-known, scan-done, scan-close, close-none, close-other, scans-step, scans-lost, scans-nil}
 use Rattle.theory.proofs.WellFormed.{under-weaken}
-use Rattle.table_words.specs.Table.{Table, Regular, branches, nodes}
-use Rattle.table_words.proofs.Reading.{length-nodes, at-nodes, branch-at}
+use Rattle.table_words.proofs.Reading.{length-nodesBy, at-nodesBy}
 use Rattle.table_words.proofs.Tab.{tab-none, tab-snoc}
+use Rattle.table_words.proofs.Words.{length-sizes}
 use Rattle.settings.specs.Tells.{Tells}
 use Rattle.settings.proofs.Answers.{tells-eqb}
-use Rattle.table_checks.specs.Walk.{Good, Says, Visits, VisitsAll, scan-below}
+use Rattle.table_checks.specs.Walk.{Formed, Rooted, Good, Says, Visits, VisitsAll, goalOf, goingTo, scan-below, shape, shapeArm, shapeRoots, wayOf}
+use Rattle.table_checks.proofs.Sitting.{sits-goes, sits-more}
 use Rattle.promises.specs.Tab.{tab}
-use Rattle.promises.specs.Words.{size, count, sizes, feature, body}
+use Rattle.promises.specs.Words.{head, size, count, sizes, feature, body}
+use Rattle.promises.specs.CostWords.{goes}
+use Rattle.promises.specs.Sound.{Sits}
+
+-- ---- the branch word of a body, and where it goes
+pub way-half : (first : ℕ) (f : ℕ → ℕ) (v : ℕ) → first ≡ 1 → wayOf first f v ≡ goes f v
+way-half first f v e = rw (eq-eqb first 1 e)
+
+pub way-whole : (first : ℕ) (f : ℕ → ℕ) (v : ℕ) → (first ≡ 1 → ⊥) → wayOf first f v ≡ f v
+way-whole first f v e = rw (ne-eqb first 1 e)
+
+pub goal-end : (first x : ℕ) → x < first → goalOf first x ≡ leaf 0
+unfolding goalOf
+goal-end first x h = rw (lt-ltb x first h)
+
+pub goal-node : (first i : ℕ) → goalOf first (first + i) ≡ node i
+unfolding goalOf
+goal-node first i = rw (le-ltb (first + i) first (omega arith)) (ap (λ (j : ℕ). let t : Target rules = node j in t) (let e : first + i - first ≡ i = omega arith in e))
 
 -- ---- after the branches of node i
 says-close : (n d i : ℕ) (o : Option ℕ) → i < n → n ≤ 4096 → Says n d o → d ≡ i → Says n (i + 1) (close i o)
@@ -33,67 +53,78 @@ says-lost : (n d i : ℕ) (o : Option ℕ) → Says n d o → (d ≡ i → ⊥) 
 says-lost n d i none s e = subst (Says n 8192) (sym (close-none i)) refl
 says-lost n d i (some x) s e = subst (Says n 8192) (sym (close-other i x (λ q. e (s .0 ∙ q)))) refl
 
-module _ {K : Kind} {T : Table K} (L : Regular T) (w : List ℕ) where
-  abbrev N : List (Node K)
-  N = nodes T w
+module _ (first : ℕ) (w : List ℕ) where
+  abbrev N : List (Node rules)
+  N = shape first w
+
+  -- a word that sits goes where it may
+  pub sits-shape : (m k b : ℕ) → m ≤ count w → Sits first w m k b → Under N m k (goalOf first b)
+  sits-shape m k b h s = sits-goes (shapeArm first) first (goalOf first) (λ x l. (0, goal-end first x l)) (goal-node first) w m k b h s
+
+  pub sits-good : (m k b : ℕ) → m ≤ count w → Sits first w m k b → Good first w k b
+  sits-good m k b h s = under-weaken N m (length N) k k (goalOf first b) (omega (arith, length-nodesBy (shapeArm first) w)) (le-refl _) (sits-shape m k b h s)
 
   -- ---- a branch
-  pub visits-end : {b c : ℕ} → b < T .first → c ≤ count w → Visits T w b c c
+  pub visits-end : {b c : ℕ} → b < first → c ≤ count w → Visits first w b c c
   visits-end {b} {c} h hc =
-      let e = L .ends b h in
       record {
-        visits = λ k o. subst (λ (t : Target K). Says (count w) c (scan N k (drop k (sizes w)) t c)) (sym (e .1))
-            (subst (Says (count w) c) (sym (scan-leaf N k (drop k (sizes w)) (e .0) c)) (refl, hc));
+        visits = λ k o. subst (λ (t : Target rules). Says (count w) c (scan N k (drop k (sizes w)) t c)) (sym (goal-end first b h))
+            (subst (Says (count w) c) (sym (scan-leaf N k (drop k (sizes w)) 0 c)) (refl, hc));
       }
 
-  module _ (b c i : ℕ) (wf : WF (sizes w) N) (most : count w ≤ 4096) (eb : b ≡ T .first + i) (h : i < count w) where
-    goal-is : T .goal b ≡ node i
-    goal-is = ap (T .goal) eb ∙ L .indices i
+  module _ (f : Formed first w) (b c i : ℕ) (eb : b ≡ first + i) (h : i < count w) where
+    goal-is : goalOf first b ≡ node i
+    goal-is = ap (goalOf first) eb ∙ goal-node first i
+
+    most : count w ≤ 4096
+    most = omega (arith, f .header .within, f .header .most)
 
     feature-in : at N i .feature < length (sizes w)
-    feature-in = wf .fits i (omega (arith, length-nodes T w)) .known
+    feature-in = omega (arith, ap (λ (x : Node rules). x .feature) (at-nodesBy (shapeArm first) w i h), f .known i h, length-sizes w)
 
     -- from the node's own feature
-    from-own : (r : ℕ) → Says (count w) r (scan N (at N i .feature) (drop (at N i .feature) (sizes w)) (node i) c) → Visits T w b c r
+    from-own : (r : ℕ) → Says (count w) r (scan N (at N i .feature) (drop (at N i .feature) (sizes w)) (node i) c) → Visits first w b c r
     from-own r s =
         record {
-          visits = λ k ok. subst (λ (t : Target K). Says (count w) r (scan N k (drop k (sizes w)) t c)) (sym goal-is)
-              (subst (Says (count w) r) (sym (scan-from (sizes w) N wf i c k (subst (Under N (length N) k) goal-is ok))) s);
+          visits = λ k ok. subst (λ (t : Target rules). Says (count w) r (scan N k (drop k (sizes w)) t c)) (sym goal-is)
+              (subst (Says (count w) r) (sym (scan-known (sizes w) N i c k feature-in (subst (Under N (length N) k) goal-is ok))) s);
         }
 
-    pub visits-done : i < c → c ≤ count w → Visits T w b c c
+    pub visits-done : i < c → c ≤ count w → Visits first w b c c
     visits-done l hc = from-own c (subst (Says (count w) c) (sym (scan-done (sizes w) N i c feature-in l)) (refl, hc))
 
-    all-there : {d : ℕ} → VisitsAll T w i c d → Says (count w) d (scans (scan-below T w i) (at N i .branches) c)
+    all-there : {d : ℕ} → VisitsAll first w i c d → Says (count w) d (scans (scan-below first w i) (at N i .branches) c)
     all-there {d} v =
-        subst (λ (bs : List (Branch K)). Says (count w) d (scans (scan-below T w i) bs c)) (sym (ap (λ (x : Node K). x .branches) (at-nodes T w i h))) (v .visits)
+        subst (λ (bs : List (Branch rules)). Says (count w) d (scans (scan-below first w i) bs c))
+        (sym (ap (λ (x : Node rules). x .branches) (at-nodesBy (shapeArm first) w i h))) (v .visits)
 
-    pub visits-close : {d : ℕ} → ¬ (i < c) → VisitsAll T w i c d → d ≡ i → Visits T w b c (i + 1)
+    pub visits-close : {d : ℕ} → ¬ (i < c) → VisitsAll first w i c d → d ≡ i → Visits first w b c (i + 1)
     visits-close {d} l v e =
         from-own (i + 1)
         (subst (Says (count w) (i + 1)) (sym (scan-close (sizes w) N i c feature-in l))
-        (says-close (count w) d i (scans (scan-below T w i) (at N i .branches) c) h most (all-there v) e))
+        (says-close (count w) d i (scans (scan-below first w i) (at N i .branches) c) h most (all-there v) e))
 
-    pub visits-lost : {d : ℕ} → ¬ (i < c) → VisitsAll T w i c d → (d ≡ i → ⊥) → Visits T w b c 8192
+    pub visits-lost : {d : ℕ} → ¬ (i < c) → VisitsAll first w i c d → (d ≡ i → ⊥) → Visits first w b c 8192
     visits-lost {d} l v e =
         from-own 8192
         (subst (Says (count w) 8192) (sym (scan-close (sizes w) N i c feature-in l))
-        (says-lost (count w) d i (scans (scan-below T w i) (at N i .branches) c) (all-there v) e))
+        (says-lost (count w) d i (scans (scan-below first w i) (at N i .branches) c) (all-there v) e))
 
   -- ---- branch v of node i, said by the word b
-  module _ {b : ℕ} (wf : WF (sizes w) N) (i v : ℕ) (h : i < count w) (hv : v < size w (feature w i)) (e : b ≡ T .word (body w i) v) where
-    goes-there : T .arm (body w i) v .to ≡ T .goal b
-    goes-there = L .arms (body w i) v ∙ ap (T .goal) (sym e)
+  module _ {b : ℕ} (f : Formed first w) (i v : ℕ) (h : i < count w) (hv : v < size w (feature w i)) (e : b ≡ wayOf first (body w i) v) where
+    sits-there : Sits first w i (feature w i + 1) b
+    sits-there = subst (Sits first w i (feature w i + 1)) (sym e) (f .lower i h .lower v hv)
 
-    branch-good : Good T w (suc (at N i .feature)) b
-    branch-good =
-        let l : i < length N = omega (arith, length-nodes T w) in
-        subst (Under N (length N) (suc (at N i .feature))) (ap (λ (x : Branch K). x .to) (branch-at T w i v h hv) ∙ goes-there)
-        (under-weaken N i (length N) (suc (at N i .feature)) (suc (at N i .feature)) (getD (at N i .branches) v blank .to) (omega arith) (le-refl _) (wf .fits i l .lower v))
+    -- it sits among all nodes, and its word is below that of the node
+    pub sits-branch : (Sits first w (count w) 0 b) × (b < first + i)
+    sits-branch = (sits-more w i (count w) (feature w i + 1) 0 b (omega arith) (omega arith) sits-there, sits-there .below)
 
-    pub says-branch : {d r : ℕ} → Visits T w b d r → Says (count w) r (scan-below T w i (T .arm (body w i) v .to) d)
+    pub says-branch : {d r : ℕ} → Visits first w b d r → Says (count w) r (scan-below first w i (shapeArm first (body w i) v .to) d)
     says-branch {d} {r} s =
-        subst (λ (t : Target K). Says (count w) r (scan-below T w i t d)) (sym goes-there) (s .visits (suc (at N i .feature)) branch-good)
+        subst (λ (x : ℕ). Says (count w) r (scan-below first w i (goalOf first x) d)) e
+        (s .visits (suc (at N i .feature)) (subst (λ (k : ℕ). Good first w k b)
+        (add-one (feature w i) ∙ ap suc (sym (ap (λ (x : Node rules). x .feature) (at-nodesBy (shapeArm first) w i h))))
+        (sits-good i (feature w i + 1) b (omega arith) sits-there)))
 
 -- ---- branches in turn: the first v are walked from c, and d nodes are done
 module _ {K : Kind} where
@@ -140,18 +171,20 @@ module _ {K : Kind} where
       walked : scans f bs 0 ≡ some d
       walked = ap (λ (l : List (Branch K)). scans f l 0) (eb ∙ ap (tab F) (sym ep)) ∙ k .walked
 
-module _ {K : Kind} {T : Table K} {w : List ℕ} {i c : ℕ} where
+module _ {first : ℕ} {w : List ℕ} {i c : ℕ} where
   -- ---- the branches of a node
-  pub visits-all : {d : ℕ} (v : ℕ) → Walk (scan-below T w i) (T .arm (body w i)) (count w) c v d → v ≡ size w (feature w i) → VisitsAll T w i c d
+  pub visits-all : {d : ℕ} (v : ℕ) → Walk (scan-below first w i) (shapeArm first (body w i)) (count w) c v d → v ≡ size w (feature w i) → VisitsAll first w i c d
   visits-all {d} v k e =
       record {
-        visits = subst (λ (m : ℕ). Says (count w) d (scans (scan-below T w i) (branches T m (body w i)) c)) e (subst (Says (count w) d) (sym (k .walked)) (refl, k .top));
+        visits = subst (λ (m : ℕ). Says (count w) d (scans (scan-below first w i) (tab (shapeArm first (body w i)) m) c)) e (subst (Says (count w) d) (sym (k .walked)) (refl, k .top));
       }
 
-  pub visits-none : scans (scan-below T w i) (branches T (size w (feature w i)) (body w i)) c ≡ none → VisitsAll T w i c 8192
+  pub visits-none : scans (scan-below first w i) (tab (shapeArm first (body w i)) (size w (feature w i))) c ≡ none → VisitsAll first w i c 8192
   visits-none e = record { visits = subst (Says (count w) 8192) (sym e) refl }
 
--- ---- the roots: r is the walk from the root x, said by the word b
-pub says-root : {K : Kind} {T : Table K} {w : List ℕ} {b d r : ℕ} (x : Branch K) → x .to ≡ T .goal b → Good T w 0 b → Visits T w b d r
-    → Says (count w) r (scan (nodes T w) 0 (sizes w) (x .to) d)
-says-root {T = T} {w} {b} {d} {r} x e o s = subst (λ (t : Target _). Says (count w) r (scan (nodes T w) 0 (sizes w) t d)) (sym e) (s .visits 0 o)
+-- ---- the roots: r is the walk from the root of place p, whose word is b
+pub says-root : {first n : ℕ} {w : List ℕ} {b d r : ℕ} → Rooted first n w → (p : ℕ) → p < n → b ≡ head w (32 + p) → Visits first w b d r
+    → Says (count w) r (scan (shape first w) 0 (sizes w) (goalOf first (head w (32 + p))) d)
+says-root {first} {n} {w} {b} {d} {r} o p h e s =
+    subst (λ (x : ℕ). Says (count w) r (scan (shape first w) 0 (sizes w) (goalOf first x) d)) e
+    (s .visits 0 (sits-good first w (count w) 0 b (le-refl _) (subst (Sits first w (count w) 0) (sym e) (o .rooted p h))))

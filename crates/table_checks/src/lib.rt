@@ -1,4 +1,9 @@
 // The part of the soundness test that every kind of table shares: the header, the words that are 0, the chains, branch words.
+mod following; // following.rt: where branches may go, and the walk from the roots
+
+pub use following::lower;
+pub use following::order_ok;
+pub use following::roots_ok;
 ghost use mathlib.Core.Path.{_≡_};
 ghost use Prim.Native.Nat.{_+_, _*_, _≤_, _<_};
 ghost use lib.ListN.{length};

@@ -1,5 +1,6 @@
 pub mod Tab
 pub mod Words
+pub mod Halves
 pub mod Chains
 pub mod Filling
 pub mod Reading

@@ -10,6 +10,7 @@ use Rattle.theory.specs.Functions.{Fun, zero-fun}
 use Rattle.table_words.specs.Table.{Table, Regular, branches, nodeAt, nodes, rootsOf, funAt}
 use Rattle.table_words.proofs.Tab.{tab-ext, length-tab, getD-tab}
 use Rattle.promises.specs.Tab.{tab}
+use Rattle.promises.specs.Words as W
 use Rattle.promises.specs.Words.{nodesBy, count, size, feature, body}
 
 module _ {K : Kind} where
@@ -17,14 +18,22 @@ module _ {K : Kind} where
   pub branch-past : (L : ℕ → Branch K) (n v : ℕ) → n ≤ v → getD (tab L n) v blank ≡ blank
   branch-past L n v h = List·getD-eq-default (tab L n) blank (omega (arith, length-tab L n))
 
+-- the nodes of records, whatever their body words say
+module _ {K : Kind} (arm : (ℕ → ℕ) → ℕ → Branch K) where
+  pub length-nodesBy : (w : List ℕ) → length (nodesBy arm w) ≡ count w
+  unfolding nodesBy
+  length-nodesBy w = length-tab (W.nodeAt arm w) (count w)
+
+  pub at-nodesBy : (w : List ℕ) (i : ℕ) → i < count w → at (nodesBy arm w) i ≡ W.nodeAt arm w i
+  unfolding nodesBy
+  at-nodesBy w i h = getD-tab (W.nodeAt arm w) (count w) i empty h
+
 module _ {K : Kind} (T : Table K) where
   pub length-nodes : (w : List ℕ) → length (nodes T w) ≡ count w
-  unfolding nodesBy
-  length-nodes w = length-tab (nodeAt T w) (count w)
+  length-nodes w = length-nodesBy (T .arm) w
 
   pub at-nodes : (w : List ℕ) (i : ℕ) → i < count w → at (nodes T w) i ≡ nodeAt T w i
-  unfolding nodesBy
-  at-nodes w i h = getD-tab (nodeAt T w) (count w) i empty h
+  at-nodes w i h = at-nodesBy (T .arm) w i h
 
   -- branch v of node i
   pub branch-at : (w : List ℕ) (i v : ℕ) → i < count w → v < size w (feature w i) → getD (at (nodes T w) i .branches) v blank ≡ T .arm (body w i) v

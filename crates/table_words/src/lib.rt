@@ -12,6 +12,7 @@ ghost use Prim.Native.Nat.{ℕ, _+_, _*_, _≤_, _<_};
 ghost use lib.ListN.{length, getD};
 ghost use Rattle.table_words.specs.Words.{listed};
 ghost use Rattle.promises.specs.Words.{word, body, hashOf, hashAt};
+ghost use Rattle.promises.specs.CostWords.{half};
 
 // A table has at most so many nodes.
 pub const NODES: usize = 4096;
@@ -20,6 +21,9 @@ pub const NODES: usize = 4096;
 pub const CHAINS: usize = 4096;
 
 pub const RECORDS: usize = 8192;
+
+// A half word is below this.
+const HALF: u32 = 65536;
 
 // A word as an index.
 pub fn wide(x: u32) -> usize
@@ -34,6 +38,13 @@ pub fn narrow(x: usize) -> u32
     ensures { λ r. ⌜ r ≡ x ⌝ }
 {
     x as u32
+}
+
+// The half of a word that is for value v.
+pub fn half_of(x: u32, v: usize) -> u32
+    ensures { λ r. ⌜ r ≡ half x v ⌝ }
+{
+    if v % 2 == 0 { x % HALF } else { x / HALF }
 }
 
 // Word j of record i. The far records follow the near ones: far record i is record capacity + i.

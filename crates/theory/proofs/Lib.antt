@@ -17,6 +17,7 @@ pub mod Ordering
 pub mod Operations
 pub mod Lifting
 pub mod Scanning
+pub mod Shapes
 pub mod Copying
 pub mod Bounded
 pub mod Rules

@@ -56,14 +56,17 @@ module _ {K : Kind} where
       ∙ step-wait N k (scan N (suc k) (drop (suc k) S)) (node i) c (o .0, omega (arith, o .1))
       ∙ rw e (scan-jump S N i c (suc k) d (omega arith) (subst (λ (j : ℕ). Under N (length N) j (node i)) e o))
 
-  -- a node is walked from every feature as from its own
-  pub scan-from : (S : List ℕ) (N : List (Node K)) → WF S N → (i c k : ℕ) → Under N (length N) k (node i) →
+  -- a node of a known feature is walked from every feature as from its own
+  pub scan-known : (S : List ℕ) (N : List (Node K)) (i c k : ℕ) → at N i .feature < length S → Under N (length N) k (node i) →
       scan N k (drop k S) (node i) c ≡ scan N (at N i .feature) (drop (at N i .feature) S) (node i) c
-  scan-from S N w i c k o =
+  scan-known S N i c k l o =
       let e : k + (at N i .feature - k) ≡ at N i .feature = omega (arith, o .1) in
-      let l : at N i .feature < length S = w .fits i (o .0) .known in
       scan-jump S N i c k (at N i .feature - k) (omega arith) (rw e (o .0, le-refl _))
       ∙ ap (λ (j : ℕ). scan N j (drop j S) (node i) c) e
+
+  pub scan-from : (S : List ℕ) (N : List (Node K)) → WF S N → (i c k : ℕ) → Under N (length N) k (node i) →
+      scan N k (drop k S) (node i) c ≡ scan N (at N i .feature) (drop (at N i .feature) S) (node i) c
+  scan-from S N w i c k o = scan-known S N i c k (w .fits i (o .0) .known) o
 
   module _ (S : List ℕ) (N : List (Node K)) (i c : ℕ) (known : at N i .feature < length S) where
     abbrev own : ℕ

@@ -13,7 +13,7 @@ lower-requires : tie.Need-lower-requires
 lower-requires c κs = let p = (c .before .before .before .before .before .before) .pre in (p .0, p .1, omega arith)
 
 returns-2 : tie.Need-returns-2
-returns-2 c = λ z. denied ((c .before .lower) .result) ((c .if2) .taken) ((c .before .lower) .ensures) (z .lower)
+returns-2 c = λ z. denied ((c .before .lower) .result) ((c .if2) .taken) ((c .before .lower) .ensures) (record { lower = z .lower .lower })
 
 adds-ok-requires : tie.Need-adds-ok-requires
 adds-ok-requires c κs = let p = (c .before .before .before .before .before .before .before .before) .pre in (p .0, p .1, omega arith)
@@ -43,7 +43,7 @@ returns-5 c =
     (λ q.
     record {
       known = omega (arith, (c9 .if1), c12 .wide .ensures, c13 .record-word .ensures, c10 .wide2 .ensures, c11 .features-word .ensures);
-      lower = granted (c8 .lower .result) (c7 .if2 .left) (c8 .lower .ensures);
+      lower = record { lower = granted (c8 .lower .result) (c7 .if2 .left) (c8 .lower .ensures) .lower };
       adds = granted (c6 .adds-ok .result) (c .before .before .before .before .before .if3 .left) (c6 .adds-ok .ensures);
       differ = sure-not (c .before .before .before .if4 .left) (c .before .before .before .before .alike .ensures);
       padded = subst (λ (m : ℕ). Padded m (body (a .t .now) (a .i))) e q;

@@ -3,6 +3,9 @@ use Rattle.cost_sound.proofs.Ranging.{passes-no, passes-yes}
 use Rattle.cost_sound.specs.Paired.{Shaped}
 use Rattle.settings.proofs.Answers.{granted, denied, retell}
 use Rattle.table_checks.proofs.Framing.{framed}
+use Rattle.cost_sound.proofs.Walking.{formed, order-is}
+use native.Mathlib.Omega.{arith}
+use mathlib.Core.Path.{sym, _∙_}
 use borrow.Author.Needs.{needs}
 use Rattle.cost_sound.proofs.sound.Statement.{statement}
 use Rattle.cost_sound.proofs.sound.Tie as tie
@@ -25,26 +28,27 @@ returns-3 c = λ z. denied ((c .before .chains-ok) .result) ((c .if3) .taken) ((
 
 roots-ok-requires : tie.Need-roots-ok-requires
 roots-ok-requires c κs =
-    granted (c .before .before .before .before .before .header-ok .result) (c .before .before .before .before .if1 .left) (c .before .before .before .before .before .header-ok .ensures)
+    (granted (c .before .before .before .before .before .header-ok .result) (c .before .before .before .before .if1 .left) (c .before .before .before .before .before .header-ok .ensures), omega arith)
 
 returns-4 : tie.Need-returns-4
-returns-4 c = λ z. denied ((c .before .roots-ok) .result) ((c .if4) .taken) ((c .before .roots-ok) .ensures) (z .roots-ok)
+returns-4 c = λ z. denied ((c .before .roots-ok) .result) ((c .if4) .taken) ((c .before .roots-ok) .ensures) (record { rooted = z .roots-ok .rooted })
 
 order-ok-requires : tie.Need-order-ok-requires
 order-ok-requires c κs =
     let c6 = c .before .before .before .before .before .before in let c7 = c6 .before in (
-      record {
+      formed (record {
         header = granted (c7 .header-ok .result) (c6 .if1 .left) (c7 .header-ok .ensures);
         nodes-ok = granted (c .before .before .before .before .before .nodes-ok .result) (c .before .before .before .before .if2 .left)
             (c .before .before .before .before .before .nodes-ok .ensures);
         chained =
             granted (c .before .before .before .chains-ok .result) (c .before .before .if3 .left) (c .before .before .before .chains-ok .ensures);
-      },
+      }),
       granted (c .before .roots-ok .result) (c .if4 .left) (c .before .roots-ok .ensures),
+      omega arith,
     )
 
 returns-5 : tie.Need-returns-5
-returns-5 c = λ z. denied ((c .before .order-ok) .result) ((c .if5) .taken) ((c .before .order-ok) .ensures) (z .in-order)
+returns-5 c = λ z. denied ((c .before .order-ok) .result) ((c .if5) .taken) ((c .before .order-ok) .ensures) (sym (order-is _) ∙ z .in-order)
 
 pairs-ok-requires : tie.Need-pairs-ok-requires
 pairs-ok-requires c κs =
@@ -54,9 +58,8 @@ pairs-ok-requires c κs =
       nodes-ok = granted (c7 .nodes-ok .result) (c6 .if2 .left) (c7 .nodes-ok .ensures);
       chained = granted (c .before .before .before .before .before .chains-ok .result) (c .before .before .before .before .if3 .left)
           (c .before .before .before .before .before .chains-ok .ensures);
-      roots-ok =
-          granted (c .before .before .before .roots-ok .result) (c .before .before .if4 .left) (c .before .before .before .roots-ok .ensures);
-      in-order = granted (c .before .order-ok .result) (c .if5 .left) (c .before .order-ok .ensures);
+      roots-ok = record { rooted = granted (c .before .before .before .roots-ok .result) (c .before .before .if4 .left) (c .before .before .before .roots-ok .ensures) .rooted };
+      in-order = order-is _ ∙ granted (c .before .order-ok .result) (c .if5 .left) (c .before .order-ok .ensures);
     }
 
 returns-6 : tie.Need-returns-6
@@ -72,10 +75,8 @@ places-ok-requires c κs =
       header = granted (c11 .header-ok .result) (c10 .if1 .left) (c11 .header-ok .ensures);
       nodes-ok = granted (c9 .nodes-ok .result) (c8 .if2 .left) (c9 .nodes-ok .ensures);
       chained = granted (c7 .chains-ok .result) (c6 .if3 .left) (c7 .chains-ok .ensures);
-      roots-ok = granted (c .before .before .before .before .before .roots-ok .result) (c .before .before .before .before .if4 .left)
-          (c .before .before .before .before .before .roots-ok .ensures);
-      in-order =
-          granted (c .before .before .before .order-ok .result) (c .before .before .if5 .left) (c .before .before .before .order-ok .ensures);
+      roots-ok = record { rooted = granted (c .before .before .before .before .before .roots-ok .result) (c .before .before .before .before .if4 .left) (c .before .before .before .before .before .roots-ok .ensures) .rooted };
+      in-order = order-is _ ∙ granted (c .before .before .before .order-ok .result) (c .before .before .if5 .left) (c .before .before .before .order-ok .ensures);
     } in
     (s, passes-yes (c13 .args .t .now) (Pairs (c13 .args .t .now)) (c .before .pairs-ok .result) (c .if6 .left) (c .before .pairs-ok .ensures))
 
@@ -87,8 +88,8 @@ returns-7 c =
       header = granted (c12 .header-ok .result) (c11 .if1 .left) (c12 .header-ok .ensures);
       nodes-ok = granted (c10 .nodes-ok .result) (c9 .if2 .left) (c10 .nodes-ok .ensures);
       chained = granted (c8 .chains-ok .result) (c7 .if3 .left) (c8 .chains-ok .ensures);
-      roots-ok = granted (c6 .roots-ok .result) (c .before .before .before .before .before .if4 .left) (c6 .roots-ok .ensures);
-      in-order = granted (c .before .before .before .before .order-ok .result) (c .before .before .before .if5 .left) (c .before .before .before .before .order-ok .ensures);
+      roots-ok = record { rooted = granted (c6 .roots-ok .result) (c .before .before .before .before .before .if4 .left) (c6 .roots-ok .ensures) .rooted };
+      in-order = order-is _ ∙ granted (c .before .before .before .before .order-ok .result) (c .before .before .before .if5 .left) (c .before .before .before .before .order-ok .ensures);
     } in
     retell (c .places-ok .result)
     (λ q. record {

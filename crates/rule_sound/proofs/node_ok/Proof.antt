@@ -17,7 +17,7 @@ lower-requires : tie.Need-lower-requires
 lower-requires c κs = let p = (c .before .before .before .before .before .before) .pre in (p .0, p .1, omega arith)
 
 returns-2 : tie.Need-returns-2
-returns-2 c = λ z. denied ((c .before .lower) .result) ((c .if2) .taken) ((c .before .lower) .ensures) (z .lower)
+returns-2 c = λ z. denied ((c .before .lower) .result) ((c .if2) .taken) ((c .before .lower) .ensures) (record { lower = z .lower .lower })
 
 alike-requires : tie.Need-alike-requires
 alike-requires c κs = let p = (c .before .before .before .before .before .before .before .before) .pre in (p .0, p .1, omega arith)
@@ -57,7 +57,7 @@ returns-5 c =
     (λ q.
     record {
       known = omega (arith, (c9 .if1), c12 .wide .ensures, c13 .record-word .ensures, c10 .wide2 .ensures, c11 .features-word .ensures);
-      lower = granted (c8 .lower .result) (c7 .if2 .left) (c8 .lower .ensures);
+      lower = record { lower = granted (c8 .lower .result) (c7 .if2 .left) (c8 .lower .ensures) .lower };
       differ = sure-not (c .before .before .before .before .before .if3 .left) (c6 .alike .ensures);
       padded = record { zeros = λ j h g. granted (c .before .before .zeros .result) (c .before .if4 .left) (c .before .before .zeros .ensures) .zeros j (omega arith) (omega arith) };
       spare = q;

@@ -1,34 +1,31 @@
--- `rule_sound::visit` and `rule_sound::visit_list` meet their contracts: the branches passed are walked; a branch word is smaller than that of the node which has it. Assumes nothing.
-use Rattle.table_checks.specs.Walk.{scan-below}
-use Rattle.table_checks.proofs.Walking.{visits-end, visits-done, visits-close, visits-lost, Walk, walk-none, walk-more, walk-lost, visits-all, visits-none, says-branch}
-use Rattle.rule_words.specs.Table.{ruleTable}
-use Rattle.rule_words.proofs.Regular.{regular}
-use Rattle.rule_sound.proofs.Sitting.{ordered-wf}
-use Rattle.rule_sound.proofs.Walking.{sits-branch}
+-- `visit` and `visit_list` of `table_checks::following` meet their contracts: the branches passed are walked; a branch word is smaller than that of the node which has it. Assumes nothing.
+use Rattle.table_checks.specs.Walk.{scan-below, shapeArm}
+use Rattle.table_checks.proofs.Walking.{visits-end, visits-done, visits-close, visits-lost, Walk, walk-none, walk-more, walk-lost, visits-all, visits-none, sits-branch, says-branch}
 use native.Mathlib.Omega.{arith}
 use Prim.Native.Nat.{ℕ, _+_, _-_, _*_, _≤_, _<_}
 use mathlib.Core.Path.{_≡_, ap, _∙_}
 use borrow.Author.Needs.{needs}
 use borrow.Fn.Kinds.{In}
 use borrow.Fn.PlainCycle.{Measures, is, falls, and}
-use Rattle.rule_sound.proofs.visit.Reads as visit
-use Rattle.rule_sound.proofs.visit.Kinds as visit-kinds
-use Rattle.rule_sound.proofs.+visit+visit_list.Lts-visit as visit-lts
-use Rattle.rule_sound.proofs.visit_list.Reads as visit-list
-use Rattle.rule_sound.proofs.visit_list.Kinds as visit-list-kinds
-use Rattle.rule_sound.proofs.+visit+visit_list.Lts-visit_list as visit-list-lts
+use Rattle.table_checks.proofs.following.visit.Reads as visit
+use Rattle.table_checks.proofs.following.visit.Kinds as visit-kinds
+use Rattle.table_checks.proofs.following.+visit+visit_list.Lts-visit as visit-lts
+use Rattle.table_checks.proofs.following.visit_list.Reads as visit-list
+use Rattle.table_checks.proofs.following.visit_list.Kinds as visit-list-kinds
+use Rattle.table_checks.proofs.following.+visit+visit_list.Lts-visit_list as visit-list-lts
+use Rattle.table_checks.proofs.following.way_word.Reads as way-word-reads
 use Rattle.table_words.proofs.size_word.Reads as size-word-reads
 use Rattle.table_words.proofs.record_word.Reads as record-word-reads
 use Rattle.table_words.proofs.wide.Reads as wide-reads
-use Rattle.rule_sound.proofs.+visit+visit_list.{statement}
-use Rattle.rule_sound.proofs.+visit+visit_list.Tie.{close}
+use Rattle.table_checks.proofs.following.+visit+visit_list.{statement}
+use Rattle.table_checks.proofs.following.+visit+visit_list.Tie.{close}
 use Rattle.promises.specs.Words.{feature, size, count, body}
 
 abbrev μ-visit : Measures 1 visit-kinds.ps ℕ
-μ-visit κs a = 2 * a .1 .0 + 1
+μ-visit κs a = 2 * a .1 .1 .0 + 1
 
 abbrev μ-visit-list : Measures 1 visit-list-kinds.ps ℕ
-μ-visit-list κs a = 2 * (65536 + a .1 .0)
+μ-visit-list κs a = 2 * (a .1 .0 + a .1 .1 .0)
 
 abbrev visit-at : ℕ → In 1 visit-kinds.ps
 visit-at t = and 1 visit-kinds.ps (is 1 visit-kinds.ps μ-visit t) visit.Pre
@@ -48,15 +45,25 @@ abbrev visit-claims : ℕ → visit-lts.Claims
 visit-claims t = (wide-reads.Asked, wide-reads.Learnt, visit-list-below t, visit-list.Post)
 
 abbrev visit-list-claims : ℕ → visit-list-lts.Claims
-visit-list-claims t = (record-word-reads.Asked, record-word-reads.Learnt, wide-reads.Asked, wide-reads.Learnt, size-word-reads.Asked, size-word-reads.Learnt, visit-below t, visit.Post)
+visit-list-claims t = (
+  record-word-reads.Asked,
+  record-word-reads.Learnt,
+  wide-reads.Asked,
+  wide-reads.Learnt,
+  size-word-reads.Asked,
+  size-word-reads.Learnt,
+  way-word-reads.Asked,
+  way-word-reads.Learnt,
+  visit-below t,
+  visit.Post,
+)
 
 visit-returns : (t : ℕ) → visit-lts.Need-returns (visit-claims t) (visit-at t) visit.Post
-visit-returns t c = visits-end regular _ ((c .if1) .taken) ((c .before .before) .pre .1 .2)
+visit-returns t c = visits-end _ _ ((c .if1) .taken) ((c .before .before) .pre .1 .2)
 
 visit-returns-2 : (t : ℕ) → visit-lts.Need-returns-2 (visit-claims t) (visit-at t) visit.Post
 visit-returns-2 t c =
-    let p = c .before .before .before .before .pre .1 in visits-done regular _ _ _ (c .before .wide .result) (ordered-wf (p .0))
-    (omega (arith, p .0 .header .within, p .0 .header .most)) (omega arith) (omega (arith, p .1 .below)) (c .if2 .taken) (p .2)
+    let p = c .before .before .before .before .pre .1 in visits-done _ _ (p .0) _ _ (c .before .wide .result) (omega arith) (omega (arith, p .1 .below)) (c .if2 .taken) (p .2)
 
 visit-visit-list-requires : (t : ℕ) → visit-lts.Need-visit-list-requires (visit-claims t) (visit-at t) visit.Post
 visit-visit-list-requires t c κs = let p = (c .before .before .before .before) .pre .1 in (omega arith, (p .0, omega (arith, p .1 .below), p .2))
@@ -67,26 +74,26 @@ visit-add-result t c = let p = (c .before .before .before .before .before .befor
 visit-returns-3 : (t : ℕ) → visit-lts.Need-returns-3 (visit-claims t) (visit-at t) visit.Post
 visit-returns-3 t c =
     let c6 = c .before .before .before .before .before .before in
-    let p = c6 .pre .1 in visits-close regular _ _ _ (c .before .before .before .wide .result) (ordered-wf (p .0)) (omega (arith, p .0 .header .within, p .0 .header .most))
+    let p = c6 .pre .1 in visits-close _ _ (p .0) _ _ (c .before .before .before .wide .result)
     (omega arith) (omega (arith, p .1 .below)) (omega arith) (c .before .visit-list .ensures) (c .if3 .taken)
 
 visit-returns-4 : (t : ℕ) → visit-lts.Need-returns-4 (visit-claims t) (visit-at t) visit.Post
 visit-returns-4 t c =
     let c6 = c .before .before .before .before .before .before in
-    let p = c6 .pre .1 in visits-lost regular _ _ _ (c .before .before .before .wide .result) (ordered-wf (p .0)) (omega (arith, p .0 .header .within, p .0 .header .most))
+    let p = c6 .pre .1 in visits-lost _ _ (p .0) _ _ (c .before .before .before .wide .result)
     (omega arith) (omega (arith, p .1 .below)) (omega arith) (c .before .visit-list .ensures) (c .if3 .left)
 
 abbrev visit-list-Inv-loop : visit-list-lts.InvT-loop
-visit-list-Inv-loop t i c s d₀ v₀ d v = (s ≡ size t (feature t i)) × (v ≤ s) × Walk (scan-below ruleTable t i) (ruleTable .arm (body t i)) (count t) c v d
+visit-list-Inv-loop t first i c s d₀ v₀ d v = (s ≡ size t (feature t i)) × (v ≤ s) × Walk (scan-below first t i) (shapeArm first (body t i)) (count t) c v d
 
 abbrev visit-list-μ-loop : visit-list-lts.MeasureT-loop
-visit-list-μ-loop t i c s d₀ v₀ d v = s - v
+visit-list-μ-loop t first i c s d₀ v₀ d v = s - v
 
 visit-list-record-word-requires : (t : ℕ) → visit-list-lts.Need-record-word-requires (visit-list-claims t) (visit-list-at t) visit-list.Post visit-list-Inv-loop visit-list-μ-loop
 visit-list-record-word-requires t c κs = let p = (c .before) .pre .1 in let h = p .0 .header in (omega (arith, h .room, h .within), omega (arith, h .most, h .within), omega arith)
 
 visit-list-size-word-requires : (t : ℕ) → visit-list-lts.Need-size-word-requires (visit-list-claims t) (visit-list-at t) visit-list.Post visit-list-Inv-loop visit-list-μ-loop
-visit-list-size-word-requires t c κs = let p = (c .before .before .before) .pre .1 in let k = p .0 .nodes-ok .each _ (p .1) .known in omega (arith, p .0 .header .few, p .0 .header .room)
+visit-list-size-word-requires t c κs = let p = (c .before .before .before) .pre .1 in let k = p .0 .known _ (p .1) in omega (arith, p .0 .header .few, p .0 .header .room)
 
 visit-list-loop-holds : (t : ℕ) → visit-list-lts.Need-loop-holds (visit-list-claims t) (visit-list-at t) visit-list.Post visit-list-Inv-loop visit-list-μ-loop
 visit-list-loop-holds t c =
@@ -97,21 +104,21 @@ visit-list-loop-holds t c =
       walk-none _ _ _ _ (a .pre .1 .2),
     )
 
-visit-list-record-word-requires-2 : (t : ℕ) → visit-list-lts.Need-record-word-requires-2 (visit-list-claims t) (visit-list-at t) visit-list.Post visit-list-Inv-loop visit-list-μ-loop
-visit-list-record-word-requires-2 t c κs = let p = (c .before .before .before .before .before .before .before) .pre .1 in let h = p .0 .header in let k = p .0 .nodes-ok .each _ (p .1) .known in
+visit-list-way-word-requires : (t : ℕ) → visit-list-lts.Need-way-word-requires (visit-list-claims t) (visit-list-at t) visit-list.Post visit-list-Inv-loop visit-list-μ-loop
+visit-list-way-word-requires t c κs = let p = (c .before .before .before .before .before .before .before) .pre .1 in let h = p .0 .header in let k = p .0 .known _ (p .1) in
     (omega (arith, h .room, h .within, h .fit .large _ k .1), omega (arith, h .most, h .within), omega (arith, h .fit .large _ k .1))
 
 visit-list-visit-requires : (t : ℕ) → visit-list-lts.Need-visit-requires (visit-list-claims t) (visit-list-at t) visit-list.Post visit-list-Inv-loop visit-list-μ-loop
 visit-list-visit-requires t c κs = let p = (c .before .before .before .before .before .before .before .before) .pre .1 in let l = (c .before .before .loop) in
-    let s = sits-branch (p .0) _ (l .v) (p .1) (omega arith) ((c .record-word2) .ensures) in
+    let s = sits-branch _ _ (p .0) _ (l .v) (p .1) (omega arith) ((c .way-word) .ensures) in
     (omega (arith, s .1), (p .0, s .0, l .inv .2 .top))
 
 visit-list-returns : (t : ℕ) → visit-list-lts.Need-returns (visit-list-claims t) (visit-list-at t) visit-list.Post visit-list-Inv-loop visit-list-μ-loop
 visit-list-returns t c =
     let c10 = c .before .before .before .before .before .before .before .before .before .before in
     let p = c10 .pre .1 in let l = c .before .before .before .before .loop in
-    visits-none (walk-lost (c .before .visit .result) (l .inv .2) (says-branch regular _ (ordered-wf (p .0)) _ (l .v) (p .1) (omega arith)
-    (c .before .before .record-word2 .ensures) (c .before .visit .ensures)) (omega (arith, p .0 .header .within, p .0 .header .most)) _ (omega arith) (c .if1 .taken))
+    visits-none (walk-lost (c .before .visit .result) (l .inv .2) (says-branch _ _ (p .0) _ (l .v) (p .1) (omega arith)
+    (c .before .before .way-word .ensures) (c .before .visit .ensures)) (omega (arith, p .0 .header .within, p .0 .header .most)) _ (omega arith) (c .if1 .taken))
 
 visit-list-loop-again : (t : ℕ) → visit-list-lts.Need-loop-again (visit-list-claims t) (visit-list-at t) visit-list.Post visit-list-Inv-loop visit-list-μ-loop
 visit-list-loop-again t c =
@@ -119,8 +126,8 @@ visit-list-loop-again t c =
     let p = c10 .pre .1 in let l = c .before .before .before .before .loop in (
       l .inv .0,
       omega arith,
-      walk-more (c .before .visit .result) (l .inv .2) (says-branch regular _ (ordered-wf (p .0)) _ (l .v) (p .1) (omega arith)
-          (c .before .before .record-word2 .ensures) (c .before .visit .ensures)) (omega (arith, p .0 .header .within, p .0 .header .most)) (omega arith),
+      walk-more (c .before .visit .result) (l .inv .2) (says-branch _ _ (p .0) _ (l .v) (p .1) (omega arith)
+          (c .before .before .way-word .ensures) (c .before .visit .ensures)) (omega (arith, p .0 .header .within, p .0 .header .most)) (omega arith),
     )
 
 visit-list-returns-2 : (t : ℕ) → visit-list-lts.Need-returns-2 (visit-list-claims t) (visit-list-at t) visit-list.Post visit-list-Inv-loop visit-list-μ-loop
@@ -147,8 +154,7 @@ pub +visit+visit-list-spec : {M : Type 1} → statement M
     (visit-list-size-word-requires t)
     (λ c κs. search needs)
     (visit-list-loop-holds t)
-    (λ c. search needs)
-    (visit-list-record-word-requires-2 t)
+    (visit-list-way-word-requires t)
     (visit-list-visit-requires t)
     (visit-list-returns t)
     (λ c. search needs)

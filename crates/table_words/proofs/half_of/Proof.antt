@@ -1,8 +1,8 @@
--- `cost_words::half_of` meets its contract: an even value has the low half. Assumes nothing.
-use Rattle.cost_words.proofs.Packing.{half-even, half-odd}
+-- `table_words::half_of` meets its contract: an even value has the low half. Assumes nothing.
+use Rattle.table_words.proofs.Halves.{half-even, half-odd}
 use mathlib.Core.Path.{sym}
-use Rattle.cost_words.proofs.half_of.Statement.{statement}
-use Rattle.cost_words.proofs.half_of.Tie as tie
+use Rattle.table_words.proofs.half_of.Statement.{statement}
+use Rattle.table_words.proofs.half_of.Tie as tie
 
 returns : tie.Need-returns
 returns c = let a = c .before .args in sym (half-even (a .x) (a .v) ((c .if1) .taken))

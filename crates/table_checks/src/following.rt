@@ -1,0 +1,121 @@
+// The part of the test that follows branches, for every kind: where they may go, and the walk from the roots. `first` tells the kind: branch words
+// below it end, the others say nodes.
+use crate::sits;
+use table_words::NODES;
+use table_words::count_word;
+use table_words::half_of;
+use table_words::head_word;
+use table_words::record_word;
+use table_words::size_word;
+use table_words::wide;
+ghost use mathlib.Core.Path.{_≡_};
+ghost use Prim.Native.Nat.{_+_, _*_, _≤_, _<_};
+ghost use lib.ListN.{length};
+ghost use Rattle.settings.specs.Tells.{Tells};
+ghost use Rattle.table_checks.specs.Walk.{kindOf, wayOf, Lower, Rooted, Formed, InOrder, Visits, VisitsAll};
+ghost use Rattle.promises.specs.Words.{features, count, feature, body};
+ghost use Rattle.promises.specs.Sound.{Header, Sits};
+
+// Where words from 1 on say nodes, two branches lie in a word.
+const HALVES: u32 = 1;
+
+// A walk that met a node out of its turn; more than any count of nodes.
+const LOST: usize = 8192;
+
+// The word of branch v of node i.
+fn way_word(t: &[u32], first: u32, i: usize, v: usize) -> u32
+    requires { ⌜ (8192 + 16 * i + 16 ≤ length (now t)) × (i < 8192) × (v < 8) ⌝ }
+    ensures { λ r. ⌜ r ≡ wayOf first (body (now (t .entry)) i) v ⌝ }
+{
+    if first == HALVES {
+        return half_of(record_word(t, i, 1 + v / 2), v);
+    }
+    record_word(t, i, 1 + v)
+}
+
+// Whether each branch of node i ends or goes to an earlier node of a higher feature.
+pub fn lower(t: &[u32], first: u32, i: usize) -> bool
+    requires { ⌜ (Header (kindOf first) (now t)) × (i < count (now t)) × (feature (now t) i < features (now t)) ⌝ }
+    ensures { λ r. ⌜ Tells r (Lower first (now (t .entry)) i) ⌝ }
+{
+    let k = wide(record_word(t, i, 0));
+    let s = wide(size_word(t, k));
+    let mut v: usize = 0;
+    while v < s {
+        if !sits(t, first, i, k + 1, way_word(t, first, i, v)) {
+            return false;
+        }
+        v += 1;
+    }
+    true
+}
+
+// Whether each of the first n roots ends or goes to a node in use.
+pub fn roots_ok(t: &[u32], first: u32, n: usize) -> bool
+    requires { ⌜ (Header (kindOf first) (now t)) × (n ≤ 32) ⌝ }
+    ensures { λ r. ⌜ Tells r (Rooted first n (now (t .entry))) ⌝ }
+{
+    let m = wide(count_word(t));
+    let mut p: usize = 0;
+    while p < n {
+        if !sits(t, first, m, 0, head_word(t, 32 + p)) {
+            return false;
+        }
+        p += 1;
+    }
+    true
+}
+
+// The walk from the branch word b, the nodes below c done: how many are done after it, or 8192 where one is not met in its turn.
+// It calls itself over `visit_list`, each time at a higher feature: at most as deep as there are features.
+fn visit(t: &[u32], first: u32, b: u32, c: usize) -> usize
+    requires { ⌜ (Formed first (now t)) × (Sits first (now t) (count (now t)) 0 b) × (c ≤ count (now t)) ⌝ }
+    ensures { λ r. ⌜ Visits first (now (t .entry)) b c r ⌝ }
+{
+    if b < first {
+        return c;
+    }
+    let i = wide(b - first);
+    if i < c {
+        return c;
+    }
+    if visit_list(t, first, i, c) == i {
+        return i + 1;
+    }
+    LOST
+}
+
+// The same over the branches of node i in turn. A lost walk stops at once, so each node's branches are walked once.
+fn visit_list(t: &[u32], first: u32, i: usize, c: usize) -> usize
+    requires { ⌜ (Formed first (now t)) × (i < count (now t)) × (c ≤ count (now t)) ⌝ }
+    ensures { λ r. ⌜ VisitsAll first (now (t .entry)) i c r ⌝ }
+{
+    let s = wide(size_word(t, wide(record_word(t, i, 0))));
+    let mut d = c;
+    let mut v: usize = 0;
+    while v < s {
+        d = visit(t, first, way_word(t, first, i, v), d);
+        if NODES < d {
+            return LOST;
+        }
+        v += 1;
+    }
+    d
+}
+
+// Whether the walk from the first n roots in turn meets every node, each in its turn.
+pub fn order_ok(t: &[u32], first: u32, n: usize) -> bool
+    requires { ⌜ (Formed first (now t)) × (Rooted first n (now t)) × (n ≤ 32) ⌝ }
+    ensures { λ r. ⌜ Tells r (InOrder first n (now (t .entry))) ⌝ }
+{
+    let mut d: usize = 0;
+    let mut p: usize = 0;
+    while p < n {
+        d = visit(t, first, head_word(t, 32 + p), d);
+        if NODES < d {
+            return false;
+        }
+        p += 1;
+    }
+    d == wide(count_word(t))
+}
