@@ -37,4 +37,4 @@ module _ {S : List ℕ} {cap : ℕ} {w w′ : List ℕ} (o : Openable S cap (len
           ∙ sym (ap (rootOf (ends 16)) (sym q) ∙ base-shows (ends 16) (p - 16) ∙ ap (λ (b : Branch costs). wordFor (b .adds)) (getD-tab (λ q. blank) 16 (p - 16) blank (omega arith)))
 
   pub opened : Opens S cap w w′ Taken
-  opened = C.opened costTable o n roots (λ s. fit-zero costMost)
+  opened = C.opened costTable o n (λ j h. n .zero (20 + j) (omega (arith, o .list .few)) (omega arith)) roots (λ s. fit-zero costMost) tt

@@ -34,7 +34,7 @@ use Rattle.cost_words.proofs.Showing.{Small, body-says, root-shows, base-shows,
 use Rattle.table_checks.proofs.Pictures as C
 use Rattle.table_checks.proofs.Pictures.{Tested}
 use Rattle.cost_words.proofs.Regular.{regular}
-use Rattle.cost_sound.proofs.Reading.{sound-shaped, shaped-tested, sizes-pos, ranged-narrow}
+use Rattle.cost_sound.proofs.Reading.{sound-shaped, shaped-tested, tested-header, sizes-pos, ranged-narrow}
 use Rattle.promises.specs.Integers.{Fit, bias, int}
 use Rattle.promises.specs.Range.{Within, addMost, costMost}
 use Rattle.promises.specs.Words.{head, capacity, size, count, sizes, feature, body}
@@ -56,7 +56,7 @@ tested-sound : {w : List ℕ} → Tested costTable w → Ranged w → Sound w
 unfolding roots
 tested-sound {w} t r =
     record {
-      header = t .header;
+      header = tested-header t;
       nodes-ok = record {
         each = λ i h. let n = t .nodes-ok i h in record {
           known = n .known;
@@ -69,7 +69,7 @@ tested-sound {w} t r =
       chained = t .chained;
       roots-ok = record { rooted = t .roots-ok };
       in-order = t .in-order;
-      paired = spared-pairs w (sizes-pos (t .header)) (C.tested-wf regular t) (ranged-narrow t r) (t .spared);
+      paired = spared-pairs w (sizes-pos (tested-header t)) (C.tested-wf regular t) (ranged-narrow t r) (t .spared);
       ranged = r;
     }
   where
@@ -83,7 +83,7 @@ tested-sound {w} t r =
         let e : length (at (nodes w) i .branches) ≡ size w (feature w i) =
         wf .fits i l .full ∙ ap (λ (x : Node costs). getD (sizes w) (x .feature) 0) (at-nodes w i h) ∙ at-sizes w (feature w i) (t .nodes-ok i h .known) in
         subst (λ (b : Branch costs). Fit addMost (b .adds)) (branch-at w i v h hv)
-        (adds-fit (sizes w) (nodes w) (sizes-pos (t .header)) wf (ranged-narrow t r) i v l (omega arith))
+        (adds-fit (sizes w) (nodes w) (sizes-pos (tested-header t)) wf (ranged-narrow t r) i v l (omega arith))
 
 -- ---- THEOREMS: a sound table's roots and nodes are those of its costs in turn, its words their picture
 pub sound-tidy : {w : List ℕ} → Sound w → Tidy (sizes w) (roots w) (nodes w)
@@ -99,7 +99,7 @@ sound-pictures s = C.tested-pictures regular (sound-tested s)
 
 pub sound-proper : {w : List ℕ} → Sound w → Proper (capacity w) (sizes w) (costsOf w)
 sound-proper {w} s =
-    C.tested-proper regular (sound-tested s) (λ p h t x. subst (λ (g : Cost). Fit costMost (g t .off)) (sym (at-costs w p h)) (s .ranged .ranged p h .fits t x))
+    C.tested-proper regular (sound-tested s) (λ p h t x. subst (λ (g : Cost). Fit costMost (g t .off)) (sym (at-costs w p h)) (s .ranged .ranged p h .fits t x)) tt
 
 pub sound-is : {w : List ℕ} → Sound w → IsTable w
 sound-is {w} s = record { cap = capacity w; sizes = sizes w; places = costsOf w; proper = sound-proper s; pictures = sound-pictures s }

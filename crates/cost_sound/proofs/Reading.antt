@@ -1,5 +1,5 @@
 -- The words of a cost table read: what is tested of every kind, and how narrow the nodes of costs in range are. Assumes nothing.
-use mathlib.Core.Path.{sym, subst}
+use mathlib.Core.Path.{refl, sym, subst}
 use mathlib.Core.List.{List}
 use Prim.Native.Nat.{ℕ, _<_}
 use native.Mathlib.Omega.{arith}
@@ -14,6 +14,7 @@ use Rattle.cost_words.specs.Table.{costTable}
 use Rattle.cost_words.proofs.Regular.{regular}
 use Rattle.cost_words.proofs.Pairing.{pairs-spared}
 use Rattle.cost_words.proofs.Reading.{length-costs, at-costs}
+use Rattle.table_checks.proofs.Framing.{header-of, header-from}
 use Rattle.table_checks.proofs.Pictures.{Tested, tested-table}
 use Rattle.table_checks.proofs.Sitting.{nodes-wf}
 use Rattle.theory.specs.WellFormed.{WF}
@@ -38,13 +39,16 @@ pub shaped-tested : {w : List ℕ} → Shaped w → Pairs w → Tested costTable
 unfolding roots
 shaped-tested {w} s q =
     record {
-      header = s .header;
+      header = header-of costTable (λ j h. refl) (s .header);
       nodes-ok = node-fits (record { header = s .header; nodes-ok = s .nodes-ok; chained = s .chained });
       spared = pairs-spared w q;
       chained = s .chained;
       roots-ok = s .roots-ok .rooted;
       in-order = s .in-order;
     }
+
+pub tested-header : {w : List ℕ} → Tested costTable w → Header 2 w
+tested-header t = header-from costTable (λ j h. refl) (t .header)
 
 -- costs in range: the sums below every node lie within ±2,000,000,000 of each other
 pub ranged-narrow : {w : List ℕ} → Tested costTable w → Ranged w → Narrow addMost (sizes w) (nodes w)

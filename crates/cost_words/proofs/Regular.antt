@@ -55,5 +55,6 @@ regular =
           ap₂ branch (e p (omega arith)) (subst (λ (j : ℕ). head w′ j ≡ head w j) q (e (16 + p) (omega arith)));
       tops = λ w p. refl;
       roots = roots-shown;
+      shared = λ cap S gs hs l e x. x;
       said = λ w. refl;
     }

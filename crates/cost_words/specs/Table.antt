@@ -43,6 +43,8 @@ costTable =
       rootOf = rootOf;
       rootAt = rootAt;
       spareOf = pairWord;
+      share = λ j. 0;
+      Shared = λ cap S gs. Unit {0};
       InRange = λ x. Fit costMost (x .off);
       said = costsOf;
     }

@@ -20,4 +20,6 @@ module _ {S : List ℕ} {cap : ℕ} {w w′ : List ℕ} (o : Openable S cap (len
   root p h = ⊎-elim (λ l. n .zero (32 + p) (omega (arith, o .list .few)) (omega arith)) (λ l. n .bases (32 + p) (omega arith) (omega arith)) (split p 16)
 
   pub opened : Opens S cap w w′ Taken
-  opened = C.opened ruleTable o n (λ p h. root p h ∙ sym (ap encode (getD-tab (λ q. blank) 32 p blank h))) (λ s. let z : 0 < 65536 = omega arith in z)
+  opened =
+      C.opened ruleTable o n (λ j h. n .zero (20 + j) (omega (arith, o .list .few)) (omega arith))
+      (λ p h. root p h ∙ sym (ap encode (getD-tab (λ q. blank) 32 p blank h))) (λ s. let z : 0 < 65536 = omega arith in z) tt

@@ -1,5 +1,5 @@
 -- A sound table is the picture of its rules, and every picture is a sound table. Assumes nothing.
-use mathlib.Core.Path.{_≡_, ap, _∙_}
+use mathlib.Core.Path.{_≡_, refl, ap, _∙_}
 use mathlib.Core.List.{List, []}
 use Prim.Native.Nat.{ℕ, _+_, _-_, _*_, _<_}
 use native.Mathlib.Omega.{arith}
@@ -15,6 +15,7 @@ use Rattle.rule_words.specs.Table.{ruleTable}
 use Rattle.rule_words.specs.Picture.{Pictures, Proper, IsTable}
 use Rattle.rule_words.proofs.Regular.{regular}
 use Rattle.rule_words.proofs.Bounding.{decode-encode, rules-small}
+use Rattle.table_checks.proofs.Framing.{header-of, header-from}
 use Rattle.table_checks.proofs.Pictures as C
 use Rattle.table_checks.proofs.Pictures.{Tested}
 use Rattle.rule_sound.specs.Walk.{Ordered}
@@ -31,7 +32,7 @@ pub sound-tested : {w : List ℕ} → Sound w → Tested ruleTable w
 unfolding word roots
 sound-tested s =
     record {
-      header = s .header;
+      header = header-of ruleTable (λ j h. refl) (s .header);
       nodes-ok = node-fits (ordered s);
       spared = λ i j h g. s .nodes-ok .each i h .spare .zeros (8192 + 16 * i + (14 + j)) (omega arith) (omega arith);
       chained = s .chained;
@@ -61,7 +62,7 @@ tested-sound : {w : List ℕ} → Tested ruleTable w → Sound w
 unfolding roots
 tested-sound {w} t =
     record {
-      header = t .header;
+      header = header-from ruleTable (λ j h. refl) (t .header);
       nodes-ok = record {
         each = λ i h. let n = t .nodes-ok i h in record {
           known = n .known;
@@ -89,7 +90,7 @@ pub sound-pictures : {w : List ℕ} → Sound w → Pictures (capacity w) (sizes
 sound-pictures s = C.tested-pictures regular (sound-tested s)
 
 pub sound-proper : {w : List ℕ} → Sound w → Proper (capacity w) (sizes w) (rulesOf w)
-sound-proper {w} s = C.tested-proper regular (sound-tested s) (λ p h t x. rules-small w p h t)
+sound-proper {w} s = C.tested-proper regular (sound-tested s) (λ p h t x. rules-small w p h t) tt
 
 pub sound-is : {w : List ℕ} → Sound w → IsTable w
 sound-is {w} s = record { cap = capacity w; sizes = sizes w; places = rulesOf w; proper = sound-proper s; pictures = sound-pictures s }

@@ -35,5 +35,6 @@ regular =
       places = λ w w′ e p h. ap decode (e p h);
       tops = λ w p. refl;
       roots = λ w p h. sym (ap encode (at-roots ruleTable w p h) ∙ encode-decode (root w p));
+      shared = λ cap S gs hs l e x. x;
       said = λ w. refl;
     }

@@ -27,6 +27,8 @@ ruleTable =
       rootOf = λ R p. encode (getD R p blank);
       rootAt = λ w p. decode (ruleRoot w p);
       spareOf = λ S N i j. 0;
+      share = λ j. 0;
+      Shared = λ cap S gs. Unit {0};
       InRange = λ x. x .end < 65536;
       said = rulesOf;
     }

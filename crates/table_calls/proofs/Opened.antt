@@ -72,9 +72,9 @@ module _ {K : Kind} where
       ∙ ap (λ (l : List (Branch K)). let t : List (Branch K) × List (Node K) = (l, []) in t) (sym (tab-snoc (λ p. blank) n))
 
 module _ {K : Kind} (T : Table K) {b : ℕ} {S : List ℕ} {cap : ℕ} {w w′ : List ℕ} (o : Openable S cap (length w)) (n : Named (T .number) b S cap w w′) where
-  pub fresh-pictures : ((p : ℕ) → p < 32 → getD w′ (32 + p) 0 ≡ T .rootOf (ends (T .places)) p) → Pictures T cap S (fresh (T .places)) w′
+  pub fresh-pictures : ((j : ℕ) → j < 2 → getD w′ (20 + j) 0 ≡ T .share j) → ((p : ℕ) → p < 32 → getD w′ (32 + p) 0 ≡ T .rootOf (ends (T .places)) p) → Pictures T cap S (fresh (T .places)) w′
   unfolding head word
-  fresh-pictures roots = subst (λ (q : List (Branch K) × List (Node K)). Shows T cap S (q .0) (q .1) w′) (sym (zeros-built S (o .list) (T .places))) (shown roots)
+  fresh-pictures shares roots = subst (λ (q : List (Branch K) × List (Node K)). Shows T cap S (q .0) (q .1) w′) (sym (zeros-built S (o .list) (T .places))) shown
     where
       sizes : (k : ℕ) → k < 16 → getD w′ (3 + k) 0 ≡ getD S k 0
       sizes k h = ⊎-elim
@@ -82,8 +82,8 @@ module _ {K : Kind} (T : Table K) {b : ℕ} {S : List ℕ} {cap : ℕ} {w w′ :
           (λ l. n .zero (3 + k) (omega arith) (omega arith) ∙ sym (List·getD-eq-default S 0 l))
           (split k (length S))
 
-      shown : ((p : ℕ) → p < 32 → getD w′ (32 + p) 0 ≡ T .rootOf (ends (T .places)) p) → Shows T cap S (ends (T .places)) [] w′
-      shown roots =
+      shown : Shows T cap S (ends (T .places)) [] w′
+      shown =
           let l = o .list .few in
           let c = o .some in
           record {
@@ -93,7 +93,8 @@ module _ {K : Kind} (T : Table K) {b : ℕ} {S : List ℕ} {cap : ℕ} {w w′ :
             many = n .features;
             sizes-are = λ k h. sizes k h;
             used = n .zero 19 (omega arith) (omega arith);
-            shares = record { zeros = λ j h g. n .zero j (omega arith) (omega arith) };
+            shares = shares;
+            unused = record { zeros = λ j h g. n .zero j (omega arith) (omega arith) };
             roots-are = roots;
             middle = record { zeros = λ j h g. n .clean j h (omega arith) };
             heads = λ h l. n .clean (4096 + h) (omega arith) (omega arith) ∙ sym (last-none (nodeHash T []) h);
@@ -104,8 +105,8 @@ module _ {K : Kind} (T : Table K) {b : ℕ} {S : List ℕ} {cap : ℕ} {w w′ :
             clean = record { zeros = λ j h g. n .clean j (omega arith) g };
           }
 
-  pub fresh-proper : ((s : List ℕ) → T .InRange (zero-fun s)) → Proper T cap S (fresh (T .places))
-  fresh-proper range =
+  pub fresh-proper : ((s : List ℕ) → T .InRange (zero-fun s)) → T .Shared cap S (fresh (T .places)) → Proper T cap S (fresh (T .places))
+  fresh-proper range shared =
       record {
         some = o .some;
         most = o .most;
@@ -113,12 +114,14 @@ module _ {K : Kind} (T : Table K) {b : ℕ} {S : List ℕ} {cap : ℕ} {w w′ :
         places = length-tab (λ p. zero-fun) (T .places);
         range = λ p h s v. subst (λ (g : Fun K). T .InRange (g s)) (sym (getD-tab (λ q. zero-fun) (T .places) p zero-fun h)) (range s);
         fits = omega (arith, ap (λ (q : List (Branch K) × List (Node K)). length (q .1)) (zeros-built S (o .list) (T .places)), o .some);
+        shared = shared;
       }
 
   -- the promise met
-  pub opened : ((p : ℕ) → p < 32 → getD w′ (32 + p) 0 ≡ T .rootOf (ends (T .places)) p) → ((s : List ℕ) → T .InRange (zero-fun s)) → Opens T S cap w w′ Taken
-  opened roots range =
-      record { ends = pass (λ q. q o) refl; long = n .long; proper = λ e. fresh-proper range; pictures = λ e. fresh-pictures roots; past = λ e. n .past; refused = λ x. not-refused }
+  pub opened : ((j : ℕ) → j < 2 → getD w′ (20 + j) 0 ≡ T .share j) → ((p : ℕ) → p < 32 → getD w′ (32 + p) 0 ≡ T .rootOf (ends (T .places)) p)
+      → ((s : List ℕ) → T .InRange (zero-fun s)) → T .Shared cap S (fresh (T .places)) → Opens T S cap w w′ Taken
+  opened shares roots range shared =
+      record { ends = pass (λ q. q o) refl; long = n .long; proper = λ e. fresh-proper range shared; pictures = λ e. fresh-pictures shares roots; past = λ e. n .past; refused = λ x. not-refused }
 
 pub not-opened : {K : Kind} {T : Table K} {S : List ℕ} {cap : ℕ} {w : List ℕ} → (Openable S cap (length w) → ⊥) → Opens T S cap w w (Refused BadOpening)
 not-opened h = record { ends = stop h; long = refl; proper = not-taken; pictures = not-taken; past = not-taken; refused = λ x e. refl }

@@ -60,7 +60,7 @@ module _ {K : Kind} {T : Table K} (L : Regular T) where
     cap-same = kept-capacity w t kept
 
     pub sizes-same : sizes t ≡ sizes w
-    sizes-same = kept-sizes w t kept (s .header .few)
+    sizes-same = kept-sizes w t kept (s .header .front .few)
 
     ext : Ext (nodes T w) (nodes T t)
     ext = grown-ext (lawful T) w t (built (layoutOf T) w 0 g .1) (tested-holds L s) (r .grown) (built-ext (lawful T) w 0 g)
@@ -78,7 +78,7 @@ module _ {K : Kind} {T : Table K} (L : Regular T) where
     clean-kept = record {
       zeros = λ j h l. ⊎-elim
           (r .grown .well .laid .laid .clean j h)
-          (λ f. kept .past j (omega (arith, cap-same)) ∙ s .header .clean .zeros j (omega (arith, cap-same, s .header .within)) (omega (arith, cap-same)))
+          (λ f. kept .past j (omega (arith, cap-same)) ∙ s .header .clean .zeros j (omega (arith, cap-same, s .header .front .within)) (omega (arith, cap-same)))
           (split j (8192 + 16 * capacity t));
     }
 
@@ -87,14 +87,15 @@ module _ {K : Kind} {T : Table K} (L : Regular T) where
     built-untidy =
         let h = s .header in
         record {
-          room = omega (arith, kept .long, cap-same, h .room);
-          some = omega (arith, cap-same, h .some);
-          most = omega (arith, cap-same, h .most);
-          kind-is = kept .header 0 (omega arith) (omega arith) ∙ h .kind;
+          room = omega (arith, kept .long, cap-same, h .front .room);
+          some = omega (arith, cap-same, h .front .some);
+          most = omega (arith, cap-same, h .front .most);
+          kind-is = kept .header 0 (omega arith) (omega arith) ∙ h .front .kind;
           list = subst FeatureList (sym sizes-same) (tested-list L s);
           past-sizes = zeros-kept (3 + features t) 19 (omega arith) (λ j x y e. omega arith) (subst (λ (n : ℕ). Zeros w (3 + n) 19) (sym (kept-features w t kept)) (h .past));
           within = r .grown .well .laid .laid .within;
-          shares = zeros-kept 20 32 (omega arith) (λ j x y e. omega arith) (h .shares);
+          shares = λ j l. kept .header (20 + j) (omega arith) (omega arith) ∙ h .shares j l;
+          unused = zeros-kept 22 32 (omega arith) (λ j x y e. omega arith) (h .unused);
           middle = zeros-kept 64 4096 (omega arith) (λ j x y e. omega arith) (h .middle);
           clean = clean-kept;
           wf = r .grown .well .wf;
@@ -156,6 +157,7 @@ module _ {K : Kind} {T : Table K} (L : Regular T) where
       places = wanted-long;
       range = λ q hq x v. subst (T .InRange) (place-agrees q hq x v) (d .range q hq x v);
       fits = subst (λ (y : List (Branch K) × List (Node K)). length (y .1) ≤ capacity w) one-table (d .fits);
+      shared = L .shared (capacity w) (sizes w) after wanted (after-long ∙ sym wanted-long) (λ q l. place-agrees q (omega (arith, after-long))) (d .shared);
     }
 
     wanted-pictures : (u : List ℕ) → Pictures T (capacity t) (sizes t) after u → Pictures T (capacity w) (sizes w) wanted u

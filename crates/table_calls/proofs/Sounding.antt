@@ -28,10 +28,10 @@ module _ {K : Kind} {T : Table K} (L : Regular T) {w : List ℕ} (s : Tested T w
   laid =
       let h = s .header in
       record {
-        room = omega (arith, h .room);
-        within = h .within;
-        most = h .most;
-        few = h .few;
+        room = omega (arith, h .front .room);
+        within = h .front .within;
+        most = h .front .most;
+        few = h .front .few;
         large = h .fit .large;
         tests = λ i l. s .nodes-ok i l .known;
         links = s .chained .linked .links;
@@ -48,14 +48,15 @@ module _ {K : Kind} {T : Table K} (L : Regular T) {w : List ℕ} (s : Tested T w
   tested-untidy =
       let h = s .header in
       record {
-        room = h .room;
-        some = h .some;
-        most = h .most;
-        kind-is = h .kind;
+        room = h .front .room;
+        some = h .front .some;
+        most = h .front .most;
+        kind-is = h .front .kind;
         list = tested-list L s;
         past-sizes = h .past;
-        within = h .within;
+        within = h .front .within;
         shares = h .shares;
+        unused = h .unused;
         middle = h .middle;
         clean = h .clean;
         wf = tested-wf L s;

@@ -26,13 +26,14 @@ use Rattle.table_words.proofs.Reading.{length-nodes, at-nodes, length-roots, at
 use Rattle.table_words.proofs.Picture.{hash-shown}
 use Rattle.table_words.proofs.Tab.{tab-ext, tab-of}
 use Rattle.table_words.proofs.Words.{length-sizes, at-sizes, pos-sizes, sizes-show}
+use Rattle.table_checks.specs.Header.{HeaderOf}
 use Rattle.table_checks.proofs.Sitting.{NodeFits, nodes-wf, sits-good, good-sits, wf-node, wf-alone}
 use Rattle.promises.specs.Words.{nodesBy, word, head, capacity, features, size, count, sizes, feature, body, hashAt, lastOf}
-use Rattle.promises.specs.Sound.{Chained, Sizes, Header, Sits}
+use Rattle.promises.specs.Sound.{Chained, Sizes, Sits}
 
 -- what is tested of the words of every kind
 pub record Tested {K : Kind} (T : Table K) (w : List ℕ) : Type 0 where
-  pub header : Header (T .number) w
+  pub header : HeaderOf T w
   pub nodes-ok : (i : ℕ) → i < count w → NodeFits T w i
   pub spared : Spared T w
   pub chained : Chained w
@@ -91,13 +92,14 @@ module _ {K : Kind} {T : Table K} (L : Regular T) where
         let h = s .header in
         let H : ℕ → ℕ = nodeHash T M in
         record {
-          long = h .room;
-          kind-is = h .kind;
+          long = h .front .room;
+          kind-is = h .front .kind;
           room = refl;
           many = sym (length-sizes w);
           sizes-are = sizes-show w (h .past);
           used = sym n;
           shares = h .shares;
+          unused = h .unused;
           roots-are = L .roots w;
           middle = h .middle;
           heads = λ x hx. s .chained .heads x hx ∙ last-ext (hashAt w) H x (count w) hash-is ∙ ap (lastOf H x) (sym n);
@@ -119,16 +121,16 @@ module _ {K : Kind} {T : Table K} (L : Regular T) where
         let h = s .header in
         let l = length-sizes w in
         record {
-          some = omega (arith, h .one);
-          few = omega (arith, h .few);
+          some = omega (arith, h .front .one);
+          few = omega (arith, h .front .few);
           least = λ k hk. let f : k < features w = omega arith in omega (arith, at-sizes w k f, h .fit .large k f .0);
           most = λ k hk. let f : k < features w = omega arith in omega (arith, at-sizes w k f, h .fit .large k f .1);
         }
 
     pub tested-proper : ((p : ℕ) → p < T .places → (t : List ℕ) → Valid (sizes w) t → T .InRange (getD (T .said w) p zero-fun t))
-        → Proper T (capacity w) (sizes w) (T .said w)
-    tested-proper range =
-        let h = s .header in
+        → T .Shared (capacity w) (sizes w) (T .said w) → Proper T (capacity w) (sizes w) (T .said w)
+    tested-proper range shared =
+        let h = s .header .front in
         record {
           some = h .some;
           most = h .most;
@@ -136,6 +138,7 @@ module _ {K : Kind} {T : Table K} (L : Regular T) where
           places = length-said L w;
           range = range;
           fits = omega (arith, ap (λ (q : List (Branch K) × List (Node K)). length (q .1)) tested-table, length-M, h .within);
+          shared = shared;
         }
 
   -- ---- a picture passes the test, if its words say its nodes and roots again
@@ -210,20 +213,22 @@ module _ {K : Kind} {T : Table K} (L : Regular T) where
       hash-said : (i : ℕ) → i < length N → hashAt w i ≡ nodeHash T N i
       hash-said i h = hash-shown T N w i (d .tests i h) (λ v hv. d .bodies i v h hv)
 
-      shown-header : Header (T .number) w
+      shown-header : HeaderOf T w
       unfolding head
       shown-header =
           let n = d .used in
           let m = d .many in
           let c = d .room in
           record {
-            kind = d .kind-is;
-            some = omega (arith, p .some);
-            most = omega (arith, p .most);
-            room = omega (arith, d .long);
-            one = omega (arith, p .list .some);
-            few = omega (arith, p .list .few);
-            within = omega (arith, p .fits);
+            front = record {
+              kind = d .kind-is;
+              some = omega (arith, p .some);
+              most = omega (arith, p .most);
+              room = omega (arith, d .long);
+              one = omega (arith, p .list .some);
+              few = omega (arith, p .list .few);
+              within = omega (arith, p .fits);
+            };
             fit = shown-sizes;
             past = record {
               zeros = λ j h g.
@@ -231,6 +236,7 @@ module _ {K : Kind} {T : Table K} (L : Regular T) where
                   ap (λ (x : ℕ). getD w x 0) e ∙ d .sizes-are (j - 3) (omega arith) ∙ List·getD-eq-default S 0 (omega arith);
             };
             shares = d .shares;
+            unused = d .unused;
             middle = d .middle;
             clean = record { zeros = λ j h g. d .clean .zeros j (omega arith) (omega arith) };
           }

@@ -57,7 +57,7 @@ module _ {K : Kind} {T : Table K} (L : Regular T) where
         record {
           framed = steady-framed L framed cleared-steady;
           rooted = λ p h. rw (cleared-root p h, cleared-nodes) (u .rooted p h);
-          nothing = c .front 31 (omega arith) ∙ u .shares .zeros 31 (omega arith) (omega arith);
+          nothing = c .front 31 (omega arith) ∙ u .unused .zeros 31 (omega arith) (omega arith);
           unmarked = λ i h. c .heads (4096 + i) (omega arith) (omega (arith, u .within, u .most));
           clean = record { zeros = λ j h g. c .after j (omega arith) ∙ u .clean .zeros j (omega arith) (omega arith) };
         }
@@ -118,7 +118,7 @@ module _ {K : Kind} {T : Table K} (L : Regular T) where
     low j h n = ⊎-elim
         (λ p. b .header j p ∙ a .steady .low j (omega arith))
         (λ p. ⊎-elim
-        (λ q. let e : j ≡ 31 = omega arith in rw e (b .nothing ∙ sym (u .shares .zeros 31 (omega arith) (omega arith))))
+        (λ q. let e : j ≡ 31 = omega arith in rw e (b .nothing ∙ sym (u .unused .zeros 31 (omega arith) (omega arith))))
         (λ q. b .shares j (omega (arith, n)) (omega (arith, q)) ∙ a .steady .low j (omega (arith, q)))
         (same j 31))
         (split j 19)

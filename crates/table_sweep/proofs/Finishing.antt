@@ -60,7 +60,8 @@ module _ {K : Kind} {T : Table K} (L : Regular T) {w w′ : List ℕ} {p : ℕ} 
         list = k .list;
         past-sizes = rw f (zeros (3 + features w) 19 (omega arith) (u .past-sizes));
         within = k .within;
-        shares = zeros 20 32 (omega arith) (u .shares);
+        shares = λ j h. low (20 + j) (omega arith) ∙ u .shares j h;
+        unused = zeros 22 32 (omega arith) (u .unused);
         middle = record { zeros = λ j l g. s .replaced .rest j l ∙ u .middle .zeros j l g };
         clean = record { zeros = λ j l g. s .replaced .rest j (omega arith) ∙ u .clean .zeros j (omega arith) (omega arith) };
         wf = k .wf;

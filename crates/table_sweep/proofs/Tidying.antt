@@ -32,8 +32,9 @@ module _ {K : Kind} {T : Table K} {w t : List ℕ} (u : Untidy T w) (c : Collect
       }
 
 module _ {K : Kind} {T : Table K} (L : Regular T) where
-  -- in range at every setting
-  module _ {w t : List ℕ} (u : Untidy T w) (range : (p : ℕ) → p < T .places → (s : List ℕ) → Valid (sizes w) s → T .InRange (funAt T w p s)) (c : Collected T w t) where
+  -- in range at every setting, and as the shares ask
+  module _ {w t : List ℕ} (u : Untidy T w) (range : (p : ℕ) → p < T .places → (s : List ℕ) → Valid (sizes w) s → T .InRange (funAt T w p s))
+      (shared : T .Shared (capacity w) (sizes w) (T .said w)) (c : Collected T w t) where
     holds-said : table (sizes w) (T .said w) ≡ (rootsOf T t, nodes T t)
     holds-said = ap (λ (gs : List (Fun K)). table (sizes w) gs) (L .said w) ∙ c .holds
 
@@ -46,6 +47,7 @@ module _ {K : Kind} {T : Table K} (L : Regular T) where
           places = length-said L w;
           range = λ p h s x. subst (λ (g : Fun K). T .InRange (g s)) (sym (at-said L w p h)) (range p h s x);
           fits = omega (arith, ap (λ (q : List (Branch K) × List (Node K)). length (q .1)) holds-said, length-nodes T t, c .fewer, u .within);
+          shared = shared;
         }
 
     module _ {w′ : List ℕ} (r : Relinked t w′) where
@@ -73,7 +75,8 @@ module _ {K : Kind} {T : Table K} (L : Regular T) where
             many = front 2 (omega arith) (omega arith) ∙ sym (length-sizes w);
             sizes-are = λ k h. front (3 + k) (omega arith) (omega arith) ∙ sizes-show w (u .past-sizes) k h;
             used = r .front 19 (omega arith) ∙ sym n;
-            shares = record { zeros = λ j h g. front j g (omega arith) ∙ u .shares .zeros j h g };
+            shares = λ j h. front (20 + j) (omega arith) (omega arith) ∙ u .shares j h;
+            unused = record { zeros = λ j h g. front j g (omega arith) ∙ u .unused .zeros j h g };
             roots-are = λ p h. r .front (32 + p) (omega arith) ∙ L .roots t p h;
             middle = record { zeros = λ j h g. r .front j g ∙ c .middle j h g ∙ u .middle .zeros j h g };
             heads = λ x h. r .heads x h ∙ last-ext (hashAt t) hash x (count t) tested ∙ ap (lastOf hash x) (sym n);

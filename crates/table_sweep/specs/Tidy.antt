@@ -9,7 +9,7 @@ use Rattle.theory.specs.WellFormed.{Ok, WF}
 use Rattle.table_words.specs.Table.{Table, Spared, nodes}
 use Rattle.table_words.specs.Picture.{Pictures, Proper}
 use Rattle.table_words.specs.Words.{kind}
-use Rattle.promises.specs.Words.{capacity, features, count, sizes, bound, Zeros}
+use Rattle.promises.specs.Words.{head, capacity, features, count, sizes, bound, Zeros}
 
 module _ {K : Kind} (T : Table K) where
   -- a table in whose places branches of its nodes stand; the nodes' order, which of them are reached, and the chains are free
@@ -21,7 +21,8 @@ module _ {K : Kind} (T : Table K) where
     pub list : FeatureList (sizes w)
     pub past-sizes : Zeros w (3 + features w) 19
     pub within : count w ≤ capacity w
-    pub shares : Zeros w 20 32
+    pub shares : (j : ℕ) → j < 2 → head w (20 + j) ≡ T .share j
+    pub unused : Zeros w 22 32
     pub middle : Zeros w 64 4096
     pub clean : Zeros w (8192 + 16 * count w) (bound (capacity w))
     pub wf : WF (sizes w) (nodes T w)

@@ -66,12 +66,13 @@ module _ {K : Kind} {T : Table K} {cap : ℕ} {S : List ℕ} {R : List (Branch K
       ⊎-elim (in-front j) (λ l3.
       ⊎-elim (λ g. moved 3 j l3 (a .sizes-are (j - 3) (omega arith) ∙ sym (b .sizes-are (j - 3) (omega arith)))) (λ l19.
       ⊎-elim (λ e. rw e (a .used ∙ sym (b .used))) (λ n19.
-      ⊎-elim (in-zeros 20 32 j (a .shares) (b .shares) (omega (arith, n19))) (λ l32.
+      ⊎-elim (λ g. moved 20 j (omega (arith, n19)) (a .shares (j - 20) (omega (arith, n19)) ∙ sym (b .shares (j - 20) (omega (arith, n19))))) (λ l22.
+      ⊎-elim (in-zeros 22 32 j (a .unused) (b .unused) l22) (λ l32.
       ⊎-elim (λ g. moved 32 j l32 (a .roots-are (j - 32) (omega arith) ∙ sym (b .roots-are (j - 32) (omega arith)))) (λ l64.
       ⊎-elim (in-zeros 64 4096 j (a .middle) (b .middle) l64) (λ l4096.
       ⊎-elim (λ g. moved 4096 j l4096 (a .heads (j - 4096) (omega arith) ∙ sym (b .heads (j - 4096) (omega arith)))) (λ l8192.
       ⊎-elim (in-nodes j l8192) (λ l. in-zeros (8192 + 16 * length N) (bound cap) j (a .clean) (b .clean) l h)
-      (split j (8192 + 16 * length N))) (split j 8192)) (split j 4096)) (split j 64)) (split j 32)) (same j 19)) (split j 19)) (split j 3)
+      (split j (8192 + 16 * length N))) (split j 8192)) (split j 4096)) (split j 64)) (split j 32)) (split j 22)) (same j 19)) (split j 19)) (split j 3)
 
 -- THEOREM: pictures of functions that agree place by place are equal, word for word
 pub one-picture : {K : Kind} {T : Table K} {cap : ℕ} {S : List ℕ} (gs hs : List (Fun K)) {w w′ : List ℕ} → Pictures T cap S gs w → Pictures T cap S hs w′ → length gs ≡ length hs
@@ -91,7 +92,8 @@ shows-ext f l e a =
       many = e 2 (omega arith) ∙ a .many;
       sizes-are = λ k h. e (3 + k) (omega arith) ∙ a .sizes-are k h;
       used = e 19 (omega arith) ∙ a .used;
-      shares = record { zeros = λ j h g. e j (omega arith) ∙ a .shares .zeros j h g };
+      shares = λ j h. e (20 + j) (omega arith) ∙ a .shares j h;
+      unused = record { zeros = λ j h g. e j (omega arith) ∙ a .unused .zeros j h g };
       roots-are = λ p h. e (32 + p) (omega arith) ∙ a .roots-are p h;
       middle = record { zeros = λ j h g. e j (omega arith) ∙ a .middle .zeros j h g };
       heads = λ h g. e (4096 + h) (omega arith) ∙ a .heads h g;

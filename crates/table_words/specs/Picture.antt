@@ -24,7 +24,8 @@ module _ {K : Kind} (T : Table K) where
     pub many : features w ≡ length S
     pub sizes-are : (k : ℕ) → k < 16 → size w k ≡ getD S k 0
     pub used : count w ≡ length N
-    pub shares : Zeros w 20 32
+    pub shares : (j : ℕ) → j < 2 → head w (20 + j) ≡ T .share j
+    pub unused : Zeros w 22 32
     pub roots-are : (p : ℕ) → p < 32 → head w (32 + p) ≡ T .rootOf R p
     pub middle : Zeros w 64 4096
     pub heads : (h : ℕ) → h < 4096 → bucket w h ≡ lastOf (nodeHash N) h (length N)
@@ -38,7 +39,7 @@ module _ {K : Kind} (T : Table K) where
   abbrev pub Pictures : ℕ → List ℕ → List (Fun K) → List ℕ → Type 0
   Pictures cap S gs w = Shows cap S (table S gs .0) (table S gs .1) w
 
-  -- what a table can hold: a function for each place, in range at every setting, no more distinct rests than the capacity
+  -- what a table can hold: a function for each place, in range at every setting, no more distinct rests than the capacity, what its shares ask
   pub record Proper (cap : ℕ) (S : List ℕ) (gs : List (Fun K)) : Type 0 where
     pub some : 1 ≤ cap
     pub most : cap ≤ 4096
@@ -46,6 +47,7 @@ module _ {K : Kind} (T : Table K) where
     pub places : length gs ≡ T .places
     pub range : (p : ℕ) → p < T .places → (s : List ℕ) → Valid S s → T .InRange (getD gs p zero-fun s)
     pub fits : length (table S gs .1) ≤ cap
+    pub shared : T .Shared cap S gs
 
   -- the words are a table's: the picture of some functions
   pub record IsTable (w : List ℕ) : Type 0 where

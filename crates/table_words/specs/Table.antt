@@ -2,10 +2,11 @@
 use mathlib.Core.Path.{_≡_}
 use mathlib.Core.List.{List}
 use Prim.Native.Nat.{ℕ, _+_, _≤_, _<_}
+use lib.ListN.{length, getD}
 use Rattle.theory.specs.Copying.{Twin}
 use Rattle.theory.specs.Kind.{Kind}
 use Rattle.theory.specs.Diagrams.{Branch, Node, Target, at, leaf, meaning, node}
-use Rattle.theory.specs.Functions.{Amount, Fun}
+use Rattle.theory.specs.Functions.{Agree, Amount, Fun, zero-fun}
 use Rattle.promises.specs.Tab.{tab}
 use Rattle.promises.specs.Words.{body, count, feature, head, size, sizes, word}
 use Rattle.promises.specs.Words as W
@@ -33,6 +34,10 @@ pub record Table (K : Kind) : Type 1 where
   pub rootAt : List ℕ → ℕ → Branch K
   -- spare word j of node i, of the sizes and the node list
   pub spareOf : List ℕ → List (Node K) → ℕ → ℕ → ℕ
+  -- word 20 + j of the header
+  pub share : ℕ → ℕ
+  -- what these words ask of the functions, given capacity and sizes
+  pub Shared : ℕ → List ℕ → List (Fun K) → Type 0
   -- what a place may give a setting
   pub InRange : Amount K → Type 0
   -- the functions that the words say
@@ -83,5 +88,8 @@ pub record Regular {K : Kind} (T : Table K) : Type 0 where
   pub places : (w w′ : List ℕ) → ((p : ℕ) → p < 32 → head w′ (32 + p) ≡ head w (32 + p)) → (p : ℕ) → p < T .places → T .rootAt w′ p ≡ T .rootAt w p
   pub tops : (w : List ℕ) (p : ℕ) → T .rootAt w p .to ≡ T .goal (head w (32 + p))
   pub roots : (w : List ℕ) (p : ℕ) → p < 32 → head w (32 + p) ≡ T .rootOf (rootsOf T w) p
+  -- what the shares ask, they ask of functions that agree alike
+  pub shared : (cap : ℕ) (S : List ℕ) (gs hs : List (Fun K)) → length gs ≡ length hs → ((p : ℕ) → p < length gs → Agree S (getD gs p zero-fun) (getD hs p zero-fun))
+      → T .Shared cap S gs → T .Shared cap S hs
   -- what the words say is what the branches of the places mean
   pub said : (w : List ℕ) → T .said w ≡ funsOf T w

@@ -12,7 +12,7 @@ relink-requires c κs = bare-now ((c .before .before .before .before .before .be
 returns : tie.Need-returns
 returns c =
     let c6 = c .before .before .before .before .before .before in let a = c6 .before .before .before in
-    tidied regular (a .pre .untidy) (in-range (a .pre)) (c6 .collect .ensures) (c .before .before .relink .ensures)
+    tidied regular (a .pre .untidy) (in-range (a .pre)) tt (c6 .collect .ensures) (c .before .before .relink .ensures)
 
 pub tidy-spec : {M : Type 1} → statement M
 tidy-spec = tie.close (tie.spec (λ c κs. search needs) relink-requires (λ c. search needs) returns)

@@ -12,7 +12,7 @@ relink-requires c κs = bare-now ((c .before .before .before .before .before .be
 returns : tie.Need-returns
 returns c =
     let c6 = c .before .before .before .before .before .before in let c9 = c6 .before .before .before in
-    tidied regular (c9 .pre) (in-range _) (c6 .collect .ensures) (c .before .before .relink .ensures)
+    tidied regular (c9 .pre) (in-range _) tt (c6 .collect .ensures) (c .before .before .relink .ensures)
 
 pub tidy-spec : {M : Type 1} → statement M
 tidy-spec = tie.close (tie.spec (λ c κs. search needs) relink-requires (λ c. search needs) returns)
