@@ -1,5 +1,5 @@
 // The soundness test of a rule table. It reads any slice, and writes nothing.
-ghost use Prim.Native.Nat.{_<_};
+ghost use Prim.Native.Nat.{_+_, _*_, _≤_, _<_};
 ghost use Rattle.settings.specs.Tells.{Tells};
 use rule_words::NUMBERS;
 use table_checks::chains_ok;
@@ -14,9 +14,9 @@ use table_words::features_word;
 use table_words::record_word;
 use table_words::size_word;
 use table_words::wide;
-ghost use Rattle.promises.specs.Words.{features, count, feature};
+ghost use Rattle.promises.specs.Words.{features, count, feature, Zeros};
 ghost use Rattle.promises.specs.Sound.{Header};
-ghost use Rattle.promises.specs.RuleSound.{RuleAlike as Alike, RuleNodeOk as NodeOk, RuleNodesOk as Nodes, RuleSound as Sound};
+ghost use Rattle.promises.specs.RuleSound.{RuleAlike as Alike, RuleNodesOk as Nodes, RuleSound as Sound};
 
 // Whether the branches of node i are all equal.
 fn alike(t: &[u32], i: usize) -> bool
@@ -35,22 +35,11 @@ fn alike(t: &[u32], i: usize) -> bool
     true
 }
 
-// Whether node i is one, but for twins and its chain.
-fn node_ok(t: &[u32], i: usize) -> bool
-    requires { ⌜ (Header 1 (now t)) × (i < count (now t)) ⌝ }
-    ensures { λ r. ⌜ Tells r (NodeOk (now (t .entry)) i) ⌝ }
+// Whether the body of node i has 0 only past s branches, and so have its spare words.
+fn rest_zero(t: &[u32], i: usize, s: usize) -> bool
+    requires { ⌜ (Header 1 (now t)) × (i < count (now t)) × (s ≤ 8) ⌝ }
+    ensures { λ r. ⌜ Tells r ((Zeros (now (t .entry)) (8192 + 16 * i + 1 + s) (8192 + 16 * i + 13)) × (Zeros (now (t .entry)) (8192 + 16 * i + 14) (8192 + 16 * i + 16))) ⌝ }
 {
-    let k = wide(record_word(t, i, 0));
-    if wide(features_word(t)) <= k {
-        return false;
-    }
-    if !lower(t, NUMBERS, i) {
-        return false;
-    }
-    if alike(t, i) {
-        return false;
-    }
-    let s = wide(size_word(t, k));
     let base = RECORDS + 16 * i;
     if !zeros(t, base + 1 + s, base + 13) {
         return false;
@@ -58,15 +47,26 @@ fn node_ok(t: &[u32], i: usize) -> bool
     zeros(t, base + 14, base + 16)
 }
 
-// Whether each node in use is one.
+// Whether each node in use is one, but for twins and its chain.
 fn nodes_ok(t: &[u32]) -> bool
     requires { ⌜ Header 1 (now t) ⌝ }
     ensures { λ r. ⌜ Tells r (Nodes (now (t .entry))) ⌝ }
 {
     let n = wide(count_word(t));
+    let m = wide(features_word(t));
     let mut i: usize = 0;
     while i < n {
-        if !node_ok(t, i) {
+        let k = wide(record_word(t, i, 0));
+        if m <= k {
+            return false;
+        }
+        if !lower(t, NUMBERS, i) {
+            return false;
+        }
+        if alike(t, i) {
+            return false;
+        }
+        if !rest_zero(t, i, wide(size_word(t, k))) {
             return false;
         }
         i += 1;
