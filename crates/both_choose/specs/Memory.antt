@@ -5,12 +5,12 @@ use mathlib.Core.List.{List}
 use Prim.Native.Nat.{ℕ, _+_, _*_, _<_}
 use lib.ListN.{drop}
 use Rattle.theory.specs.WellFormed.{Mean}
+use Rattle.table_words.specs.Words.{listed}
+use Rattle.table_memory.specs.Memory as M
 use Rattle.rule_lending.specs.Lending.{lent, keyOf}
 use Rattle.cost_nodes.specs.Nodes.{Good}
 use Rattle.cost_nodes.specs.declared.Answer.{Answer}
 use Rattle.cost_nodes.specs.declared.Answer.the-variants.{Is, NoRoom}
-use Rattle.cost_memory.specs.Memory as M
-use Rattle.cost_notes.specs.Noted as N
 use Rattle.both_choose.specs.Choice.{choice}
 use Rattle.promises.specs.Integers.{int}
 use Rattle.promises.specs.Words.{sizes}
@@ -26,17 +26,13 @@ pub record Recalled (v w : List ℕ) (k b x y d z e : ℕ) : Type 0 where
 abbrev pub tagOf : ℕ → ℕ → ℕ
 tagOf k b = k + 1 + 32 * keyOf b
 
--- what an entry says
-pub record Says (v w : List ℕ) (tag x y d z e : ℕ) : Type 0 where
-  pub recalled : (k b : ℕ) → k < 16 → tag ≡ tagOf k b → Recalled v w k b x y d z e
-
--- each filled entry is right for the rule table v and the cost table w
-abbrev pub Remembers : List ℕ → List ℕ → List ℕ → Type 0
-Remembers v w s = M.Remembers (Says v w) s
+-- an entry is right for the rule table v and the cost table w: its key is the tag, the targets and the difference
+pub record Says (v w key : List ℕ) (z e : ℕ) : Type 0 where
+  pub recalled : (k b : ℕ) → k < 16 → listed key 0 ≡ tagOf k b → Recalled v w k b (listed key 1) (listed key 2) (listed key 3) z e
 
 -- so is what a walk over the cost table w remembers, there or in the scratch s
 abbrev pub Noted : List ℕ → List ℕ → List ℕ → Type 0
-Noted v w s = N.Noted (Says v) w s
+Noted v w s = M.Noted 4 (Says v) w s
 
 -- as it is after a call that had room
 abbrev pub Still : List ℕ → List ℕ → List ℕ → Answer → Type 0

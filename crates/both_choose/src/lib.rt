@@ -1,8 +1,7 @@
 // The engine of CHOOSE: where a rule of a lent rule table is not 0 the first of two costs, else the second, with remembered results in lent scratch words or in the far records.
-use cost_memory::CHOOSE;
-use cost_memory::Memo;
 use cost_nodes::Answer;
 use cost_nodes::Arm;
+use cost_notes::CHOOSE;
 use cost_notes::arm_in;
 use cost_notes::lowest;
 use cost_notes::make_in;
@@ -16,6 +15,7 @@ use rule_lending::is_number;
 use rule_lending::key_of;
 use rule_lending::number_of;
 use rule_lending::top_at;
+use table_memory::Memo;
 use table_notes::clear;
 use table_notes::clear_far;
 use table_words::capacity_word;

@@ -1,17 +1,17 @@
 // The engine of less: a walk over two costs of a cost table builds the rule "first below second" in a rule table, with remembered results in lent scratch words.
-use cost_memory::LESS;
-use cost_memory::Memo;
-use cost_memory::recall;
-use cost_memory::remember;
 use cost_nodes::Arm;
 use cost_nodes::arm_at;
 use cost_nodes::top_of;
+use cost_notes::LESS;
 use cost_words::ZERO;
 use cost_words::difference_word;
 use cost_words::sum_word;
 use rule_lending::Answer;
 use rule_lending::branch_of;
 use rule_lending::make;
+use table_memory::Memo;
+use table_memory::recall;
+use table_memory::remember;
 use table_notes::clear;
 use table_words::narrow;
 use table_words::size_word;
@@ -23,7 +23,7 @@ ghost use lib.IntN.{pos};
 ghost use lib.Signed.{ltZ};
 ghost use Rattle.theory.specs.Diagrams.{meaning};
 ghost use Rattle.rule_lending.specs.Building.{Result, Fills};
-ghost use Rattle.cost_memory.specs.Memory.{Remembers};
+ghost use Rattle.table_memory.specs.Memory.{Remembers};
 ghost use Rattle.both_less.specs.Less.{Beside, Comparable, lessFrom, Operands};
 ghost use Rattle.both_less.specs.Memory.{Recalled, Still, StillIf};
 ghost use Rattle.promises.specs.Integers.{int};
@@ -46,7 +46,7 @@ fn above_zero(d: u32) -> u32
 
 // The rule's branch for two targets from feature k on, where the second has d more on it: one node's result. Of equal targets the difference decides.
 fn rest_result(c: &[u32], t: &mut [u32], s: &mut [u32], k: usize, x: u32, y: u32, d: u32) -> Answer
-    requires { ⌜ (Operands (now c) k x y d) × (Beside (now c) (now t)) × (Remembers (Recalled (now c) (now t)) (now s)) ⌝ }
+    requires { ⌜ (Operands (now c) k x y d) × (Beside (now c) (now t)) × (Remembers 4 (Recalled (now c) (now t)) (now s)) ⌝ }
     ensures { λ r. ⌜ (Result (now (t .entry)) (now (t .exit)) k (lessFrom (now (c .entry)) k x y d) r) × (Still (now (c .entry)) (now (t .exit)) (now (s .exit)) r) ⌝ }
 {
     if x == y {
@@ -58,7 +58,8 @@ fn rest_result(c: &[u32], t: &mut [u32], s: &mut [u32], k: usize, x: u32, y: u32
         }
     }
     let tag = narrow(k + 1);
-    let memo = recall(s, LESS, tag, x, y, d);
+    let key = [tag, x, y, d];
+    let memo = recall(s, LESS, &key);
     if let Memo::Known(z, e) = memo {
         return Answer::Is(z);
     }
@@ -68,7 +69,7 @@ fn rest_result(c: &[u32], t: &mut [u32], s: &mut [u32], k: usize, x: u32, y: u32
         let Answer::Is(z) = make(t, k, list) else {
             return Answer::NoRoom;
         };
-        remember(s, LESS, tag, x, y, d, z, 0);
+        remember(s, LESS, &key, z, 0);
         return Answer::Is(z);
     }
     Answer::NoRoom
@@ -84,7 +85,7 @@ fn fill_branches(
     y: u32,
     d: u32,
 ) -> Filled
-    requires { ⌜ (Operands (now c) k x y d) × (Beside (now c) (now t)) × (Remembers (Recalled (now c) (now t)) (now s)) × (k < features (now c)) ⌝ }
+    requires { ⌜ (Operands (now c) k x y d) × (Beside (now c) (now t)) × (Remembers 4 (Recalled (now c) (now t)) (now s)) × (k < features (now c)) ⌝ }
     ensures { λ r. ⌜ (Fills (now (t .entry)) (now (t .exit)) k (lessFrom (now (c .entry)) k x y d) (r .ok) (r .list)) × (StillIf (now (c .entry)) (now (t .exit)) (now (s .exit)) (r .ok)) ⌝ }
 {
     let m = wide(size_word(c, k));

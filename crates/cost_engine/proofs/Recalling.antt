@@ -10,19 +10,19 @@ use Rattle.theory.specs.WellFormed.{Mean}
 use Rattle.theory.proofs.Growing.{make-grows}
 use Rattle.theory.proofs.Values.{mean-more}
 use Rattle.theory.proofs.WellFormed.{ok-ext}
+use Rattle.table_words.specs.Words.{listed}
 use Rattle.table_words.proofs.Filling.{grown-nodes}
 use Rattle.table_words.proofs.Words.{kept-sizes}
 use Rattle.table_notes.specs.Plain.{plain}
+use Rattle.table_notes.specs.Far.{Aside}
+use Rattle.table_memory.proofs.Remembering as M
 use Rattle.cost_nodes.specs.Nodes.{Holds, Makes, Result, arms}
 use Rattle.cost_nodes.specs.declared.Answer.{Answer}
 use Rattle.cost_nodes.specs.declared.Answer.the-variants.{Is}
 use Rattle.cost_nodes.proofs.Reading.{lawful}
 use Rattle.cost_nodes.proofs.Filling.{gives-is, result-ext, result-mean, mean-result}
 use Rattle.cost_engine.specs.Joint.{jointFrom, Operands}
-use Rattle.cost_memory.proofs.Remembering.{remembers-map}
-use Rattle.table_notes.specs.Far.{memory, Aside}
-use Rattle.cost_notes.proofs.Remembering as N
-use Rattle.cost_engine.specs.Memory.{Recalled, Right, Remembers, Noted, Still, StillIf}
+use Rattle.cost_engine.specs.Memory.{Recalled, Right, Noted, Still, StillIf}
 use Rattle.cost_engine.specs.declared.operators.Operator.{Operator}
 use Rattle.cost_engine.proofs.Joining.{joint-ext}
 use Rattle.promises.specs.Integers.{int}
@@ -63,29 +63,28 @@ result-recalled w t o k x y d z e p r =
 
 -- ---- the memory
 -- an entry says one result
-pub right-here : (w : List ℕ) (o : Operator) (tag k x y d z e : ℕ) → tag ≡ k + 1 → Recalled w o k x y d z e → Right o w tag x y d z e
-right-here w o tag k x y d z e q c = record { at = λ j h. let n : k ≡ j = omega arith in rw (← n) c }
-
-remembers-more : (w t : List ℕ) (o : Operator) (s : List ℕ) → Holds w → sizes t ≡ sizes w → Ext (nodes w) (nodes t) → Remembers w o s → Remembers t o s
-remembers-more w t o s ok z m h =
-    remembers-map s (λ tag x y d a e r. record { at = λ k q. recalled-more w t o k x y d a e ok z m (r .at k q) }) h
+pub right-here : (w : List ℕ) (o : Operator) (k : ℕ) (key : List ℕ) (z e : ℕ) → listed key 0 ≡ k + 1 → Recalled w o k (listed key 1) (listed key 2) (listed key 3) z e → Right o w key z e
+right-here w o k key z e q c = record { at = λ j h. let n : k ≡ j = omega (arith, q, h) in rw (← n) c }
 
 -- after `make`
-remembers-made : (w t : List ℕ) (k : ℕ) (xs ys : List ℕ) (r : Answer) (z e : ℕ) (o : Operator) (s : List ℕ) → Holds w → Makes w t k xs ys r → r ≡ Is z e → Remembers w o s → Remembers t o s
-remembers-made w t k xs ys r z e o s ok m q h =
-    let y = gives-is q m in
-    remembers-more w t o s ok (kept-sizes w t (y .grown .kept) (ok .laid .laid .few))
-    (rw (grown-nodes lawful w t _ (y .grown) (y .answers .1)) (make-grows k (arms (size w k) xs ys) (nodes w))) h
+right-made : (w t : List ℕ) (k : ℕ) (xs ys : List ℕ) (r : Answer) (z e : ℕ) (o : Operator) → Holds w → Makes w t k xs ys r → r ≡ Is z e → (key : List ℕ) (a b : ℕ)
+    → Right o w key a b → Right o t key a b
+right-made w t k xs ys r z e o ok m q key a b c =
+    let g = gives-is q m in
+    record {
+      at = λ j h. recalled-more w t o j (listed key 1) (listed key 2) (listed key 3) a b ok (kept-sizes w t (g .grown .kept) (ok .laid .laid .few))
+          (rw (grown-nodes lawful w t _ (g .grown) (g .answers .1)) (make-grows k (arms (size w k) xs ys) (nodes w))) (c .at j h);
+    }
 
 -- a hit is the result
-pub recalled-result : (w : List ℕ) (o : Operator) (tag k x y d z e : ℕ) → Operands w o k x y (int d) → tag ≡ k + 1 → Right o w tag x y d z e →
-    Result w w k (jointFrom o (nodes w) k (target x) (target y) (int d)) (Is z e)
-recalled-result w o tag k x y d z e p q r = mean-result w k (jointFrom o (nodes w) k (target x) (target y) (int d)) z e (p .holds) (r .at k q .mean)
+pub recalled-result : (w : List ℕ) (o : Operator) (k : ℕ) (key : List ℕ) (z e : ℕ) → Operands w o k (listed key 1) (listed key 2) (int (listed key 3)) → listed key 0 ≡ k + 1 → Right o w key z e →
+    Result w w k (jointFrom o (nodes w) k (target (listed key 1)) (target (listed key 2)) (int (listed key 3))) (Is z e)
+recalled-result w o k key z e p q r = mean-result w k _ z e (p .holds) (r .at k q .mean)
 
 -- after `make_in`, wherever the walk remembers
 pub noted-made : (w t : List ℕ) (k : ℕ) (xs ys : List ℕ) (r : Answer) (z e : ℕ) (o : Operator) (s : List ℕ) → Holds (plain w) → Makes (plain w) (plain t) k xs ys r × Aside w t
     → r ≡ Is z e → Noted w o s → Noted t o s
-noted-made w t k xs ys r z e o s ok m q n = N.noted-made w t s n (m .0 .grown .kept) (m .1) (remembers-made (plain w) (plain t) k xs ys r z e o (memory w s) ok (m .0) q)
+noted-made w t k xs ys r z e o s ok m q n = M.noted-made w t s n (m .0 .grown .kept) (m .1) (right-made (plain w) (plain t) k xs ys r z e o ok (m .0) q)
 
 -- ---- what the calls leave
 pub still : (w : List ℕ) (o : Operator) (s : List ℕ) (a : Answer) (z e : ℕ) → a ≡ Is z e → Still w o s a → Noted w o s

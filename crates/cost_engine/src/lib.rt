@@ -1,7 +1,6 @@
 // The engine of costs: one walk serves add, subtract, smaller, larger and scale on a cost table, with remembered results in lent scratch words or in the far records.
 mod operators; // operators.rt: the operators in words that stand for integers
 
-use cost_memory::Memo;
 use cost_nodes::Answer;
 use cost_nodes::Arm;
 use cost_notes::arm_in;
@@ -16,6 +15,7 @@ use operators::ahead_word;
 use operators::end_word;
 use operators::gap_word;
 use operators::number_of;
+use table_memory::Memo;
 use table_notes::clear;
 use table_notes::clear_far;
 use table_words::narrow;

@@ -1,9 +1,9 @@
 // The operators on costs, in words that stand for integers: what a result adds, and the difference of two targets on the way.
-use cost_memory::ADD;
-use cost_memory::LARGER;
-use cost_memory::SCALE;
-use cost_memory::SMALLER;
-use cost_memory::SUBTRACT;
+use cost_notes::ADD;
+use cost_notes::LARGER;
+use cost_notes::SCALE;
+use cost_notes::SMALLER;
+use cost_notes::SUBTRACT;
 use cost_words::ZERO;
 use cost_words::difference_word;
 use cost_words::sum_word;

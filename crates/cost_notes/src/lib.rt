@@ -1,8 +1,6 @@
-// A cost table while a walk works on it, told of the words without its notes: steps down a diagram, the making of a node, and what the walk
-// remembers, in lent scratch words or, where these are fewer, in the far records.
-use cost_memory::Memo;
-use cost_memory::recall;
-use cost_memory::remember;
+// A cost table while a walk works on it, told of the words without its notes: steps down a diagram, the making of a node, and what the walk remembers.
+mod operators; // operators.rt: the numbers of the operators
+
 use cost_nodes::Answer;
 use cost_nodes::Arm;
 use cost_nodes::arm_at;
@@ -10,16 +8,23 @@ use cost_nodes::make;
 use cost_nodes::top_of;
 use cost_words::Span;
 use cost_words::kept_span;
-use table_words::RECORDS;
-use table_words::capacity_word;
-use table_words::wide;
+pub use operators::ADD;
+pub use operators::CHOOSE;
+pub use operators::LARGER;
+pub use operators::LESS;
+pub use operators::LOWEST;
+pub use operators::SCALE;
+pub use operators::SMALLER;
+pub use operators::SUBTRACT;
+use table_memory::Memo;
 ghost use mathlib.Core.Path.{_≡_};
+ghost use mathlib.Core.List.{[], _∷_};
 ghost use Prim.Native.Nat.{ℕ, _≤_, _<_};
 ghost use Rattle.theory_costs.specs.Relative.{branchAt};
 ghost use Rattle.table_records.specs.Laid.{Laid};
 ghost use Rattle.table_notes.specs.Far.{memory, Aside};
 ghost use Rattle.table_notes.specs.Plain.{Roomy, plain};
-ghost use Rattle.cost_memory.specs.Memory.{Recalls, Stored};
+ghost use Rattle.table_memory.specs.Memory.{Recalls, Stored};
 ghost use Rattle.cost_words.specs.Sides.{Keeps};
 ghost use Rattle.cost_nodes.specs.Nodes.{Holds, Armed, Makes, top, Place};
 ghost use Rattle.promises.specs.Words.{features, size, count};
@@ -59,18 +64,13 @@ pub fn make_in(t: &mut [u32], k: usize, goes: [u32; 8], adds: [u32; 8]) -> Answe
     make(t, k, goes, adds)
 }
 
-// What is remembered under a tag for two targets and their difference; the operator only chooses the entry.
+// What is remembered under a tag for two targets and their difference. Keys of four words are lent here alone, so that they have one length for the compiler.
 pub fn recall_in(t: &[u32], s: &[u32], o: u32, tag: u32, x: u32, y: u32, d: u32) -> Memo
     requires { ⌜ Roomy (now t) ⌝ }
-    ensures { λ r. ⌜ Recalls (memory (now (t .entry)) (now (s .entry))) tag x y d r ⌝ }
+    ensures { λ r. ⌜ Recalls (memory (now (t .entry)) (now (s .entry))) (tag ∷ x ∷ y ∷ d ∷ []) r ⌝ }
 {
-    let n = 16 * wide(capacity_word(t));
-    if s.len() < n {
-        let from = RECORDS + n;
-        let end = from + n;
-        return recall(&t[from..end], o, tag, x, y, d);
-    }
-    recall(s, o, tag, x, y, d)
+    let key = [tag, x, y, d];
+    table_memory::recall_in(t, s, o, &key)
 }
 
 // Remembers the result's words z and e.
@@ -86,14 +86,8 @@ pub fn remember_in(
     e: u32,
 )
     requires { ⌜ (Roomy (now t)) × (0 < tag) ⌝ }
-    ensures { λ _. ⌜ (plain (now (t .exit)) ≡ plain (now (t .entry))) × (Stored (memory (now (t .entry)) (now (s .entry))) (memory (now (t .exit)) (now (s .exit))) tag x y d z e) ⌝ }
+    ensures { λ _. ⌜ (plain (now (t .exit)) ≡ plain (now (t .entry))) × (Stored (memory (now (t .entry)) (now (s .entry))) (memory (now (t .exit)) (now (s .exit))) (tag ∷ x ∷ y ∷ d ∷ []) z e) ⌝ }
 {
-    let n = 16 * wide(capacity_word(t));
-    if s.len() < n {
-        let from = RECORDS + n;
-        let end = from + n;
-        remember(&mut t[from..end], o, tag, x, y, d, z, e);
-        return;
-    }
-    remember(s, o, tag, x, y, d, z, e);
+    let key = [tag, x, y, d];
+    table_memory::remember_in(t, s, o, &key, z, e);
 }

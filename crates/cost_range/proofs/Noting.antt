@@ -3,15 +3,15 @@ use mathlib.Core.Bool.{Bool}
 use mathlib.Core.Path.{_≡_, ap, subst, _∙_}
 use mathlib.Core.List.{List}
 use Prim.Native.Nat.{ℕ, _+_, _<_}
-use lib.ListN.{drop}
+use lib.ListN.{length, drop}
 use Rattle.theory.specs.Functions.{held}
 use Rattle.theory_costs.specs.Relative.{branchAt}
 use Rattle.table_notes.specs.Plain.{Resting, plain}
 use Rattle.table_notes.specs.Far.{memory}
 use Rattle.table_notes.proofs.Plain.{plain-of}
-use Rattle.cost_memory.specs.Memory.{Stored}
+use Rattle.table_memory.specs.Memory.{Stored}
+use Rattle.table_memory.proofs.Remembering.{noted-stored}
 use Rattle.cost_nodes.specs.Nodes.{Place}
-use Rattle.cost_notes.proofs.Remembering.{noted-stored}
 use Rattle.cost_range.specs.Ends.{Reaches, Pair, ofTargets, ofBranches, Right, Noted}
 use Rattle.cost_range.specs.declared.Ends.{Ends}
 use Rattle.cost_range.proofs.Walking.{first-place, second-place, pair-step, branches-at}
@@ -19,9 +19,9 @@ use Rattle.promises.specs.Words.{features, size, sizes}
 use Rattle.promises.specs.CostWords.{target, costBranch as branch, costNodes as nodes}
 
 -- one result more, right for the table w without notes
-pub noted-more : (minus : Bool) (w t t′ s s′ : List ℕ) (tag x y d l h : ℕ) → plain t ≡ w → plain t′ ≡ plain t → Noted minus t s
-    → Stored (memory t s) (memory t′ s′) tag x y d l h → Right minus w tag x y d l h → Noted minus t′ s′
-noted-more minus w t t′ s s′ tag x y d l h f e n st q = noted-stored t t′ s s′ tag x y d l h n (e, st) (rw f q)
+pub noted-more : (minus : Bool) (w t t′ s s′ key : List ℕ) (l h : ℕ) → length key ≡ 4 → plain t ≡ w → plain t′ ≡ plain t → Noted minus t s → Stored (memory t s) (memory t′ s′) key l h
+    → Right minus w key l h → Noted minus t′ s′
+noted-more minus w t t′ s s′ key l h z f e n st q = noted-stored t t′ s s′ key l h z n (e, st) (rw f q)
 
 -- ---- a step on words u that are those without notes, w
 pub features-over : {w u : List ℕ} → u ≡ w → features u ≡ features w

@@ -15,6 +15,7 @@ use Rattle.theory.proofs.Values.{value-next}
 use Rattle.theory_costs.specs.Relative.{branchAt}
 use Rattle.theory_costs.proofs.Adding.{Splits, add-splits, subtract-splits, splits-zero, joined-split, pair-wait}
 use Rattle.theory_costs.proofs.Relative.{from-zeros}
+use Rattle.table_words.specs.Words.{listed}
 use Rattle.cost_words.specs.Sums.{Stands}
 use Rattle.cost_nodes.specs.Nodes.{Holds, top, Place}
 use Rattle.cost_nodes.proofs.Stepping.{good-small, good-top, top-good, top-below, place-next}
@@ -155,6 +156,7 @@ module _ (w : List ℕ) (k x a y b : ℕ) (p : Pair w k x y) (minus : Bool) wher
         }
 
 -- ---- the memory: an entry says the ends of one pair
-pub right-here : (minus : Bool) (w : List ℕ) (tag k x y d l h : ℕ) → tag ≡ k + 1 → Spans (drop k (sizes w)) (ofTargets minus w k x y) l h → Right minus w tag x y d l h
-right-here minus w tag k x y d l h e q =
-    record { at = λ j f. let n : k ≡ j = omega arith in subst (λ (i : ℕ). Spans (drop i (sizes w)) (ofTargets minus w i x y) l h) n q }
+pub right-here : (minus : Bool) (w : List ℕ) (k : ℕ) (key : List ℕ) (l h : ℕ) → listed key 0 ≡ k + 1 → Spans (drop k (sizes w)) (ofTargets minus w k (listed key 1) (listed key 2)) l h
+    → Right minus w key l h
+right-here minus w k key l h e q =
+    record { at = λ j f. let n : k ≡ j = omega (arith, e, f) in subst (λ (i : ℕ). Spans (drop i (sizes w)) (ofTargets minus w i (listed key 1) (listed key 2)) l h) n q }

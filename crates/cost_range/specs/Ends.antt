@@ -11,8 +11,8 @@ use Rattle.theory.specs.Functions.{held}
 use Rattle.theory_costs.specs.Extremes.{lowestOf, highestOf}
 use Rattle.theory_costs.specs.Narrow.{Narrow, Spread}
 use Rattle.theory_costs.specs.Relative.{pairFrom}
-use Rattle.cost_memory.specs.Memory as M
-use Rattle.cost_notes.specs.Noted as N
+use Rattle.table_words.specs.Words.{listed}
+use Rattle.table_memory.specs.Memory as M
 use Rattle.cost_words.specs.Sides.{endOf}
 use Rattle.cost_nodes.specs.Nodes.{Holds, Good}
 use Rattle.cost_range.specs.declared.Ends.{Ends}
@@ -85,13 +85,10 @@ pub record Furthest (up : Bool) (v a b r : ℕ) : Type 0 where
 pub record Folded (up : Bool) (ns : List ℕ) (f : Cost) (v a : ℕ) : Type 0 where
   pub folded : 0 < v → int a ≡ across (sideOf up) (λ u. extreme (sideOf up) ns (held u f)) v
 
--- ---- what is remembered: an entry's tag is a feature + 1
-pub record Right (minus : Bool) (w : List ℕ) (tag x y d l h : ℕ) : Type 0 where
-  pub at : (k : ℕ) → tag ≡ k + 1 → Spans (drop k (sizes w)) (ofTargets minus w k x y) l h
-
-abbrev pub Remembers : Bool → List ℕ → List ℕ → Type 0
-Remembers minus w s = M.Remembers (Right minus w) s
+-- ---- what is remembered: an entry's key is a feature + 1 and two targets
+pub record Right (minus : Bool) (w key : List ℕ) (l h : ℕ) : Type 0 where
+  pub at : (k : ℕ) → listed key 0 ≡ k + 1 → Spans (drop k (sizes w)) (ofTargets minus w k (listed key 1) (listed key 2)) l h
 
 -- so is what a walk over the table w remembers, there or in the scratch s
 abbrev pub Noted : Bool → List ℕ → List ℕ → Type 0
-Noted minus w s = N.Noted (Right minus) w s
+Noted minus w s = M.Noted 4 (Right minus) w s

@@ -2,10 +2,9 @@
 // root keeps. A sum or a difference stays there at once where these allow it; else a walk over pairs of targets gives its own lowest and highest
 // amount, with remembered results in lent scratch words or in the far records. It stops where one side has ended.
 use cost_engine::Operator;
-use cost_memory::ADD;
-use cost_memory::Memo;
-use cost_memory::SUBTRACT;
 use cost_nodes::Arm;
+use cost_notes::ADD;
+use cost_notes::SUBTRACT;
 use cost_notes::arm_in;
 use cost_notes::kept_in;
 use cost_notes::lowest;
@@ -18,6 +17,7 @@ use cost_words::further;
 use cost_words::kept_span;
 use cost_words::sum_or_lost;
 use cost_words::sum_word;
+use table_memory::Memo;
 use table_notes::clear;
 use table_notes::clear_far;
 use table_words::narrow;

@@ -1,21 +1,17 @@
--- Contract between layers: remembered results: words in entries of 11, a feature + 1 (0: empty), nine operands, a result. Assumes nothing.
+-- Contract between layers: what the engine remembers, under a feature + 1 and the operands, and what its calls leave. Assumes nothing.
 use mathlib.Core.Bool.{Bool, true, false}
 use mathlib.Core.Path.{_≡_}
-use mathlib.Core.Logic.{_⊎_}
 use mathlib.Core.List.{List}
-use Prim.Native.Nat.{ℕ, _+_, _*_, _≤_, _<_}
-use lib.ListN.{length, getD, drop}
+use Prim.Native.Nat.{ℕ, _+_, _<_}
+use lib.ListN.{length, drop}
 use Rattle.theory.specs.Diagrams.{value}
 use Rattle.theory.specs.Settings.{Valid}
 use Rattle.table_words.specs.Words.{listed}
-use Rattle.table_notes.specs.Far.{memory}
-use Rattle.table_notes.specs.Plain.{Roomy, plain}
+use Rattle.table_memory.specs.Memory as M
 use Rattle.rule_nodes.specs.Nodes.{Good}
 use Rattle.rule_nodes.specs.declared.Answer.{Answer}
 use Rattle.rule_nodes.specs.declared.Answer.the-variants.{Is, NoRoom}
 use Rattle.rule_engine.specs.Joint.{joint}
-use Rattle.rule_engine.specs.declared.memory.Memo.{Memo}
-use Rattle.rule_engine.specs.declared.memory.Memo.the-variants.{Known, Unknown}
 use Rattle.promises.specs.Words.{sizes}
 use Rattle.promises.specs.RuleWords.{decode, ruleNodes as nodes}
 
@@ -25,33 +21,21 @@ pub record Recalled (w : List ℕ) (o f n k : ℕ) (l : List ℕ) (x : ℕ) : Ty
   pub good : Good w k x
   pub says : (s : List ℕ) → Valid (drop k (sizes w)) s → value (nodes w) k (decode x) s ≡ joint w o f n k l s
 
--- each filled entry is right for the table w
-pub record Remembers (w : List ℕ) (o f n : ℕ) (s : List ℕ) : Type 0 where
-  pub right : (i k : ℕ) → 11 * i + 11 ≤ length s → getD s (11 * i) 0 ≡ k + 1 → Recalled w o f n k (drop (11 * i + 1) s) (getD s (11 * i + 10) 0)
+-- key is that of the first n operands of l from feature k on: the feature + 1, and they
+pub record Keyed (n k : ℕ) (l key : List ℕ) : Type 0 where
+  pub long : length key ≡ n + 1
+  pub feature : listed key 0 ≡ k + 1
+  pub operand : (j : ℕ) → j < n → listed key (1 + j) ≡ listed l j
 
--- entry i has the feature k, the operands l and the result x
-pub record Entry (s : List ℕ) (i k : ℕ) (l : List ℕ) (x : ℕ) : Type 0 where
-  pub inside : 11 * i + 11 ≤ length s
-  pub feature : getD s (11 * i) 0 ≡ k + 1
-  pub operand : (j : ℕ) → j < 9 → getD s (11 * i + 1 + j) 0 ≡ listed l j
-  pub result : getD s (11 * i + 10) 0 ≡ x
+-- an entry is right for the table w
+pub record Right (o f n : ℕ) (w key : List ℕ) (x y : ℕ) : Type 0 where
+  pub at : (k : ℕ) → listed key 0 ≡ k + 1 → Recalled w o f n k (drop 1 key) x
 
--- what is known stands in some entry
-abbrev pub Recalls : List ℕ → ℕ → List ℕ → Memo → Type 0
-Recalls s k l (Known x) = (i : ℕ) × Entry s i k l x
-Recalls s k l Unknown = Unit {0}
+-- so is what a walk over the table w remembers, there or in the scratch s
+abbrev pub Noted : List ℕ → ℕ → ℕ → ℕ → List ℕ → Type 0
+Noted w o f n s = M.Noted (n + 1) (Right o f n) w s
 
--- every entry of s′ is the new one, or as in s
-pub record Stored (s s′ : List ℕ) (k : ℕ) (l : List ℕ) (x : ℕ) : Type 0 where
-  pub long : length s′ ≡ length s
-  pub entries : (i : ℕ) → 11 * i + 11 ≤ length s → Entry s′ i k l x ⊎ ((j : ℕ) → j < 11 → getD s′ (11 * i + j) 0 ≡ getD s (11 * i + j) 0)
-
--- what a walk over the table w remembers, there or in the scratch s, is right for the table without its notes
-pub record Noted (w : List ℕ) (o f n : ℕ) (s : List ℕ) : Type 0 where
-  pub room : Roomy w
-  pub right : Remembers (plain w) o f n (memory w s)
-
--- so it is after a call that had room
+-- as it is after a call that had room
 abbrev pub Still : List ℕ → ℕ → ℕ → ℕ → List ℕ → Answer → Type 0
 Still w o f n s (Is x) = Noted w o f n s
 Still w o f n s NoRoom = Unit {0}

@@ -1,17 +1,17 @@
 // The engine: one walk serves apply, CASE and forget on a rule table, with remembered results in lent scratch words or in the far records.
-mod memory; // memory.rt: what the walk remembers, and where
 mod operands; // operands.rt: the operands at a feature
 mod shortcuts; // shortcuts.rt: where nothing is walked
 
-use memory::Memo;
-use memory::recall_in;
-use memory::remember_in;
+use operands::key_of;
 use operands::lowest;
 use operands::operands_at;
 use rule_nodes::Answer;
 use rule_notes::make_in;
 use rule_operators::combine;
 use shortcuts::shortcut;
+use table_memory::Memo;
+use table_memory::recall_in;
+use table_memory::remember_in;
 use table_notes::clear;
 use table_notes::clear_far;
 use table_words::capacity_word;
@@ -58,8 +58,10 @@ fn rest_result(
         let next = operands_at(t, f, n, k, ops, 0);
         return rest_result(t, s, o, f, n, k + 1, next);
     }
-    let memo = recall_in(t, s, o, n, k, ops);
-    if let Memo::Known(x) = memo {
+    let key = key_of(k, ops);
+    let words = n + 1;
+    let memo = recall_in(t, s, o, &key[0..words]);
+    if let Memo::Known(x, _) = memo {
         return Answer::Is(x);
     }
     let filled = fill_branches(t, s, o, f, n, k, ops);
@@ -68,7 +70,7 @@ fn rest_result(
         let Answer::Is(x) = make_in(t, k, list) else {
             return Answer::NoRoom;
         };
-        remember_in(t, s, o, n, k, ops, x);
+        remember_in(t, s, o, &key[0..words], x, 0);
         return Answer::Is(x);
     }
     Answer::NoRoom

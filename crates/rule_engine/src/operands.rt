@@ -1,7 +1,8 @@
-// The operands of a joint rule at a feature.
+// The operands of a joint rule at a feature, and the key that its result is remembered under.
 use rule_notes::child_in;
 use rule_notes::top_in;
 use table_words::features_word;
+use table_words::narrow;
 use table_words::wide;
 ghost use mathlib.Core.Path.{_≡_};
 ghost use Prim.Native.Nat.{ℕ, _+_, _≤_, _<_};
@@ -9,6 +10,7 @@ ghost use lib.ListN.{getD};
 ghost use Rattle.table_records.specs.Laid.{Laid};
 ghost use Rattle.table_notes.specs.Plain.{plain};
 ghost use Rattle.rule_engine.specs.Joint.{turn, Operands, Next, Lowest};
+ghost use Rattle.rule_engine.specs.Memory.{Keyed};
 ghost use Rattle.promises.specs.Words.{features, size, count};
 
 // The lower of two features.
@@ -51,4 +53,19 @@ pub fn operands_at(t: &[u32], f: usize, n: usize, k: usize, ops: [u32; 9], v: us
         j += 1;
     }
     next
+}
+
+// The key of all nine operands from feature k on: a walk over n of them lends its first n + 1 words.
+pub fn key_of(k: usize, ops: [u32; 9]) -> [u32; 10]
+    requires { ⌜ k < 16 ⌝ }
+    ensures { λ r. ⌜ Keyed 9 k ops r ⌝ }
+{
+    let mut key = [0u32; 10];
+    key[0] = narrow(k + 1);
+    let mut j: usize = 0;
+    while j < 9 {
+        key[1 + j] = ops[j];
+        j += 1;
+    }
+    key
 }

@@ -1,9 +1,4 @@
 // Words of a call's own in the far records of a table, which are 0 at rest: the words without them, and how they are taken away.
-mod slots; // slots.rt: which entries a result is remembered in
-
-pub use slots::mixed;
-pub use slots::slot_after;
-pub use slots::slot_at;
 use table_words::RECORDS;
 use table_words::capacity_word;
 use table_words::wide;

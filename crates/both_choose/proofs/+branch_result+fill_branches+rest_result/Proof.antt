@@ -345,8 +345,8 @@ rest-result-returns-3 t c =
     let a = c11 .before .before .before .before in
     let p = a .pre .1 in
     let hk = still-left _ _ _ _ _ _ _ (p .0) (sure-not (c10 .if1 .left) (c11 .is-number .ensures)) in (
-      hit _ _ (c6 .tag-of .result) (a .args .k) (a .args .b) (a .args .x) (a .args .y) (a .args .d) (memory (a .args .t .now) (a .args .s .now)) _ _ _ (p .0)
-          (omega (arith, p .0 .holds .laid .laid .few)) (c6 .tag-of .ensures) (p .1 .right) (c .before .before .before .recall-in .ensures) (c .before .memo .given .1),
+      hit _ _ (a .args .k) (a .args .b) (memory (a .args .t .now) (a .args .s .now)) _ _ _ _ (p .0) (omega (arith, p .0 .holds .laid .laid .few)) (c6 .tag-of .ensures) refl (p .1 .right)
+          (c .before .before .before .recall-in .ensures) (c .before .memo .given .1),
       p .1,
     )
 
@@ -416,12 +416,11 @@ rest-result-returns-5 t c =
     let q = c8 .z .given .1 in
     let f = c21 .fill-branches in
     let m = c12 .make-in in
-    let u = c29 .tag-of in
     let re = gives-is q (fill-make (plain (a .args .t .now)) (a .args .k) g (p .holds) hk _ _ _ _ (m .result) fl (m .ensures .0)) in
     let nm = noted-made _ _ _ (a .args .k) (f .result .goes) (f .result .adds) _ _ _ _ (fl .filled .grown .well) (m .ensures) q (still-if _ _ _ _ (c16 .if3 .taken) (f .ensures .1)) in (
       subst (λ (w : List ℕ). Result (plain (a .args .t .now)) w (a .args .k) g (Is (c8 .z .given .0 .0) (c8 .z .given .0 .1 .0))) (sym (c .before .before .before .before .remember-in .ensures .0)) re,
-      noted-stored _ (a .args .t .now) _ _ _ _ (u .result) (a .args .k) (a .args .b) (a .args .x) (a .args .y) (a .args .d) _ _ p (omega (arith, p .holds .laid .laid .few))
-          (u .ensures) nm (c .before .before .before .before .remember-in .ensures) re,
+      noted-stored _ (a .args .t .now) _ _ _ _ (a .args .k) (a .args .b) _ _ _ p (omega (arith, p .holds .laid .laid .few)) (c29 .tag-of .ensures) refl nm
+          (c .before .before .before .before .remember-in .ensures) re,
     )
 
 rest-result-returns-6 : (t : ℕ) → rest-result-lts.Need-returns-6 (rest-result-claims t) (rest-result-at t) rest-result.Post

@@ -1,6 +1,6 @@
 -- `both_choose::choose_in` meets its contract: at rest, with an emptied scratch, nothing is remembered, and with no difference the choice is that of the two costs. Assumes nothing.
 use Rattle.both_choose.proofs.Walking.{start, choice-start, choosable-plain, choice-cleared}
-use Rattle.cost_notes.proofs.Remembering.{noted-none}
+use Rattle.table_memory.proofs.Remembering.{noted-none}
 use Rattle.cost_words.proofs.Packing.{int-zero}
 use Rattle.table_notes.proofs.Alike.{grown-roomy}
 use borrow.Author.Needs.{needs}

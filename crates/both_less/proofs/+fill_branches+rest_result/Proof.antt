@@ -5,7 +5,7 @@ use native.Mathlib.Omega.{arith}
 use lib.IntN.{pos}
 use lib.ListN.{length, getD-replicate}
 use lib.Signed.{ltZ}
-use Rattle.cost_memory.specs.Memory.{Remembers}
+use Rattle.table_memory.specs.Memory.{Remembers}
 use Rattle.cost_nodes.specs.Nodes.{top}
 use Rattle.cost_nodes.proofs.Stepping.{good-small}
 use Rattle.rule_lending.specs.Building.{Filling}
@@ -25,8 +25,8 @@ use Rattle.both_less.proofs.+fill_branches+rest_result.Lts-fill_branche
 use Rattle.both_less.proofs.rest_result.Reads as rest-result
 use Rattle.both_less.proofs.rest_result.Kinds as rest-result-kinds
 use Rattle.both_less.proofs.+fill_branches+rest_result.Lts-rest_result as rest-result-lts
-use Rattle.cost_memory.proofs.recall.Reads as recall-reads
-use Rattle.cost_memory.proofs.remember.Reads as remember-reads
+use Rattle.table_memory.proofs.recall.Reads as recall-reads
+use Rattle.table_memory.proofs.remember.Reads as remember-reads
 use Rattle.cost_nodes.proofs.arm_at.Reads as arm-at-reads
 use Rattle.cost_nodes.proofs.top_of.Reads as top-of-reads
 use Rattle.cost_words.proofs.difference_word.Reads as difference-word-reads
@@ -69,7 +69,7 @@ rest-result-below t =
     and 3 rest-result-kinds.ps (falls 3 rest-result-kinds.ps _<_ μ-rest-result t) rest-result.Pre
 
 abbrev fill-branches-Inv-loop : fill-branches-lts.InvT-loop
-fill-branches-Inv-loop c t₀ s₀ k x y d m list₀ v₀ t s list v = (m ≡ size t₀ k) × (m ≡ size c k) × (v ≤ m) × Filling t₀ t k (lessFrom c k x y d) v list × Remembers
+fill-branches-Inv-loop c t₀ s₀ k x y d m list₀ v₀ t s list v = (m ≡ size t₀ k) × (m ≡ size c k) × (v ≤ m) × Filling t₀ t k (lessFrom c k x y d) v list × Remembers 4
     (Recalled c t) s × (length t ≡ length t₀) × (length s ≡ length s₀)
 
 abbrev fill-branches-μ-loop : fill-branches-lts.MeasureT-loop
@@ -266,61 +266,59 @@ rest-result-narrow-requires t c κs = let a = (c .before .before .before .before
 
 rest-result-returns-3 : (t : ℕ) → rest-result-lts.Need-returns-3 (rest-result-claims t) (rest-result-at t) rest-result.Post
 rest-result-returns-3 t c =
-    let a = c .before .before .before .before .before .before .before .before .before .before .before .before in (
-      hit _ _ (a .args .k) (a .args .x) (a .args .y) (a .args .d) (a .args .s .now) _ _ _ _ (c .before .before .before .before .before .narrow .ensures) (a .pre .1 .2)
-          (c .before .before .before .recall .ensures) (c .before .memo .given .1),
-      a .pre .1 .2,
-    )
+    let c6 = c .before .before .before .before .before .before in let a = c6 .before .before .before .before .before .before .before in
+    (hit _ _ (a .args .k) _ (c6 .narrow .ensures) refl (a .args .s .now) _ _ _ (a .pre .1 .2) (c .before .before .before .recall .ensures) (c .before .memo .given .1), a .pre .1 .2)
 
 rest-result-fill-branches-requires : (t : ℕ) → rest-result-lts.Need-fill-branches-requires (rest-result-claims t) (rest-result-at t) rest-result.Post
-rest-result-fill-branches-requires t c κs = let a = (c .before .before .before .before .before .before .before .before .before .before .before .before .before) in
-    let hk = still-left _ _ _ _ _ (a .pre .1 .0) ((c .before .before .before .before .before .before .before .before .before .if1) .left) in
+rest-result-fill-branches-requires t c κs = let a = c .before .before .before .before .before .before .before .before .before .before .before .before .before .before in
+    let hk = still-left _ _ _ _ _ (a .pre .1 .0) ((c .before .before .before .before .before .before .before .before .before .before .if1) .left) in
     (omega arith, (a .pre .1 .0, a .pre .1 .1, a .pre .1 .2, hk))
 
 rest-result-make-requires : (t : ℕ) → rest-result-lts.Need-make-requires (rest-result-claims t) (rest-result-at t) rest-result.Post
 rest-result-make-requires t c κs =
-    let c7 = c .before .before .before .before .before .before .before in let c17 = c7 .before .before .before .before .before .before .before .before .before .before in
-    let a = c17 .before .before .before .before in
-    let hk = still-left _ _ _ _ _ (a .pre .1 .0) (c17 .if1 .left) in
+    let c7 = c .before .before .before .before .before .before .before in
+    let c18 = c7 .before .before .before .before .before .before .before .before .before .before .before in let a = c18 .before .before .before .before in
+    let hk = still-left _ _ _ _ _ (a .pre .1 .0) (c18 .if1 .left) in
     let n = as-long _ _ (a .pre .1 .1 .same) in
     fill-listed (a .pre .1 .1 .ready) (omega arith) (filled (c7 .fill-branches .result .list) (c .before .before .if4 .taken) (c7 .fill-branches .ensures .0))
 
 rest-result-returns-4 : (t : ℕ) → rest-result-lts.Need-returns-4 (rest-result-claims t) (rest-result-at t) rest-result.Post
 rest-result-returns-4 t c =
     let c7 = c .before .before .before .before .before .before .before in let c12 = c7 .before .before .before .before .before in
-    let c22 = c12 .before .before .before .before .before .before .before .before .before .before in let a = c22 .before .before .before .before in
-    let hk = still-left _ _ _ _ _ (a .pre .1 .0) (c22 .if1 .left) in
+    let c23 = c12 .before .before .before .before .before .before .before .before .before .before .before in let a = c23 .before .before .before .before in
+    let hk = still-left _ _ _ _ _ (a .pre .1 .0) (c23 .if1 .left) in
     let n = as-long _ _ (a .pre .1 .1 .same) in
     let fl = filled (c12 .fill-branches .result .list) (c7 .if4 .taken) (c12 .fill-branches .ensures .0) in
     (result-none (c .enum-told2 .given .1) (fill-make (a .pre .1 .1 .ready) (omega arith) (c .before .before .before .before .make .result) fl (c .before .before .before .before .make .ensures)), tt)
 
 rest-result-remember-requires : (t : ℕ) → rest-result-lts.Need-remember-requires (rest-result-claims t) (rest-result-at t) rest-result.Post
 rest-result-remember-requires t c κs =
-    let c21 = c .before .before .before .before .before .before .before .before .before .before .before .before .before .before .before .before .before .before .before .before .before in
-    omega (arith, c21 .narrow .ensures)
+    let c20 = c .before .before .before .before .before .before .before .before .before .before .before .before .before .before .before .before .before .before .before .before in
+    let c23 = c20 .before .before .before in
+    omega (arith, c23 .narrow .ensures)
 
 rest-result-returns-5 : (t : ℕ) → rest-result-lts.Need-returns-5 (rest-result-claims t) (rest-result-at t) rest-result.Post
 rest-result-returns-5 t c =
-    let c9 = c .before .before .before .before .before .before .before .before .before in let c12 = c9 .before .before .before in
-    let c17 = c12 .before .before .before .before .before in let c24 = c17 .before .before .before .before .before .before .before in let c27 = c24 .before .before .before in
-    let a = c27 .before .before .before .before in
-    let hk = still-left _ _ _ _ _ (a .pre .1 .0) (c27 .if1 .left) in
+    let c6 = c .before .before .before .before .before .before in let c10 = c6 .before .before .before .before in let c13 = c10 .before .before .before in
+    let c18 = c13 .before .before .before .before .before in let c26 = c18 .before .before .before .before .before .before .before .before in
+    let c29 = c26 .before .before .before in let a = c29 .before .before .before .before in
+    let hk = still-left _ _ _ _ _ (a .pre .1 .0) (c29 .if1 .left) in
     let n = as-long _ _ (a .pre .1 .1 .same) in
-    let fl = filled (c17 .fill-branches .result .list) (c12 .if4 .taken) (c17 .fill-branches .ensures .0) in
-    let q = c .before .before .before .before .before .z .given .1 in
-    let re = result-is q (fill-make (a .pre .1 .1 .ready) (omega arith) (c9 .make .result) fl (c9 .make .ensures)) in
-    let so = still-if _ _ _ _ (c12 .if4 .taken) (c17 .fill-branches .ensures .1) in (
+    let fl = filled (c18 .fill-branches .result .list) (c13 .if4 .taken) (c18 .fill-branches .ensures .0) in
+    let q = c6 .z .given .1 in
+    let re = result-is q (fill-make (a .pre .1 .1 .ready) (omega arith) (c10 .make .result) fl (c10 .make .ensures)) in
+    let so = still-if _ _ _ _ (c13 .if4 .taken) (c18 .fill-branches .ensures .1) in (
       re,
-      remembers-result _ _ _ (a .args .k) (a .args .x) (a .args .y) (a .args .d) _ _ _ _ (a .pre .1 .1 .ready) (c24 .narrow .ensures) re
-          (remembers-made _ _ _ (a .args .k) (c17 .fill-branches .result .list) (c9 .make .result) (c .before .before .before .before .before .z .given .0 .0) _
-          (filling-ready fl) (c9 .make .ensures) q so) (c .before .before .remember .ensures),
+      remembers-result _ _ (a .args .k) _ (c26 .narrow .ensures) refl _ _ _ _ (a .pre .1 .1 .ready) re
+          (remembers-made _ _ _ (a .args .k) (c18 .fill-branches .result .list) (c10 .make .result) (c6 .z .given .0 .0) _ (filling-ready fl) (c10 .make .ensures) q so)
+          (c .before .before .remember .ensures),
     )
 
 rest-result-returns-6 : (t : ℕ) → rest-result-lts.Need-returns-6 (rest-result-claims t) (rest-result-at t) rest-result.Post
 rest-result-returns-6 t c =
-    let c15 = c .before .before .before .before .before .before .before .before .before .before .before .before .before .before .before in
-    let a = c15 .before .before .before .before in
-    let hk = still-left _ _ _ _ _ (a .pre .1 .0) (c15 .if1 .left) in
+    let c16 = c .before .before .before .before .before .before .before .before .before .before .before .before .before .before .before .before in
+    let a = c16 .before .before .before .before in
+    let hk = still-left _ _ _ _ _ (a .pre .1 .0) (c16 .if1 .left) in
     let n = as-long _ _ (a .pre .1 .1 .same) in (
       stop-result (a .pre .1 .1 .ready) (omega arith) (not-filled (c .before .before .before .before .before .fill-branches .result .list) (c .if4 .left)
           (c .before .before .before .before .before .fill-branches .ensures .0)),
@@ -370,6 +368,7 @@ pub +fill-branches+rest-result-spec : {M : Type 1} → statement M
     (rest-result-returns-2 t)
     (rest-result-add-narrow t)
     (rest-result-narrow-requires t)
+    (λ c. search needs)
     (λ c κs. search needs)
     (λ c. search needs)
     (λ c. search needs)
@@ -382,6 +381,7 @@ pub +fill-branches+rest-result-spec : {M : Type 1} → statement M
     (λ c. search needs)
     (λ c. search needs)
     (rest-result-returns-4 t)
+    (λ c. search needs)
     (rest-result-remember-requires t)
     (λ c. search needs)
     (λ c. search needs)

@@ -1,5 +1,5 @@
 -- `both_less::below` meets its contract: own words and an emptied memory are right, and with the difference of the bases the rule is that of the two costs. Assumes nothing.
-use Rattle.cost_memory.proofs.Remembering.{remembers-none, remembers-fresh}
+use Rattle.table_memory.proofs.Remembering.{remembers-none, remembers-fresh}
 use Rattle.both_less.proofs.Walking.{start-fits, start, less-start}
 use borrow.Author.Needs.{needs}
 use Rattle.both_less.proofs.below.Statement.{statement}

@@ -1,6 +1,5 @@
 -- `cost_engine::rest_result`, `fill_branches` and `branch_result` meet their contracts: the remaining features fall; the first v branches are filled, and the memory is right for
 -- the table so far. Assumes nothing.
-use Rattle.cost_memory.proofs.Remembering.{hit}
 use mathlib.Core.Path.{_≡_, refl, sym, subst, _∙_}
 use mathlib.Core.List.{List}
 use Prim.Native.Nat.{ℕ, _+_, _-_, _*_, _≤_, _<_}
@@ -16,8 +15,7 @@ use Rattle.cost_nodes.specs.declared.Answer.the-variants.{Is}
 use Rattle.cost_nodes.proofs.Reading.{holds-passed}
 use Rattle.cost_nodes.proofs.Filling.{gives-is, gives-none, fill-start, fill-more, fill-stop, stop-result, fill-armed, fill-near, fill-sums, filling-narrow, fill-make, filled, not-filled, filling-ext}
 use Rattle.cost_nodes.proofs.Stepping.{good-small}
-use Rattle.table_notes.specs.Far.{memory}
-use Rattle.cost_notes.proofs.Remembering.{noted-stored}
+use Rattle.table_memory.proofs.Remembering.{noted-hit, noted-stored}
 use Rattle.cost_notes.proofs.Reading.{plain-head}
 use Rattle.cost_engine.specs.Joint.{jointFrom, Operands}
 use Rattle.cost_engine.specs.Memory.{Noted}
@@ -324,9 +322,9 @@ rest-result-recall-in-requires t c κs = (c .before .before .before .before .bef
 rest-result-returns-3 : (t : ℕ) → rest-result-lts.Need-returns-3 (rest-result-claims t) (rest-result-at t) rest-result.Post
 rest-result-returns-3 t c =
     let c6 = c .before .before .before .before .before .before in let a = c6 .before .before .before .before .before .before .before .before in
-    let h = hit (memory (a .args .t .now) (a .args .s .now)) (c6 .narrow .result) (a .args .x) (a .args .y) (a .args .d) _ _ _ (a .pre .1 .1 .right)
-    (c .before .before .before .recall-in .ensures) (c .before .memo .given .1) (omega (arith, c6 .narrow .ensures)) in
-    (recalled-result _ _ (c6 .narrow .result) (a .args .k) _ _ (a .args .d) _ _ (a .pre .1 .0) (c6 .narrow .ensures) h, a .pre .1 .1)
+    let h = noted-hit (a .args .t .now) (a .args .s .now) _ _ _ _ refl (a .pre .1 .1) (c .before .before .before .recall-in .ensures) (c .before .memo .given .1)
+    (omega (arith, c6 .narrow .ensures)) in
+    (recalled-result _ _ (a .args .k) _ _ _ (a .pre .1 .0) (c6 .narrow .ensures) h, a .pre .1 .1)
 
 rest-result-fill-branches-requires : (t : ℕ) → rest-result-lts.Need-fill-branches-requires (rest-result-claims t) (rest-result-at t) rest-result.Post
 rest-result-fill-branches-requires t c κs = let a = (c .before .before .before .before .before .before .before .before .before .before .before .before .before .before .before) in
@@ -385,10 +383,9 @@ rest-result-returns-5 t c =
     let re = gives-is q (fill-make (plain (a .args .t .now)) (a .args .k) g (a .pre .1 .0 .holds) hk _ _ _ _ (c12 .make-in .result) fl (c12 .make-in .ensures .0)) in
     let nm = noted-made _ _ (a .args .k) (c21 .fill-branches .result .goes) (c21 .fill-branches .result .adds) _ _ _ _ _ (fl .filled .grown .well) (c12 .make-in .ensures) q
     (still-if _ _ _ _ (c16 .if3 .taken) (c21 .fill-branches .ensures .1)) in (
-      subst (λ (u : List ℕ). Result (plain (a .args .t .now)) u (a .args .k) (jointFrom (a .args .o) (nodes (plain (a .args .t .now))) (a .args .k) (target (a .args .x))
-          (target (a .args .y)) (int (a .args .d))) (Is (c8 .z .given .0 .0) (c8 .z .given .0 .1 .0))) (sym (c .before .before .before .before .remember-in .ensures .0)) re,
-      noted-stored _ _ _ _ (c29 .narrow .result) (a .args .x) (a .args .y) (a .args .d) _ _ nm (c .before .before .before .before .remember-in .ensures)
-          (right-here _ _ (c29 .narrow .result) (a .args .k) _ _ (a .args .d) _ _ (c29 .narrow .ensures) (result-recalled _ _ _ (a .args .k) _ _ (a .args .d) _ _ (a .pre .1 .0) re)),
+      subst (λ (u : List ℕ). Result (plain (a .args .t .now)) u (a .args .k) g (Is (c8 .z .given .0 .0) (c8 .z .given .0 .1 .0))) (sym (c .before .before .before .before .remember-in .ensures .0)) re,
+      noted-stored _ _ _ _ _ _ _ refl nm (c .before .before .before .before .remember-in .ensures)
+          (right-here _ _ (a .args .k) _ _ _ (c29 .narrow .ensures) (result-recalled _ _ _ (a .args .k) _ _ (a .args .d) _ _ (a .pre .1 .0) re)),
     )
 
 rest-result-returns-6 : (t : ℕ) → rest-result-lts.Need-returns-6 (rest-result-claims t) (rest-result-at t) rest-result.Post

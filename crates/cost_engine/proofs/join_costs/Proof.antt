@@ -1,7 +1,7 @@
 -- `cost_engine::join_costs` meets its contract: at rest, with an emptied scratch, nothing is remembered, and with no difference the joint cost is that of the two. Assumes nothing.
 use Rattle.table_notes.proofs.Alike.{grown-roomy}
 use Rattle.cost_words.proofs.Packing.{int-zero}
-use Rattle.cost_notes.proofs.Remembering.{noted-none}
+use Rattle.table_memory.proofs.Remembering.{noted-none}
 use Rattle.cost_engine.proofs.Walking.{start, joint-start, joinable-plain, joint-cleared}
 use borrow.Author.Needs.{needs}
 use Rattle.cost_engine.proofs.join_costs.Statement.{statement}

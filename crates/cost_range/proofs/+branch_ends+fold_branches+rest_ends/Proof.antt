@@ -11,7 +11,7 @@ use Rattle.cost_range.specs.Ends.{ofTargets, Folded, Noted}
 use Rattle.cost_range.specs.declared.Ends.the-variants.{Are, Lost}
 use Rattle.cost_range.proofs.Ending.{ends-are, ends-lost, folded-none, folded-more}
 use Rattle.cost_range.proofs.Noting.{noted-more, features-over, first-over, second-over, step-over, branches-over}
-use Rattle.cost_notes.proofs.Remembering.{noted-hit}
+use Rattle.table_memory.proofs.Remembering.{noted-hit}
 use Rattle.cost_range.proofs.Walking.{pair-left, pair-from, pair-jump, all-folded, one-lost, reaches-jump, base-lost, rest-lost, low-lost, high-lost, both-stand, right-here}
 use Rattle.cost_range.proofs.Meeting.{first-ended, second-ended}
 use borrow.Author.Needs.{needs}
@@ -303,8 +303,8 @@ rest-ends-returns-3 t c =
     let j = m .result in
     let hj = pair-left _ _ _ _ p j (m .ensures .0) (m .ensures .1) (c11 .if1 .left) in
     let kj = pair-from _ _ _ _ p j (m .ensures .0) (m .ensures .1) (m .ensures .2) in
-    let h = noted-hit (a .args .t .now) (a .args .s .now) (c6 .narrow .result) (a .args .x) (a .args .y) 0 _ _ _ (a .pre .1 .1) (c .before .before .before .recall-in .ensures)
-    (c .before .memo .given .1) (omega (arith, c6 .narrow .ensures)) in
+    let h = noted-hit (a .args .t .now) (a .args .s .now) _ _ _ _ refl (a .pre .1 .1) (c .before .before .before .recall-in .ensures) (c .before .memo .given .1)
+    (omega (arith, c6 .narrow .ensures)) in
     (reaches-jump _ _ _ _ p (a .args .minus) j (m .ensures .0) (m .ensures .1) kj hj (Are _ _) (h .at j (c6 .narrow .ensures)), refl, a .pre .1 .1)
 
 rest-ends-fold-branches-requires : (t : ℕ) → rest-ends-lts.Need-fold-branches-requires (rest-ends-claims t) (rest-ends-at t) rest-ends.Post
@@ -346,8 +346,7 @@ rest-ends-returns-5 t c =
     let q = ends-are (z .result) (c8 .l .given .1) (z .ensures .0) in (
       reaches-jump _ _ _ _ p (a .args .minus) j (m .ensures .0) (m .ensures .1) kj hj (Are _ _) q,
       u .ensures .0 ∙ z .ensures .1,
-      noted-more (a .args .minus) _ _ _ _ _ (c22 .narrow .result) (a .args .x) (a .args .y) 0 _ _ (z .ensures .1) (u .ensures .0) (z .ensures .2) (u .ensures .1)
-          (right-here (a .args .minus) _ (c22 .narrow .result) j _ _ 0 _ _ (c22 .narrow .ensures) q),
+      noted-more (a .args .minus) _ _ _ _ _ _ _ _ refl (z .ensures .1) (u .ensures .0) (z .ensures .2) (u .ensures .1) (right-here (a .args .minus) _ j _ _ _ (c22 .narrow .ensures) q),
     )
 
 pub +branch-ends+fold-branches+rest-ends-spec : {M : Type 1} → statement M

@@ -1,5 +1,5 @@
 -- `cost_range::whole_ends` meets its contract: at rest, with an emptied scratch, nothing is remembered, and the notes are taken away. Assumes nothing.
-use Rattle.cost_notes.proofs.Remembering.{noted-none}
+use Rattle.table_memory.proofs.Remembering.{noted-none}
 use Rattle.cost_range.proofs.Noting.{rest-pair, rest-again, rest-reaches}
 use borrow.Author.Needs.{needs}
 use Rattle.cost_range.proofs.whole_ends.Statement.{statement}

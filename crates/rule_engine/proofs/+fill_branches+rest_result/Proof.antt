@@ -1,6 +1,7 @@
 -- `rule_engine::rest_result` and `fill_branches` meet their contracts: the remaining features fall; the first v branches are filled, and the memory is right for the table so far. Assumes nothing.
-use Rattle.rule_engine.proofs.Recalling.{hit, result-recalled, still, still-if}
-use Rattle.rule_engine.proofs.Noting.{plain-features, noted-made, noted-stored}
+use Rattle.table_memory.proofs.Remembering.{noted-stored}
+use Rattle.rule_engine.proofs.Recalling.{key-part, right-here, hit, result-recalled, still, still-if}
+use Rattle.rule_engine.proofs.Noting.{plain-features, noted-made}
 use Rattle.rule_engine.proofs.Joining.{joint-held, operands-next, operands-skip, operands-ext, joint-skip, joint-forget, joint-phrases, joint-short, still-left}
 use Rattle.rule_engine.specs.Memory.{Noted}
 use Rattle.rule_engine.specs.Joint.{joint}
@@ -27,8 +28,9 @@ use Rattle.rule_engine.proofs.+fill_branches+rest_result.Lts-fill_branc
 use Rattle.rule_engine.proofs.rest_result.Reads as rest-result
 use Rattle.rule_engine.proofs.rest_result.Kinds as rest-result-kinds
 use Rattle.rule_engine.proofs.+fill_branches+rest_result.Lts-rest_result as rest-result-lts
-use Rattle.rule_engine.proofs.memory.recall_in.Reads as recall-in-reads
-use Rattle.rule_engine.proofs.memory.remember_in.Reads as remember-in-reads
+use Rattle.table_memory.proofs.recall_in.Reads as recall-in-reads
+use Rattle.table_memory.proofs.remember_in.Reads as remember-in-reads
+use Rattle.rule_engine.proofs.operands.key_of.Reads as key-of-reads
 use Rattle.rule_engine.proofs.operands.lowest.Reads as lowest-reads
 use Rattle.rule_engine.proofs.operands.operands_at.Reads as operands-at-reads
 use Rattle.rule_operators.proofs.combine.Reads as combine-reads
@@ -93,6 +95,8 @@ rest-result-claims t = (
   rest-result.Post,
   operands-at-reads.Asked,
   operands-at-reads.Learnt,
+  key-of-reads.Asked,
+  key-of-reads.Learnt,
   recall-in-reads.Asked,
   recall-in-reads.Learnt,
   fill-branches-below t,
@@ -251,35 +255,41 @@ rest-result-returns-4 t c =
       c .before .before .before .before .rest-result2 .ensures .1,
     )
 
+rest-result-key-of-requires : (t : ℕ) → rest-result-lts.Need-key-of-requires (rest-result-claims t) (rest-result-at t) rest-result.Post
+rest-result-key-of-requires t c κs =
+    let c6 = c .before .before .before .before .before .before in let a = c6 .before .before .before .before .before .before in
+    let hk = still-left (plain (a .args .t .now)) (a .args .f) (a .args .n) (a .args .k) (c6 .lowest .result) _ (a .args .t7) (a .pre .1 .0) (c6 .lowest .ensures)
+    (c .before .before .before .wide .ensures .0 ∙ c .before .before .before .before .features-word .ensures ∙ plain-features (a .args .t .now)) (c .before .before .if2 .left) in
+    omega (arith, a .pre .1 .0 .holds .laid .laid .few)
+
 rest-result-recall-in-requires : (t : ℕ) → rest-result-lts.Need-recall-in-requires (rest-result-claims t) (rest-result-at t) rest-result.Post
-rest-result-recall-in-requires t c κs =
-    let c6 = c .before .before .before .before .before .before in let c8 = c6 .before .before in let a = c8 .before .before .before .before .before .before in
-    let hk = still-left (plain (a .args .t .now)) (a .args .f) (a .args .n) (a .args .k) (c8 .lowest .result) _ (a .args .t7) (a .pre .1 .0) (c8 .lowest .ensures)
-    (c .before .before .before .before .before .wide .ensures .0 ∙ c6 .features-word .ensures ∙ plain-features (a .args .t .now)) (c .before .before .before .before .if2 .left) in
-    (a .pre .1 .1 .room, a .pre .1 .0 .nine, omega (arith, a .pre .1 .0 .holds .laid .laid .few))
+rest-result-recall-in-requires t c κs = (c .before .before .before .before .before .before .before .before .before .before .before .before .before .before .before .before .before) .pre .1 .1 .room
 
 rest-result-returns-5 : (t : ℕ) → rest-result-lts.Need-returns-5 (rest-result-claims t) (rest-result-at t) rest-result.Post
 rest-result-returns-5 t c =
-    let a = c .before .before .before .before .before .before .before .before .before .before .before .before .before .before .before .before .before .before in (
-      hit _ _ _ _ (a .args .k) (a .args .t7) (memory (a .args .t .now) (a .args .s .now)) _ _ (a .pre .1 .0) (a .pre .1 .1 .right)
+    let c8 = c .before .before .before .before .before .before .before .before in
+    let a = c8 .before .before .before .before .before .before .before .before .before .before .before .before .before in
+    let q = key-part (a .args .n) (a .args .k) (a .args .t7) (c8 .key-of .result) (a .pre .1 .0 .nine) (c8 .key-of .ensures) in (
+      hit _ _ _ _ (a .args .k) (a .args .t7) _ q (memory (a .args .t .now) (a .args .s .now)) _ _ _ (a .pre .1 .0) (a .pre .1 .1 .right)
           (c .before .before .before .recall-in .ensures) (c .before .memo .given .1),
       a .pre .1 .1,
     )
 
 rest-result-fill-branches-requires : (t : ℕ) → rest-result-lts.Need-fill-branches-requires (rest-result-claims t) (rest-result-at t) rest-result.Post
 rest-result-fill-branches-requires t c κs =
-    let c9 = c .before .before .before .before .before .before .before .before .before in let c10 = c9 .before in let c11 = c10 .before in let c13 = c11 .before .before in
-    let a = c13 .before .before .before .before .before .before in
-    let hk = still-left (plain (a .args .t .now)) (a .args .f) (a .args .n) (a .args .k) (c13 .lowest .result) _ (a .args .t7) (a .pre .1 .0) (c13 .lowest .ensures)
-    (c10 .wide .ensures .0 ∙ c11 .features-word .ensures ∙ plain-features (a .args .t .now)) (c9 .if2 .left) in
+    let c12 = c .before .before .before .before .before .before .before .before .before .before .before .before in let c13 = c12 .before in let c14 = c13 .before in
+    let c16 = c14 .before .before in let a = c16 .before .before .before .before .before .before in
+    let hk = still-left (plain (a .args .t .now)) (a .args .f) (a .args .n) (a .args .k) (c16 .lowest .result) _ (a .args .t7) (a .pre .1 .0) (c16 .lowest .ensures)
+    (c13 .wide .ensures .0 ∙ c14 .features-word .ensures ∙ plain-features (a .args .t .now)) (c12 .if2 .left) in
     (omega arith, (a .pre .1 .0, a .pre .1 .1, hk))
 
 rest-result-make-in-requires : (t : ℕ) → rest-result-lts.Need-make-in-requires (rest-result-claims t) (rest-result-at t) rest-result.Post
 rest-result-make-in-requires t c κs =
-    let c7 = c .before .before .before .before .before .before .before in let c17 = c7 .before .before .before .before .before .before .before .before .before .before in
-    let c18 = c17 .before in let c19 = c18 .before in let c21 = c19 .before .before in let a = c21 .before .before .before .before .before .before in
-    let hk = still-left (plain (a .args .t .now)) (a .args .f) (a .args .n) (a .args .k) (c21 .lowest .result) _ (a .args .t7) (a .pre .1 .0) (c21 .lowest .ensures)
-    (c18 .wide .ensures .0 ∙ c19 .features-word .ensures ∙ plain-features (a .args .t .now)) (c17 .if2 .left) in
+    let c7 = c .before .before .before .before .before .before .before in
+    let c20 = c7 .before .before .before .before .before .before .before .before .before .before .before .before .before in let c21 = c20 .before in let c22 = c21 .before in
+    let c24 = c22 .before .before in let a = c24 .before .before .before .before .before .before in
+    let hk = still-left (plain (a .args .t .now)) (a .args .f) (a .args .n) (a .args .k) (c24 .lowest .result) _ (a .args .t7) (a .pre .1 .0) (c24 .lowest .ensures)
+    (c21 .wide .ensures .0 ∙ c22 .features-word .ensures ∙ plain-features (a .args .t .now)) (c20 .if2 .left) in
     let fl = filled (plain (a .args .t .now)) _ (a .args .k) (joint (plain (a .args .t .now)) (a .args .o) (a .args .f) (a .args .n) (a .args .k) (a .args .t7)) _ _
     (c .before .before .if5 .taken) (c7 .fill-branches .ensures .0) in (
       still-if _ _ _ _ _ _ (c .before .before .if5 .taken) (c7 .fill-branches .ensures .1) .room,
@@ -292,10 +302,10 @@ rest-result-make-in-requires t c κs =
 rest-result-returns-6 : (t : ℕ) → rest-result-lts.Need-returns-6 (rest-result-claims t) (rest-result-at t) rest-result.Post
 rest-result-returns-6 t c =
     let c7 = c .before .before .before .before .before .before .before in let c12 = c7 .before .before .before .before .before in
-    let c22 = c12 .before .before .before .before .before .before .before .before .before .before in let c23 = c22 .before in let c24 = c23 .before in
-    let c26 = c24 .before .before in let a = c26 .before .before .before .before .before .before in
-    let hk = still-left (plain (a .args .t .now)) (a .args .f) (a .args .n) (a .args .k) (c26 .lowest .result) _ (a .args .t7) (a .pre .1 .0) (c26 .lowest .ensures)
-    (c23 .wide .ensures .0 ∙ c24 .features-word .ensures ∙ plain-features (a .args .t .now)) (c22 .if2 .left) in
+    let c25 = c12 .before .before .before .before .before .before .before .before .before .before .before .before .before in let c26 = c25 .before in let c27 = c26 .before in
+    let c29 = c27 .before .before in let a = c29 .before .before .before .before .before .before in
+    let hk = still-left (plain (a .args .t .now)) (a .args .f) (a .args .n) (a .args .k) (c29 .lowest .result) _ (a .args .t7) (a .pre .1 .0) (c29 .lowest .ensures)
+    (c26 .wide .ensures .0 ∙ c27 .features-word .ensures ∙ plain-features (a .args .t .now)) (c25 .if2 .left) in
     let fl = filled (plain (a .args .t .now)) _ (a .args .k) (joint (plain (a .args .t .now)) (a .args .o) (a .args .f) (a .args .n) (a .args .k) (a .args .t7)) _ _
     (c7 .if5 .taken) (c12 .fill-branches .ensures .0) in (
       gives-none (c .enum-told2 .given .1) (fill-make (plain (a .args .t .now)) (a .args .k)
@@ -304,50 +314,56 @@ rest-result-returns-6 t c =
       tt,
     )
 
+rest-result-part-remember-in-end : (t : ℕ) → rest-result-lts.Need-part-remember-in-end (rest-result-claims t) (rest-result-at t) rest-result.Post
+rest-result-part-remember-in-end t c =
+    let c20 = c .before .before .before .before .before .before .before .before .before .before .before .before .before .before .before .before .before .before .before .before in
+    let c39 = c20 .before .before .before .before .before .before .before .before .before .before .before .before .before .before .before .before .before .before .before in
+    omega (arith, c39 .pre .1 .0 .nine)
+
 rest-result-remember-in-requires : (t : ℕ) → rest-result-lts.Need-remember-in-requires (rest-result-claims t) (rest-result-at t) rest-result.Post
 rest-result-remember-in-requires t c κs =
-    let c7 = c .before .before .before .before .before .before .before in let c10 = c7 .before .before .before in let c15 = c10 .before .before .before .before .before in
-    let c25 = c15 .before .before .before .before .before .before .before .before .before .before in let c26 = c25 .before in let c27 = c26 .before in
-    let c29 = c27 .before .before in let a = c29 .before .before .before .before .before .before in
-    let hk = still-left (plain (a .args .t .now)) (a .args .f) (a .args .n) (a .args .k) (c29 .lowest .result) _ (a .args .t7) (a .pre .1 .0) (c29 .lowest .ensures)
-    (c26 .wide .ensures .0 ∙ c27 .features-word .ensures ∙ plain-features (a .args .t .now)) (c25 .if2 .left) in
-    let fb = c15 .fill-branches in
+    let c9 = c .before .before .before .before .before .before .before .before .before in let c12 = c9 .before .before .before in
+    let c17 = c12 .before .before .before .before .before in let c27 = c17 .before .before .before .before .before .before .before .before .before .before in
+    let a = c27 .before .before .before .before .before .before .before .before .before .before .before .before .before in
+    let fb = c17 .fill-branches in
     let fl = filled (plain (a .args .t .now)) _ (a .args .k) (joint (plain (a .args .t .now)) (a .args .o) (a .args .f) (a .args .n) (a .args .k) (a .args .t7)) _ _
-    (c10 .if5 .taken) (fb .ensures .0) in (
-      noted-made _ _ (a .args .k) (fb .result .list) _ (c .before .before .before .x .given .0 .0) (a .args .o) (a .args .f) (a .args .n) _ (fl .filled .grown .well)
-          (c7 .make-in .ensures) (c .before .before .before .x .given .1) (still-if _ _ _ _ _ _ (c10 .if5 .taken) (fb .ensures .1)) .room,
-      a .pre .1 .0 .nine,
-      omega (arith, a .pre .1 .0 .holds .laid .laid .few),
+    (c12 .if5 .taken) (fb .ensures .0) in (
+      noted-made _ _ (a .args .k) (fb .result .list) _ (c .before .before .before .before .before .x .given .0 .0) (a .args .o) (a .args .f) (a .args .n) _ (fl .filled .grown .well)
+          (c9 .make-in .ensures) (c .before .before .before .before .before .x .given .1) (still-if _ _ _ _ _ _ (c12 .if5 .taken) (fb .ensures .1)) .room,
+      omega (arith, key-part (a .args .n) (a .args .k) (a .args .t7) (c27 .key-of .result) (a .pre .1 .0 .nine) (c27 .key-of .ensures) .feature),
     )
 
 rest-result-returns-7 : (t : ℕ) → rest-result-lts.Need-returns-7 (rest-result-claims t) (rest-result-at t) rest-result.Post
 rest-result-returns-7 t c =
-    let c8 = c .before .before .before .before .before .before .before .before in let c12 = c8 .before .before .before .before in let c15 = c12 .before .before .before in
-    let c20 = c15 .before .before .before .before .before in let c30 = c20 .before .before .before .before .before .before .before .before .before .before in
-    let c31 = c30 .before in let c32 = c31 .before in let c34 = c32 .before .before in let a = c34 .before .before .before .before .before .before in
-    let hk = still-left (plain (a .args .t .now)) (a .args .f) (a .args .n) (a .args .k) (c34 .lowest .result) _ (a .args .t7) (a .pre .1 .0) (c34 .lowest .ensures)
-    (c31 .wide .ensures .0 ∙ c32 .features-word .ensures ∙ plain-features (a .args .t .now)) (c30 .if2 .left) in
-    let fb = c20 .fill-branches in
+    let c10 = c .before .before .before .before .before .before .before .before .before .before in let c14 = c10 .before .before .before .before in
+    let c17 = c14 .before .before .before in let c22 = c17 .before .before .before .before .before in
+    let c32 = c22 .before .before .before .before .before .before .before .before .before .before in let c35 = c32 .before .before .before in let c36 = c35 .before in
+    let c37 = c36 .before in let c39 = c37 .before .before in let a = c39 .before .before .before .before .before .before in
+    let hk = still-left (plain (a .args .t .now)) (a .args .f) (a .args .n) (a .args .k) (c39 .lowest .result) _ (a .args .t7) (a .pre .1 .0) (c39 .lowest .ensures)
+    (c36 .wide .ensures .0 ∙ c37 .features-word .ensures ∙ plain-features (a .args .t .now)) (c35 .if2 .left) in
+    let fb = c22 .fill-branches in
     let w = plain (a .args .t .now) in
     let fl = filled (plain (a .args .t .now)) _ (a .args .k) (joint (plain (a .args .t .now)) (a .args .o) (a .args .f) (a .args .n) (a .args .k) (a .args .t7)) _ _
-    (c15 .if5 .taken) (fb .ensures .0) in
-    let q = c8 .x .given .1 in
+    (c17 .if5 .taken) (fb .ensures .0) in
+    let q = c10 .x .given .1 in
     let re = gives-is q (fill-make (plain (a .args .t .now)) (a .args .k) (joint (plain (a .args .t .now)) (a .args .o) (a .args .f) (a .args .n) (a .args .k) (a .args .t7))
-    (a .pre .1 .0 .holds) hk _ _ _ _ fl (c12 .make-in .ensures .0)) in
-    let nm = noted-made _ _ (a .args .k) (fb .result .list) _ (c8 .x .given .0 .0) (a .args .o) (a .args .f) (a .args .n) _ (fl .filled .grown .well) (c12 .make-in .ensures) q
-    (still-if _ _ _ _ _ _ (c15 .if5 .taken) (fb .ensures .1)) in (
-      subst (λ (u : List ℕ). Result w u (a .args .k) (joint w (a .args .o) (a .args .f) (a .args .n) (a .args .k) (a .args .t7)) (Is (c8 .x .given .0 .0)))
+    (a .pre .1 .0 .holds) hk _ _ _ _ fl (c14 .make-in .ensures .0)) in
+    let nm = noted-made _ _ (a .args .k) (fb .result .list) _ (c10 .x .given .0 .0) (a .args .o) (a .args .f) (a .args .n) _ (fl .filled .grown .well) (c14 .make-in .ensures) q
+    (still-if _ _ _ _ _ _ (c17 .if5 .taken) (fb .ensures .1)) in
+    let y = key-part (a .args .n) (a .args .k) (a .args .t7) (c32 .key-of .result) (a .pre .1 .0 .nine) (c32 .key-of .ensures) in (
+      subst (λ (u : List ℕ). Result w u (a .args .k) (joint w (a .args .o) (a .args .f) (a .args .n) (a .args .k) (a .args .t7)) (Is (c10 .x .given .0 .0)))
           (sym (c .before .before .before .before .remember-in .ensures .0)) re,
-      noted-stored _ _ (a .args .o) (a .args .f) (a .args .n) (a .args .k) (a .args .t7) _ _ _ (a .pre .1 .0 .nine) nm
-          (c .before .before .before .before .remember-in .ensures) (result-recalled w _ (a .args .o) (a .args .f) (a .args .n) (a .args .k) _ (a .args .t7) (a .pre .1 .0) re),
+      noted-stored _ _ _ _ _ _ _ (y .long) nm (c .before .before .before .before .remember-in .ensures)
+          (right-here _ (a .args .o) (a .args .f) (a .args .n) (a .args .k) (a .args .t7) _ y _ _
+          (result-recalled w _ (a .args .o) (a .args .f) (a .args .n) (a .args .k) _ (a .args .t7) (a .pre .1 .0) re)),
     )
 
 rest-result-returns-8 : (t : ℕ) → rest-result-lts.Need-returns-8 (rest-result-claims t) (rest-result-at t) rest-result.Post
 rest-result-returns-8 t c =
-    let c15 = c .before .before .before .before .before .before .before .before .before .before .before .before .before .before .before in let c16 = c15 .before in
-    let c17 = c16 .before in let c19 = c17 .before .before in let a = c19 .before .before .before .before .before .before in
-    let hk = still-left (plain (a .args .t .now)) (a .args .f) (a .args .n) (a .args .k) (c19 .lowest .result) _ (a .args .t7) (a .pre .1 .0) (c19 .lowest .ensures)
-    (c16 .wide .ensures .0 ∙ c17 .features-word .ensures ∙ plain-features (a .args .t .now)) (c15 .if2 .left) in (
+    let c18 = c .before .before .before .before .before .before .before .before .before .before .before .before .before .before .before .before .before .before in
+    let c19 = c18 .before in let c20 = c19 .before in let c22 = c20 .before .before in let a = c22 .before .before .before .before .before .before in
+    let hk = still-left (plain (a .args .t .now)) (a .args .f) (a .args .n) (a .args .k) (c22 .lowest .result) _ (a .args .t7) (a .pre .1 .0) (c22 .lowest .ensures)
+    (c19 .wide .ensures .0 ∙ c20 .features-word .ensures ∙ plain-features (a .args .t .now)) (c18 .if2 .left) in (
       stop-result (plain (a .args .t .now)) (a .args .k) (joint (plain (a .args .t .now)) (a .args .o) (a .args .f) (a .args .n) (a .args .k) (a .args .t7))
           (a .pre .1 .0 .holds) hk _ (not-filled (plain (a .args .t .now)) _ (a .args .k)
           (joint (plain (a .args .t .now)) (a .args .o) (a .args .f) (a .args .n) (a .args .k) (a .args .t7)) _ _ (c .if5 .left)
@@ -405,6 +421,11 @@ pub +fill-branches+rest-result-spec : {M : Type 1} → statement M
     (λ c. search needs)
     (λ c. search needs)
     (rest-result-returns-4 t)
+    (rest-result-key-of-requires t)
+    (λ c. search needs)
+    (λ c. search needs)
+    (λ c. search needs)
+    (λ c. search needs)
     (rest-result-recall-in-requires t)
     (λ c. search needs)
     (λ c. search needs)
@@ -418,6 +439,9 @@ pub +fill-branches+rest-result-spec : {M : Type 1} → statement M
     (λ c. search needs)
     (λ c. search needs)
     (rest-result-returns-6 t)
+    (λ c. search needs)
+    (λ c. search needs)
+    (rest-result-part-remember-in-end t)
     (rest-result-remember-in-requires t)
     (λ c. search needs)
     (λ c. search needs)

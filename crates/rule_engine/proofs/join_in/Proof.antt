@@ -1,6 +1,7 @@
 -- `rule_engine::join_in` meets its contract: at rest, with an emptied scratch, nothing is remembered, and the far records are 0 again. Assumes nothing.
 use Rattle.table_notes.proofs.Alike.{grown-roomy}
-use Rattle.rule_engine.proofs.Noting.{noted-none, operands-plain, joint-cleared}
+use Rattle.table_memory.proofs.Remembering.{noted-none}
+use Rattle.rule_engine.proofs.Noting.{operands-plain, joint-cleared}
 use borrow.Author.Needs.{needs}
 use Rattle.rule_engine.proofs.join_in.Statement.{statement}
 use Rattle.rule_engine.proofs.join_in.Tie as tie
@@ -9,7 +10,7 @@ rest-result-requires : tie.Need-rest-result-requires
 rest-result-requires c κs =
     let a = c .before .before .before .before .before .before .before .before in (
       operands-plain (a .args .t .now) (a .args .f) (a .args .n) 0 (a .args .ops) (a .pre .0) (a .pre .1),
-      noted-none (a .args .t .now) (a .args .o) (a .args .f) (a .args .n) _ (a .pre .1) (c .before .before .before .before .clear .ensures),
+      noted-none (a .args .t .now) _ (a .pre .1) (c .before .before .before .before .clear .ensures),
     )
 
 clear-far-requires : tie.Need-clear-far-requires
