@@ -85,7 +85,7 @@ pub record Furthest (up : Bool) (v a b r : ℕ) : Type 0 where
 pub record Folded (up : Bool) (ns : List ℕ) (f : Cost) (v a : ℕ) : Type 0 where
   pub folded : 0 < v → int a ≡ across (sideOf up) (λ u. extreme (sideOf up) ns (held u f)) v
 
--- ---- what is remembered: an entry's key is a feature + 1 and two targets
+-- ---- what is remembered: an entry's key is a feature + 1, two targets, and 0
 pub record Right (minus : Bool) (w key : List ℕ) (l h : ℕ) : Type 0 where
   pub at : (k : ℕ) → listed key 0 ≡ k + 1 → Spans (drop k (sizes w)) (ofTargets minus w k (listed key 1) (listed key 2)) l h
 
