@@ -1,5 +1,5 @@
 -- Contract between layers: a cost written into a place, word for word. Assumes nothing.
-use mathlib.Core.List.{List}
+use mathlib.Core.List.{List, [], _∷_}
 use Prim.Native.Nat.{ℕ}
 use Rattle.theory.specs.Costs.{Cost}
 use Rattle.settings.specs.Refusals.{Cases}
@@ -9,4 +9,4 @@ use Rattle.cost_words.specs.Table.{costTable}
 
 -- a call with the refusals l that writes the cost g into place p makes w into w′ and ends as o
 abbrev pub Writes : Cases → ℕ → Cost → List ℕ → List ℕ → Outcome → Type 0
-Writes l p g w w′ o = C.Writes costTable l p g w w′ o
+Writes l p g w w′ o = C.Writes costTable l p (g ∷ []) w w′ o

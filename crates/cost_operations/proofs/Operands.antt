@@ -31,7 +31,7 @@ use Rattle.cost_calls.proofs.Sounding.{sound-pos, sound-root}
 use Rattle.cost_calls.proofs.Answering.{write-refused}
 use Rattle.cost_calls.proofs.Edge.{room-ends}
 use Rattle.cost_settling.specs.Settling.{Puts}
-use Rattle.cost_settling.proofs.Settling.{sound-holds, write-pass}
+use Rattle.cost_settling.proofs.Settling.{sound-holds, write-pass, puts-one}
 use Rattle.cost_operations.specs.Joining.{put-cases, Joins}
 use Rattle.promises.specs.Integers.{Fit, int}
 use Rattle.promises.specs.CostOperations.{joined, scaled}
@@ -60,7 +60,7 @@ module _ {w : List ℕ} (s : Sound w) {p : ℕ} {g : Cost} where
 
   -- in range, and settled
   pub joins-put : {w′ : List ℕ} {o : Outcome} → Within costMost (sizes w) g → Puts p g w w′ o → Joins p g w w′ o
-  joins-put q r = record { joins = λ h e. write-pass Range (within-stays (within-agree (λ t v. sym (e t v)) q)) (r .puts h e) }
+  joins-put q r = record { joins = λ h e. write-pass Range (within-stays (within-agree (λ t v. sym (e t v)) q)) (puts-one r h e) }
 
 -- ---- words u that the test of the range left as they were, w
 module _ {w u : List ℕ} (e : u ≡ w) (o : Operator) (b c : Branch costs) where

@@ -8,16 +8,18 @@ use Rattle.theory.specs.Functions.{Agree}
 use Rattle.settings.specs.declared.refusals.Refusal.the-variants.{NoRoom}
 use Rattle.settings.specs.declared.refusals.Outcome.{Outcome}
 use Rattle.settings.specs.declared.refusals.Outcome.the-variants.{Taken, Refused}
+use Rattle.table_words.proofs.Filling.{built-ext}
 use Rattle.table_records.specs.Changes.{Rolled}
 use Rattle.table_calls.proofs.Settling as C
 use Rattle.table_calls.proofs.Sounding.{tested-holds}
-pub use Rattle.table_calls.proofs.Theorems.{puts-agree, write-pass}
+pub use Rattle.table_calls.proofs.Theorems.{puts-agree, puts-one, write-pass}
 use Rattle.theory_costs.proofs.Spreads.{within-agree}
 use Rattle.cost_words.specs.Picture.{Becomes}
 use Rattle.cost_nodes.specs.Nodes.{Holds, Result, told}
 use Rattle.cost_nodes.specs.declared.Answer.{Answer}
 use Rattle.cost_nodes.specs.declared.Answer.the-variants.{Is, NoRoom as Full}
 use Rattle.cost_nodes.proofs.Filling.{result-mean}
+use Rattle.cost_nodes.proofs.Reading.{lawful}
 use Rattle.cost_words.proofs.Regular.{regular}
 use Rattle.cost_sound.proofs.Pictures.{sound-tested}
 use Rattle.cost_settling.specs.Settling.{Exceeds, Puts, Asks, Settled}
@@ -37,17 +39,17 @@ exceeds-agree s e x = C.exceeds-agree regular (sound-tested s) e x
 -- `settle` may be asked, if the cost lies in its range
 pub settle-asks : {w t : List ℕ} {p n : ℕ} (g : Cost) (a : Answer) → Sound w → Result w t 0 g a → p < 16 → n ≡ count w → Within costMost (sizes w) g → Asks p n t a
 settle-asks {w} {t} g (Is x a) s r hp e f =
-    let z : sizes t ≡ sizes w = C.sizes-same regular g (sound-tested s) r in
+    let z : sizes t ≡ sizes w = C.sizes-same regular (sound-tested s) (r .grown) (built-ext lawful w 0 g) in
     let m = result-mean w t 0 g x a (sound-holds s) r in (
       record {
-        untidy = C.built-untidy regular g (sound-tested s) r;
-        range = λ q h. rw z (within-agree (C.places-kept regular g (sound-tested s) r q h) (s .ranged .ranged q h));
+        untidy = C.grown-untidy regular (sound-tested s) (r .grown) (built-ext lawful w 0 g);
+        range = λ q h. rw z (within-agree (C.places-kept regular (sound-tested s) (r .grown) (built-ext lawful w 0 g) q h) (s .ranged .ranged q h));
       },
       hp,
       m .ok,
       rw z (within-agree (m .says) f),
     )
-settle-asks g Full s r hp e f = C.none-asks regular g (sound-tested s) r e
+settle-asks {w} g Full s r hp e f = C.none-asks regular (sound-tested s) (r .grown) (built-ext lawful w 0 g) e
 
 -- THE LAW of every call that builds: NO ROOM exactly where the rests exceed the capacity, and then nothing is changed; else the cost is written
 pub settles : {w t t′ : List ℕ} {p n : ℕ} {o : Outcome} (g : Cost) (a : Answer) → Sound w → Result w t 0 g a → p < 16 → n ≡ count w → Settled p n t t′ a o → Puts p g w t′ o

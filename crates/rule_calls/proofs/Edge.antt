@@ -1,6 +1,6 @@
 -- The rule table at the edge: what its layers draw is what its promises say. Assumes nothing.
 use mathlib.Core.Path.{_≡_}
-use mathlib.Core.List.{List}
+use mathlib.Core.List.{List, [], _∷_}
 use Prim.Native.Nat.{ℕ, _<_}
 use Rattle.theory.specs.Functions.{Agree}
 use Rattle.theory.specs.Rules.{Rule}
@@ -30,13 +30,13 @@ drawn = record { at-said = at-rules; length-said = length-rules; pictures = λ w
 pub written : {w w′ : List ℕ} {p : ℕ} {g h : Rule} → Agree (sizes w) g h → Becomes p g w w′ → Made ruled (put p h (stateOf ruled w)) w w′
 written e b = C.written looked drawn e b
 
-pub room-ends : (w : List ℕ) (g : Rule) (o : Outcome) → Ends (NoRoom when (Exceeds ruleTable w g) else taken) o → Ends (room-cases g (stateOf ruled w)) o
+pub room-ends : (w : List ℕ) (g : Rule) (o : Outcome) → Ends (NoRoom when (Exceeds ruleTable w (g ∷ [])) else taken) o → Ends (room-cases g (stateOf ruled w)) o
 room-ends w g o e = C.room-ends looked drawn w g o e
 
 pub placed : (w : List ℕ) (p : ℕ) → p < 32 → Agree (sizes w) (ruleOf w p) (on (stateOf ruled w) p)
 placed w p h = C.placed looked drawn w p h
 
 pub wrote : {d : Deed (table ruled)} {m : Cases} {w w′ : List ℕ} {r : d .Result} {p : ℕ} {h : Rule} {o : Outcome} → d .ending r ≡ o → d .writes (stateOf ruled w) ≡ puts p h
-    → Writes ruleTable m p h w w′ o →
+    → Writes ruleTable m p (h ∷ []) w w′ o →
     Ends (refusals d w) o → (o ≡ Taken → d .Gives (stateOf ruled w) r) → ((x : Refusal) → o ≡ Refused x → r ≡ d .refusal x) → Meets d w w′ r
 wrote {d} e f x t g k = C.wrote looked drawn {d = d} e f x t g k

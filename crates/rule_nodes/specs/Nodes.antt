@@ -22,10 +22,6 @@ use Rattle.promises.specs.Words.{capacity, features, size, sizes, feature, pick
 use Rattle.promises.specs.RuleWords.{decode, ruleNodes as nodes}
 
 -- ---- the table
--- laid out as every table, and a body is 0 past the values of its feature
-abbrev pub RuleLaid : List ℕ → Type 0
-RuleLaid w = R.NodesLaid ruleTable w
-
 -- how a rule table is read
 abbrev pub layout : H.Layout rules
 layout = R.layoutOf ruleTable

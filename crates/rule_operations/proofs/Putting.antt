@@ -1,4 +1,5 @@
 -- A call that built a rule and put it on a place meets its deed. Assumes nothing.
+use Rattle.table_calls.proofs.Theorems.{puts-one}
 use mathlib.Core.Path.{_≡_}
 use mathlib.Core.List.{List}
 use Prim.Native.Nat.{ℕ}
@@ -20,4 +21,4 @@ use Rattle.rule_settling.specs.Settling.{Puts}
 pub built-meets : {d : Deed (table ruled)} {w w′ : List ℕ} {r : d .Result} {p : ℕ} {g h : Rule} {o : Outcome} → d .ending r ≡ o → d .writes (stateOf ruled w) ≡ puts p h
     → Puts p g w w′ o → Agree (sizes w) g h →
     (Ends (room-cases h (stateOf ruled w)) o → Ends (refusals d w) o) → (o ≡ Taken → d .Gives (stateOf ruled w) r) → ((y : Refusal) → o ≡ Refused y → r ≡ d .refusal y) → Meets d w w′ r
-built-meets {d} {w} {h = h} {o = o} e f x a t k q = wrote {d = d} e f (x .puts h a) (t (room-ends w h o (x .puts h a .ends))) k q
+built-meets {d} {w} {h = h} {o = o} e f x a t k q = wrote {d = d} e f (puts-one x h a) (t (room-ends w h o (puts-one x h a .ends))) k q

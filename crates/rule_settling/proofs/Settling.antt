@@ -9,15 +9,17 @@ use Rattle.settings.specs.declared.refusals.Refusal.the-variants.{NoRoom}
 use Rattle.settings.specs.declared.refusals.Outcome.{Outcome}
 use Rattle.settings.specs.declared.refusals.Outcome.the-variants.{Taken, Refused}
 use Rattle.table_words.specs.Holding as H
+use Rattle.table_words.proofs.Filling.{built-ext}
 use Rattle.table_records.specs.Changes.{Rolled}
 use Rattle.table_calls.proofs.Settling as C
 use Rattle.table_calls.proofs.Sounding.{tested-holds}
-pub use Rattle.table_calls.proofs.Theorems.{puts-agree, write-pass}
+pub use Rattle.table_calls.proofs.Theorems.{puts-agree, puts-one, write-pass}
 use Rattle.rule_words.specs.Picture.{Becomes}
 use Rattle.rule_nodes.specs.Nodes.{layout, Holds, Gives, Result, told}
 use Rattle.rule_nodes.specs.declared.Answer.{Answer}
 use Rattle.rule_nodes.specs.declared.Answer.the-variants.{Is, NoRoom as Full}
 use Rattle.rule_nodes.proofs.Filling.{result-mean}
+use Rattle.rule_nodes.proofs.Reading.{lawful}
 use Rattle.rule_words.proofs.Regular.{regular}
 use Rattle.rule_sound.proofs.Pictures.{sound-tested}
 use Rattle.rule_settling.specs.Settling.{Exceeds, Puts, Asks, Settled}
@@ -39,8 +41,8 @@ gives r = record { grown = r .grown; answers = r .answers }
 
 -- `settle` may be asked
 pub settle-asks : {w t : List ℕ} {p n : ℕ} (g : Rule) (a : Answer) → Sound w → Result w t 0 g a → p < 32 → n ≡ count w → Asks p n t a
-settle-asks {w} {t} g (Is b) s r hp e = (C.built-untidy regular g (sound-tested s) (gives r), hp, result-mean w t 0 g b (sound-holds s) r .ok)
-settle-asks g Full s r hp e = C.none-asks regular g (sound-tested s) (gives r) e
+settle-asks {w} {t} g (Is b) s r hp e = (C.grown-untidy regular (sound-tested s) (r .grown) (built-ext lawful w 0 g), hp, result-mean w t 0 g b (sound-holds s) r .ok)
+settle-asks {w} g Full s r hp e = C.none-asks regular (sound-tested s) (r .grown) (built-ext lawful w 0 g) e
 
 -- THE LAW of every call that builds: NO ROOM exactly where the rests exceed the capacity, and then nothing is changed; else the rule is written
 pub settles : {w t t′ : List ℕ} {p n : ℕ} {o : Outcome} (g : Rule) (a : Answer) → Sound w → Result w t 0 g a → p < 32 → n ≡ count w → Settled p n t t′ a o → Puts p g w t′ o

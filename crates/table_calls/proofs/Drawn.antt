@@ -69,7 +69,7 @@ module _ {K : Kind} {D : Table K} {own : List ℕ → ℕ → Fun K} {Sound : Li
       go q l s v (no n) = ap (λ (f : Fun K). f s) (getD-set-other (D .said w) p q g zero-fun n ∙ sym (getD-set-other (D .said w) p q h zero-fun n))
 
   -- a table that a call wrote is made to hold the functions with one replaced, whichever way that one is said
-  pub written : {w w′ : List ℕ} {p : ℕ} {g h : Fun K} → Agree (sizes w) g h → Becomes D p g w w′ → Made T (put p h (stateOf T w)) w w′
+  pub written : {w w′ : List ℕ} {p : ℕ} {g h : Fun K} → Agree (sizes w) g h → Becomes D p (g ∷ []) w w′ → Made T (put p h (stateOf T w)) w w′
   written {p = p} {g = g} {h = h} e b =
       let f = F .says (b .proper) (b .pictures) in
       made-like p g h e (record { long = b .long; sound = F .sound (b .proper) (b .pictures); room = f .0; list = f .1; gives = f .2; past = b .past })
@@ -81,7 +81,7 @@ module _ {K : Kind} {D : Table K} {own : List ℕ → ℕ → Fun K} {Sound : Li
       record { long = a .long; sound = F .sound (a .proper t) (a .pictures t); room = f .0; list = f .1; gives = f .2; past = a .past t }
 
   -- a call that built: NO ROOM by the rests as they are counted
-  pub room-ends : (w : List ℕ) (g : Fun K) (o : Outcome) → Ends (NoRoom when (Exceeds D w g) else taken) o → Ends (room-cases g (stateOf T w)) o
+  pub room-ends : (w : List ℕ) (g : Fun K) (o : Outcome) → Ends (NoRoom when (Exceeds D w (g ∷ [])) else taken) o → Ends (room-cases g (stateOf T w)) o
   room-ends w g o e = like-ends o (more NoRoom outnumbered outnumber (λ n. alike)) e
 
   -- the function of a place, said of the functions and of the words
@@ -89,7 +89,7 @@ module _ {K : Kind} {D : Table K} {own : List ℕ → ℕ → Fun K} {Sound : Li
   placed w p h s v = ap (λ (g : Fun K). g s) (sym (F .at-said w p h))
 
   -- A CALL THAT WROTE: the layers below say what became of the words, and the refusals end it as o
-  pub wrote : {d : Deed (table T)} {m : Cases} {w w′ : List ℕ} {r : d .Result} {p : ℕ} {h : Fun K} {o : Outcome} → d .ending r ≡ o → d .writes (stateOf T w) ≡ puts p h → Writes D m p h w w′ o →
+  pub wrote : {d : Deed (table T)} {m : Cases} {w w′ : List ℕ} {r : d .Result} {p : ℕ} {h : Fun K} {o : Outcome} → d .ending r ≡ o → d .writes (stateOf T w) ≡ puts p h → Writes D m p (h ∷ []) w w′ o →
       Ends (refusals d w) o → (o ≡ Taken → d .Gives (stateOf T w) r) → ((x : Refusal) → o ≡ Refused x → r ≡ d .refusal x) → Meets d w w′ r
   wrote {d} {w = w} {w′ = w′} e f x t g k =
       record {

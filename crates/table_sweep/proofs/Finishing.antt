@@ -1,7 +1,7 @@
 -- A place set in an untidy table: it is untidy again, and the function of that place, and no other, is replaced. Assumes nothing.
 use mathlib.Core.Path.{_≡_, sym, ap, subst, _∙_}
 use mathlib.Core.Logic.{⊎-elim}
-use mathlib.Core.List.{List}
+use mathlib.Core.List.{List, [], _∷_}
 use Prim.Native.Nat.{ℕ, _+_, _≤_, _<_}
 use native.Mathlib.Omega.{arith}
 use lib.ListN.{length, getD, set, length-set}
@@ -95,7 +95,7 @@ module _ {K : Kind} {T : Table K} (L : Regular T) {w w′ : List ℕ} {p : ℕ} 
           (same q p)
 
   -- tidied, it is the table with that function replaced
-  pub finished : (v : List ℕ) → Tidied T w′ v → Becomes T p (meaning (nodes T w) b) w v
+  pub finished : (v : List ℕ) → Tidied T w′ v → Becomes T p (meaning (nodes T w) b ∷ []) w v
   finished v t =
       let c : capacity w′ ≡ capacity w = low 1 (omega arith) in
       record {

@@ -3,6 +3,8 @@ pub mod Words
 pub mod Halves
 pub mod Chains
 pub mod Filling
+pub mod Stores
+pub mod Several
 pub mod Reading
 pub mod Sparing
 pub mod Picture

@@ -49,6 +49,20 @@ module _ {K : Kind} (T : Layout K) where
   abbrev pub Result : List ℕ → List ℕ → ℕ → Fun K → Option (Branch K) → Type 0
   Result w w′ k g a = Gives w w′ (built w k g) a
 
+  -- `build` of the functions gs in turn from the table's nodes
+  unfoldable pub builtAll : List ℕ → List (Fun K) → List (Branch K) × List (Node K)
+  builtAll w gs = each (build 0 (T .sizes w)) gs (T .nodes w)
+
+  -- the answer: their branches, or that there was no room for all nodes
+  abbrev pub AnswersAll : ℕ → List (Branch K) × List (Node K) → Option (List (Branch K)) → Type 0
+  AnswersAll cap r (some bs) = (bs ≡ r .0) × (length (r .1) ≤ cap)
+  AnswersAll cap r none = cap < length (r .1)
+
+  -- the contract of a function that builds several
+  pub record Results (w w′ : List ℕ) (gs : List (Fun K)) (a : Option (List (Branch K))) : Type 0 where
+    pub grown : Grown w w′ (builtAll w gs .1)
+    pub answers : AnswersAll (T .capacity w) (builtAll w gs) a
+
   -- the first v branches of g at feature k, built in turn
   unfoldable pub eachTo : List ℕ → ℕ → Fun K → ℕ → List (Branch K) × List (Node K)
   eachTo w k g v = each (build (suc k) (drop (suc k) (T .sizes w))) (parts 0 v g) (T .nodes w)

@@ -2,7 +2,8 @@
 use mathlib.Core.Path.{_≡_}
 use mathlib.Core.List.{List}
 use Prim.Native.Nat.{ℕ, _+_, _*_, _≤_, _<_}
-use lib.ListN.{length, getD, set}
+use lib.ListN.{length, getD}
+use lib.Seq.{sets}
 use Rattle.theory.specs.Kind.{Kind}
 use Rattle.theory.specs.Settings.{FeatureList, Valid}
 use Rattle.theory.specs.Functions.{Fun, zero-fun}
@@ -57,9 +58,9 @@ module _ {K : Kind} (T : Table K) where
     pub proper : Proper cap sizes places
     pub pictures : Pictures cap sizes places w
 
-  -- w′ is w with the function of place p replaced by g: the picture of the functions so changed; the words past the table are kept
-  pub record Becomes (p : ℕ) (g : Fun K) (w w′ : List ℕ) : Type 0 where
+  -- w′ is w with the functions gs in the places from p on: the picture of the functions so changed; the words past the table are kept
+  pub record Becomes (p : ℕ) (gs : List (Fun K)) (w w′ : List ℕ) : Type 0 where
     pub long : length w′ ≡ length w
-    pub proper : Proper (capacity w) (sizes w) (set (T .said w) p g)
-    pub pictures : Pictures (capacity w) (sizes w) (set (T .said w) p g) w′
+    pub proper : Proper (capacity w) (sizes w) (sets (T .said w) p gs)
+    pub pictures : Pictures (capacity w) (sizes w) (sets (T .said w) p gs) w′
     pub past : (j : ℕ) → bound (capacity w) ≤ j → getD w′ j 0 ≡ getD w j 0

@@ -4,6 +4,7 @@ use Rattle.both_calls.proofs.Edge.{wrote-rule}
 use Rattle.both_calls.proofs.Entering.{turned-away, let-in}
 use Rattle.rule_calls.proofs.Edge.{room-ends}
 use Rattle.table_calls.proofs.Meeting.{refuses}
+use Rattle.table_calls.proofs.Theorems.{puts-one}
 use Rattle.theory.specs.Rules.{Rule}
 use native.Mathlib.Omega.{arith}
 use mathlib.Core.Path.{refl, ap}
@@ -26,7 +27,7 @@ returns-2 c =
     let t = c7 .enum-told .given .1 in
     let v = x .args .t .now in
     let w = x .args .costs .now in
-    let p = c .before .before .before .before .put-below .ensures .puts _ (λ s k.
+    let p = puts-one (c .before .before .before .before .put-below .ensures) _ (λ s k.
     ap (λ (g : Rule). g s) (below-said w (x .args .a) (x .args .b) (e .cost-places t .each 0 (omega arith)) (e .cost-places t .each 1 (omega arith)))) in
     wrote-rule refl (let-in e t (room-ends v _ _ (p .ends))) (λ k. tt) (λ y k. k) refl p
 

@@ -4,6 +4,7 @@ use Rattle.cost_operations.specs.Pricing.{Listed}
 use Rattle.cost_calls.proofs.Sounding.{sound-long}
 use Rattle.cost_calls.proofs.Edge.{room-ends, wrote}
 use Rattle.table_calls.proofs.Meeting.{turned-away, let-in, refuses}
+use Rattle.table_calls.proofs.Theorems.{puts-one}
 use Rattle.promises.specs.CostOperations.{priced}
 use Rattle.promises.specs.CostDeeds as D
 use Rattle.settings.proofs.Endings.{stop, pass}
@@ -73,7 +74,7 @@ returns-5 c =
       priced = granted (c .before .before .before .before .before .prices-ok .result) (c .before .before .before .before .if3 .left) (c .before .before .before .before .before .prices-ok .ensures);
     } in
     let g = priced (a .args .feature) (a .args .prices .now) in
-    let x = c .before .before .put-prices .ensures .puts g (λ s v. refl) in
+    let x = puts-one (c .before .before .put-prices .ensures) g (λ s v. refl) in
     wrote {d = D.price (a .args .place) (a .args .feature) (a .args .prices .now)} refl refl x
     (let-in (c16 .door .ensures) (c14 .enum-told .given .1) (pass (listed-good (a .args .feature) (a .args .prices .now) (a .args .t .now) d)
     (room-ends (a .args .t .now) g (c .before .before .put-prices .result) (x .ends)))) (λ q. tt) (λ y q. q)

@@ -6,6 +6,7 @@ use Rattle.settings.proofs.Endings.{stop, pass}
 use Rattle.promises.specs.Sheet.{sheetRule}
 use Rattle.promises.specs.SheetDeeds.{read-sheet}
 use Rattle.table_calls.proofs.Meeting.{turned-away, let-in, refuses}
+use Rattle.table_calls.proofs.Theorems.{puts-one}
 use Rattle.rule_calls.proofs.Edge.{room-ends, wrote}
 use Rattle.sheet_check.proofs.Answering.{unread, read-on}
 use borrow.Author.Needs.{needs}
@@ -44,7 +45,7 @@ returns-4 : tie.Need-returns-4
 returns-4 c =
     let c6 = c .before .before .before .before .before .before in let c8 = c6 .before .before in let c10 = c8 .before .before in let c12 = c10 .before .before in
     let c14 = c12 .before .before in let a = c14 .before .before .before .before .before in
-    let p = c .before .before .put-read .ensures .puts (sheetRule (a .args .sheet .now)) (λ t v. refl) in
+    let p = puts-one (c .before .before .put-read .ensures) (sheetRule (a .args .sheet .now)) (λ t v. refl) in
     let list = granted (c6 .same-list .result) (c .before .before .before .before .before .if1 .left) (c6 .same-list .ensures) in
     wrote {d = read-sheet (a .args .place) (a .args .sheet .now)} refl refl p
     (let-in (c14 .door .ensures) (c12 .enum-told .given .1) (read-on (c10 .check .ensures) (c8 .enum-told2 .given .1)
