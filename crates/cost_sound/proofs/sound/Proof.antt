@@ -75,7 +75,10 @@ places-ok-requires c κs =
       header = granted (c11 .header-ok .result) (c10 .if1 .left) (c11 .header-ok .ensures);
       nodes-ok = granted (c9 .nodes-ok .result) (c8 .if2 .left) (c9 .nodes-ok .ensures);
       chained = granted (c7 .chains-ok .result) (c6 .if3 .left) (c7 .chains-ok .ensures);
-      roots-ok = record { rooted = granted (c .before .before .before .before .before .roots-ok .result) (c .before .before .before .before .if4 .left) (c .before .before .before .before .before .roots-ok .ensures) .rooted };
+      roots-ok = record {
+        rooted = granted (c .before .before .before .before .before .roots-ok .result) (c .before .before .before .before .if4 .left)
+            (c .before .before .before .before .before .roots-ok .ensures) .rooted;
+      };
       in-order = order-is _ ∙ granted (c .before .before .before .order-ok .result) (c .before .before .if5 .left) (c .before .before .before .order-ok .ensures);
     } in
     (s, passes-yes (c13 .args .t .now) (Pairs (c13 .args .t .now)) (c .before .pairs-ok .result) (c .if6 .left) (c .before .pairs-ok .ensures))

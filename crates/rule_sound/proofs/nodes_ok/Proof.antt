@@ -64,7 +64,8 @@ rest-zero-requires c κs =
 
 returns-4 : tie.Need-returns-4 Inv-loop μ-loop
 returns-4 c =
-    let c9 = c .before .before .before .before .before .before .before .before .before in let c10 = c9 .before in let c12 = c10 .before .before in let c18 = c12 .before .before .before .before .before .before in
+    let c9 = c .before .before .before .before .before .before .before .before .before in
+    let c10 = c9 .before in let c12 = c10 .before .before in let c18 = c12 .before .before .before .before .before .before in
     let t = c18 .args .t .now in
     let e : (c .before .before .wide4) .result ≡ size t (feature t (c12 .loop .i)) = c .before .before .wide4 .ensures .0 ∙ c .before .before .before .size-word .ensures
     ∙ ap (size t) (c9 .wide3 .ensures .0 ∙ c10 .record-word .ensures) in
@@ -73,7 +74,8 @@ returns-4 c =
 
 loop-again : tie.Need-loop-again Inv-loop μ-loop
 loop-again c =
-    let c9 = c .before .before .before .before .before .before .before .before .before in let c10 = c9 .before in let c12 = c10 .before .before in let c18 = c12 .before .before .before .before .before .before in
+    let c9 = c .before .before .before .before .before .before .before .before .before in
+    let c10 = c9 .before in let c12 = c10 .before .before in let c18 = c12 .before .before .before .before .before .before in
     let t = c18 .args .t .now in
     let l = c12 .loop in
     let e : (c .before .before .wide4) .result ≡ size t (feature t (l .i)) = c .before .before .wide4 .ensures .0 ∙ c .before .before .before .size-word .ensures
