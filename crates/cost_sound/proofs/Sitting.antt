@@ -1,21 +1,17 @@
--- The nodes of tested words are a well-formed node list of costs. Assumes nothing.
-use mathlib.Core.Path.{_≡_, ap, _∙_}
+-- The nodes of tested words are nodes of a cost table. Assumes nothing.
+use mathlib.Core.Path.{ap, _∙_}
 use mathlib.Core.List.{List}
-use Prim.Native.Nat.{ℕ, _+_, _<_}
-use native.Mathlib.Omega.{arith}
-use Rattle.theory.specs.WellFormed.{WF}
+use Prim.Native.Nat.{ℕ, _<_}
 use Rattle.theory.specs.Costs.{costs}
 use Rattle.theory.specs.Diagrams.{Branch}
 use Rattle.theory_costs.proofs.Words.{int-one}
 use Rattle.cost_words.specs.Table.{costTable}
-use Rattle.cost_words.proofs.Regular.{regular}
 use Rattle.cost_words.proofs.Packing.{target-one, int-zero}
-use Rattle.table_checks.proofs.Sitting.{NodeFits, nodes-wf, sits-more}
-use Rattle.cost_sound.specs.Sound.{Sits}
+use Rattle.table_checks.proofs.Sitting.{NodeFits}
 use Rattle.cost_sound.specs.Walk.{Ordered}
 use Rattle.promises.specs.Integers.{int}
-use Rattle.promises.specs.Words.{size, count, sizes, feature, body}
-use Rattle.promises.specs.CostWords.{goes, added, costNodes as nodes}
+use Rattle.promises.specs.Words.{count, body}
+use Rattle.promises.specs.CostWords.{goes, added}
 use Rattle.promises.specs.CostSound.{CostNodeOk as NodeOk}
 
 module _ {w : List ℕ} (o : Ordered w) where
@@ -32,6 +28,3 @@ module _ {w : List ℕ} (o : Ordered w) where
         level = ap int (n .adds .level) ∙ int-zero;
         padded = n .padded;
       }
-
-  pub ordered-wf : WF (sizes w) (nodes w)
-  ordered-wf = nodes-wf regular w (o .header .fit) node-fits (o .chained)

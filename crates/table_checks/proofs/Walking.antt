@@ -22,7 +22,7 @@ use Rattle.table_words.proofs.Tab.{tab-none, tab-snoc}
 use Rattle.table_words.proofs.Words.{length-sizes}
 use Rattle.settings.specs.Tells.{Tells}
 use Rattle.settings.proofs.Answers.{tells-eqb}
-use Rattle.table_checks.specs.Walk.{Formed, Rooted, Good, Says, Visits, VisitsAll, goalOf, goingTo, scan-below, shape, shapeArm, shapeRoots, wayOf}
+use Rattle.table_checks.specs.Walk.{Formed, Rooted, Good, Says, Visits, VisitsAll, goalOf, scan-below, shape, shapeArm, wayOf}
 use Rattle.table_checks.proofs.Sitting.{sits-goes, sits-more}
 use Rattle.promises.specs.Tab.{tab}
 use Rattle.promises.specs.Words.{head, size, count, sizes, feature, body}
