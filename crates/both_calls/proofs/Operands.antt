@@ -5,13 +5,11 @@ use Prim.Native.Nat.{ℕ, _<_}
 use Rattle.theory.specs.Costs.{Cost, costs}
 use Rattle.theory.specs.Diagrams.{Branch, meaning}
 use Rattle.theory.specs.Rules.{Rule}
-use Rattle.theory.specs.WellFormed.{Ok}
 use Rattle.theory_costs.proofs.Range.{chosen-within}
 use Rattle.cost_nodes.specs.Nodes.{Result}
 use Rattle.cost_nodes.specs.declared.Answer.{Answer}
-use Rattle.cost_calls.proofs.Sounding.{sound-root}
 use Rattle.cost_settling.proofs.Settling.{sound-holds}
-use Rattle.cost_operations.proofs.Operands.{place-operand}
+use Rattle.cost_settling.proofs.Operands.{place-operand}
 use Rattle.rule_lending.specs.Lending.{lent, Roots}
 use Rattle.rule_lending.specs.Building.{Result as RuleResult}
 use Rattle.rule_lending.specs.declared.Answer.{Answer as RuleAnswer}
@@ -32,24 +30,16 @@ use Rattle.promises.specs.CostWords.{costNodes as nodes, rootAt, costOf}
 use Rattle.promises.specs.RuleSound.{RuleSound as SoundRules}
 use Rattle.promises.specs.CostSound.{CostSound as Sound}
 
--- ---- the branch b of place p of a sound cost table
-module _ {w : List ℕ} (s : Sound w) {b : Branch costs} (p : ℕ) (e : b ≡ rootAt w p) (h : p < 16) where
-  pub place-ok : Ok (nodes w) 0 b
-  place-ok = subst (Ok (nodes w) 0) (sym e) (sound-root s p h)
-
-  pub place-within : Within costMost (sizes w) (meaning (nodes w) b)
-  place-within = subst (λ (d : Branch costs). Within costMost (sizes w) (meaning (nodes w) d)) (sym e) (s .ranged .ranged p h)
-
 -- ---- LESS: the branches x and y of places a and b
 module _ (v w : List ℕ) (a b : ℕ) {x y : Branch costs} (ex : x ≡ rootAt w a) (ey : y ≡ rootAt w b) where
   pub comparable : SoundRules v → Sound w → sizes v ≡ sizes w → a < 16 → b < 16 → Comparable w v x y
   comparable r s e ha hb = record {
     holds = sound-holds s;
     beside = record { ready = sound-ready r; same = e };
-    first = place-ok s a ex ha;
-    second = place-ok s b ey hb;
-    firstIn = place-within s a ex ha;
-    secondIn = place-within s b ey hb;
+    first = place-operand s a ex ha .ok;
+    second = place-operand s b ey hb .ok;
+    firstIn = place-operand s a ex ha .within;
+    secondIn = place-operand s b ey hb .within;
   }
 
   pub below-made : {t : List ℕ} (o : RuleAnswer) → RuleResult v t 0 (isBelow (meaning (nodes w) x) (meaning (nodes w) y)) o → RuleResult v t 0 (isBelow (costOf w a) (costOf w b)) o

@@ -3,12 +3,10 @@ use mathlib.Core.Path.{_≡_, sym, ap, ap₂, subst, _∙_}
 use mathlib.Core.Logic.{⊎-elim}
 use mathlib.Core.List.{List}
 use Prim.Native.Nat.{ℕ, _<_}
-use native.Mathlib.Omega.{arith}
 use lib.IntN.{ℤ}
 use Rattle.theory.specs.Functions.{Agree}
 use Rattle.theory.specs.Costs.{Cost, costs}
 use Rattle.theory.specs.Diagrams.{Branch, meaning}
-use Rattle.theory.specs.WellFormed.{Ok}
 use Rattle.theory_costs.proofs.Range.{within-stays, within-or-leaves}
 use Rattle.theory_costs.proofs.Spreads.{within-agree}
 use Rattle.theory_costs.proofs.Relative.{offs}
@@ -17,21 +15,19 @@ use Rattle.settings.specs.Refusals.{Ends}
 use Rattle.settings.specs.declared.refusals.Refusal.the-variants.{Range}
 use Rattle.settings.specs.declared.refusals.Outcome.{Outcome}
 use Rattle.settings.specs.declared.refusals.Outcome.the-variants.{Refused}
-use Rattle.table_notes.specs.Plain.{Resting}
 use Rattle.cost_words.proofs.Reading.{at-costs}
-use Rattle.cost_sound.proofs.Pictures.{sound-narrow}
 use Rattle.cost_nodes.specs.Nodes.{Result}
 use Rattle.cost_nodes.specs.declared.Answer.{Answer}
 use Rattle.cost_engine.specs.Joint.{opOf, together, Joinable}
 use Rattle.cost_engine.specs.declared.operators.Operator.{Operator}
 use Rattle.cost_engine.specs.declared.operators.Operator.the-variants.{Scale}
-use Rattle.cost_notes.specs.Operand.{Operand}
 use Rattle.cost_range.specs.Operable.{Operable, Factored}
-use Rattle.cost_calls.proofs.Sounding.{sound-pos, sound-root}
+use Rattle.cost_calls.proofs.Sounding.{sound-pos}
 use Rattle.cost_calls.proofs.Answering.{write-refused}
 use Rattle.cost_calls.proofs.Edge.{room-ends}
 use Rattle.cost_settling.specs.Settling.{Puts}
-use Rattle.cost_settling.proofs.Settling.{sound-holds, write-pass, puts-one}
+use Rattle.cost_settling.proofs.Operands.{place-operand}
+use Rattle.cost_settling.proofs.Settling.{write-pass, puts-one}
 use Rattle.cost_operations.specs.Joining.{put-cases, Joins}
 use Rattle.promises.specs.Integers.{Fit, int}
 use Rattle.promises.specs.CostOperations.{joined, scaled}
@@ -69,23 +65,6 @@ module _ {w u : List ℕ} (e : u ≡ w) (o : Operator) (b c : Branch costs) wher
 
   pub result-again : (t : List ℕ) (a : Answer) → Result u t 0 (together o (meaning (nodes u) b) (meaning (nodes u) c)) a → Result w t 0 (together o (meaning (nodes w) b) (meaning (nodes w) c)) a
   result-again t a r = subst (λ (z : List ℕ). Result z t 0 (together o (meaning (nodes z) b) (meaning (nodes z) c)) a) e r
-
--- a sound table is at rest
-pub sound-rest : {w : List ℕ} → Sound w → Resting w
-sound-rest s = record {
-  roomy = record { room = s .header .room; most = s .header .most };
-  empty = record { zeros = λ j h l. s .header .clean .zeros j (omega (arith, s .header .within)) l };
-}
-
--- the branch b of place p may be asked about
-pub place-operand : {w : List ℕ} (s : Sound w) (p : ℕ) {b : Branch costs} → b ≡ rootAt w p → p < 16 → Operand w b
-place-operand {w} s p e h = record {
-  holds = sound-holds s;
-  rest = sound-rest s;
-  narrow = sound-narrow s;
-  ok = subst (Ok (nodes w) 0) (sym e) (sound-root s p h);
-  within = subst (λ (d : Branch costs). Within costMost (sizes w) (meaning (nodes w) d)) (sym e) (s .ranged .ranged p h);
-}
 
 -- ---- the branches b and c of places p and q
 module _ {w : List ℕ} (s : Sound w) (o : Operator) (b c : Branch costs) (p q : ℕ) (eb : b ≡ rootAt w p) (ec : c ≡ rootAt w q) where

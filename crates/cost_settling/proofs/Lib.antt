@@ -1,1 +1,2 @@
 pub mod Settling
+pub mod Operands
