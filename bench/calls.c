@@ -1,5 +1,6 @@
 /* The calls of a rule table at several numbers of nodes in use: how each grows, and how it compares with the plain C program, with
-   that program and the call's tests before each call (of the table, for read of the sheet too), and, for yes/no features, with BuDDy. */
+   that program and the call's tests before each call (of the table, for read of the sheet too), and, for yes/no features, with BuDDy.
+   With any argument the library is timed alone, a line for each call and size, for bench/beside. */
 #include "check.h"
 #include "filling.h"
 #include "lampgrotto.h"
@@ -171,6 +172,7 @@ static double times[JOBS][SIZES], plains[JOBS][SIZES], tested[JOBS][SIZES], chec
 static double buddies[JOBS][SIZES];
 #endif
 static uint32_t in_use[SIZES], in_sheet[SIZES];
+static int alone; /* nothing beside the library is timed */
 
 static void summing(void) { sum_words(words, length); }
 
@@ -189,6 +191,8 @@ static void measure(uint8_t size, size_t capacity, int column) {
     write_and_read(column);
     expect(table_is_sound(words, length) && sheet_is_good(sheet, sheet_length), "the plain tests");
     plain_load(words);
+    for (int j = 0; alone && j < JOBS; j++) times[j][column] = best(jobs[j].library);
+    if (alone) return;
     sums[column] = best(summing);
     checks[column] = best(checking);
     double sheet_check = best(checking_sheet);
@@ -247,9 +251,18 @@ static void tables(void) {
 #endif
 }
 
-int main(void) {
+/* a line for each call and size: the call, the nodes in use, nanoseconds */
+static void lines(void) {
+    for (int j = 0; j < JOBS; j++)
+        for (int c = 0; c < SIZES; c++) printf("%s\t%u\t%.1f\n", jobs[j].name, in_use[c], times[j][c]);
+}
+
+int main(int words_given, char **given) {
     static const size_t capacities[SIZES] = {16, 64, 256, 1024, 4096};
+    (void)given;
+    alone = words_given > 1;
     for (int c = 0; c < SIZES; c++) measure(SIZE, capacities[c], c);
-    tables();
+    if (alone) lines();
+    else tables();
     return 0;
 }

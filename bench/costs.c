@@ -1,6 +1,6 @@
 /* The cost calls, and those on both tables, with more and more scratch: two costs that each add up prices over sixteen features of
    size 8, so sixteen nodes each, and what is worked out of them: the smaller and the larger of the two, with some hundred nodes. The
-   unit is the sum of the table's words. */
+   unit is the sum of the table's words. With any argument a line for each call and scratch, for bench/beside. */
 #include "lampgrotto.h"
 #include "timing.h"
 #include <stdio.h>
@@ -64,10 +64,39 @@ static void looking(void) { sink += lampgrotto_cost_look_up(costs, WORDS, LARGER
 static void constant(void) { sink += lampgrotto_cost_constant(costs, WORDS, RESULT, 7); }
 static void summing(void) { sum_words(costs, WORDS); }
 
-static void (*const jobs[])(void) = {looking, constant, adding, adding_large, adding_far, scaling,
-                                     lesser, comparing, choosing, seeking, seeking_all};
+static const struct {
+    const char *name;
+    void (*call)(void);
+} jobs[] = {{"look up", looking}, {"constant", constant}, {"add", adding}, {"add, large", adding_large}, {"add, at the end of the range", adding_far}, {"scale, large", scaling},
+            {"smaller", lesser}, {"less", comparing}, {"choose", choosing}, {"lowest", seeking}, {"lowest of all", seeking_all}};
+enum { JOBS = sizeof jobs / sizeof *jobs };
 
-int main(void) {
+static size_t more(size_t scratch) { return scratch ? 4 * scratch : 1024; }
+
+/* a line for each call and scratch: the call, the words lent, nanoseconds */
+static void lines(void) {
+    for (size_t j = 0; j < JOBS; j++)
+        for (lent_length = 0; lent_length <= LENT; lent_length = more(lent_length)) printf("%s\t%zu\t%.1f\n", jobs[j].name, lent_length, best(jobs[j].call));
+}
+
+/* a row for each scratch, in times the sum of the table's words */
+static void table(uint32_t nodes) {
+    double unit = best(summing);
+    printf("%u nodes of costs and %u of rules in use; the sum of %d words takes %.0f us\n\n| scratch words |", nodes, out[0], WORDS, unit / 1000);
+    for (size_t j = 0; j < JOBS; j++) printf(" %s |", jobs[j].name);
+    printf("\n|---|---|---|---|---|---|---|---|---|---|---|---|\n");
+    for (lent_length = 0; lent_length <= LENT; lent_length = more(lent_length)) {
+        printf("| %zu |", lent_length);
+        for (size_t j = 0; j < JOBS; j++) {
+            printf(" %.1f |", best(jobs[j].call) / unit);
+            fflush(stdout);
+        }
+        printf("\n");
+    }
+}
+
+int main(int words_given, char **given) {
+    (void)given;
     taken(lampgrotto_cost_open(costs, WORDS, features, 16, CAPACITY));
     taken(lampgrotto_open(rules, WORDS, features, 16, CAPACITY));
     sum_of_prices(FIRST, 1);
@@ -85,17 +114,7 @@ int main(void) {
     moved(SCALED, LARGER, -3, 0);
     uint32_t nodes = tally();
     taken(lampgrotto_tally(rules, WORDS, out, 1));
-    double unit = best(summing);
-    printf("%u nodes of costs and %u of rules in use; the sum of %d words takes %.0f us\n\n", nodes, out[0], WORDS, unit / 1000);
-    printf("| scratch words | look up | constant | add | add, large | add, at the end of the range | scale, large | smaller | less | choose | lowest | lowest of all |\n");
-    printf("|---|---|---|---|---|---|---|---|---|---|---|---|\n");
-    for (lent_length = 0; lent_length <= LENT; lent_length = lent_length ? 4 * lent_length : 1024) {
-        printf("| %zu |", lent_length);
-        for (size_t j = 0; j < sizeof jobs / sizeof *jobs; j++) {
-            printf(" %.1f |", best(jobs[j]) / unit);
-            fflush(stdout);
-        }
-        printf("\n");
-    }
+    if (words_given > 1) lines();
+    else table(nodes);
     return 0;
 }

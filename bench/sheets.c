@@ -1,5 +1,5 @@
 /* The phone's lookup in a sheet of several sizes: how it grows, and how it compares with C that does the same with and without the
-   sheet's check. */
+   sheet's check. With any argument a line for each size, for bench/beside. */
 #include "check.h"
 #include "lampgrotto.h"
 #include "laying.h"
@@ -49,16 +49,20 @@ static void passing(void) {
     sink += sum;
 }
 
-static void sizes(void) {
+static void sizes(int alone) {
     static const int counts[5] = {3, 3, 4, 5, 5};
     static const uint32_t leaves[5] = {7, 55, 183, 439, 3511};
-    printf("| nodes | bytes | sum of the bytes us | look up us | times the sum | times C with the check | times C without |\n");
-    printf("|---|---|---|---|---|---|---|\n");
+    if (!alone) printf("| nodes | bytes | sum of the bytes us | look up us | times the sum | times C with the check | times C without |\n");
+    if (!alone) printf("|---|---|---|---|---|---|---|\n");
     for (int c = 0; c < 5; c++) {
         make_sheet(counts[c], leaves[c]);
         lent = length;
         if (lampgrotto_look_up(sheet, length, setting, (size_t)features) != plain_sheet_look_up(sheet, setting) || !sheet_is_good(sheet, length))
             exit(1);
+        if (alone) {
+            printf("look up in a sheet\t%u\t%.1f\n", laid_nodes, best(looking));
+            continue;
+        }
         double l = best(looking), p = best(plain), k = best(checked), s = best(passing);
         printf("| %u | %zu | %.1f | %.1f | %.1f | %.1f | %.0f |\n", laid_nodes, length, s / 1000, l / 1000, l / s, l / k, l / p);
     }
@@ -80,8 +84,9 @@ static void phases(void) {
     }
 }
 
-int main(void) {
-    sizes();
-    phases();
+int main(int words_given, char **given) {
+    (void)given;
+    sizes(words_given > 1);
+    if (words_given == 1) phases();
     return 0;
 }
