@@ -5,8 +5,7 @@ use mathlib.Core.Bool.{Bool, false}
 use Prim.Native.Nat.{ℕ, zero, suc, _+_, _*_, _≤_, _<_, _-_}
 use native.Mathlib.Numerals.{add-one}
 use native.Mathlib.Omega.{arith}
-use lib.ListN.{length, getD, set, take, drop, length-take, length-drop}
-use lib.Seq.{getD-take, getD-drop}
+use lib.ListN.{length, getD, set, take, drop}
 use lib.Dec.{eqb}
 use Rattle.theory.specs.Settings.{FeatureList}
 use Rattle.theory.specs.Diagrams as D
@@ -18,27 +17,36 @@ use Rattle.settings.proofs.Answers.{retell, tells-eqb}
 use Rattle.sheet_bytes.specs.Sections.{two}
 use Rattle.sheet_bytes.specs.Sheet.{targetBytes}
 use Rattle.sheet_bytes.specs.Bytes.{Holds, Laid, Lays}
-use Rattle.promises.specs.Sheet.{byte, triple as word, sheetFeatures as features, sheetSize as size, sheetSizes as sizesOf, sheetCount as count, nodePlace as place}
+use Rattle.sheet_bytes.specs.Frame as F
+use Rattle.sheet_bytes.specs.Frame.{Opens}
+use Rattle.sheet_bytes.specs.RuleFrame.{ruleFrame}
+use Rattle.sheet_bytes.proofs.Framing as G
+use Rattle.sheet_bytes.proofs.RuleHand.{rule-regular}
+use Rattle.promises.specs.Sheet.{byte, pair, triple as word, sheetFeatures as features, sheetSize as size, sheetSizes as sizesOf, sheetCount as count, nodePlace as place}
 use Rattle.promises.specs.Sheet.{sheetFeature as feature, sheetWidth as width, sheetBranch as branch, nodesEnd as end, Begins as Head, Lies as Lie}
 
 -- ---- the feature list
 module _ {s : List ℕ} (h : Head s) where
+  pub opens : Opens ruleFrame s
+  unfolding F.sizesOf sizesOf pair
+  opens = record { start = omega (arith, h .zero, h .one); long = h .long; list = h .list }
+
   pub sizes-length : length (sizesOf s) ≡ features s
-  unfolding sizesOf
-  sizes-length = simp (length-take, length-drop) (omega (arith, h .long))
+  unfolding F.sizesOf sizesOf
+  sizes-length = G.sizes-length opens
 
   pub sizes-at : (k : ℕ) → k < features s → getD (sizesOf s) k 0 ≡ size s k
-  unfolding sizesOf
-  sizes-at k l = rw (getD-take, getD-drop)
+  unfolding F.sizesOf sizesOf
+  sizes-at = G.sizes-at opens
 
   pub few : features s ≤ 16
-  few = omega (arith, h .list .few, sizes-length)
+  few = G.few opens
 
   pub size-least : (k : ℕ) → k < features s → 2 ≤ size s k
-  size-least k l = omega (arith, h .list .least k (omega (arith, sizes-length)), sizes-at k l)
+  size-least = G.size-least opens
 
   pub size-most : (k : ℕ) → k < features s → size s k ≤ 8
-  size-most k l = omega (arith, h .list .most k (omega (arith, sizes-length)), sizes-at k l)
+  size-most = G.size-most opens
 
 -- what the code takes for the feature list
 pub part-sizes : (s : List ℕ) (n : ℕ) → n ≡ features s → take (5 + n - 5) (drop 5 s) ≡ sizesOf s
@@ -54,22 +62,16 @@ head-tells s t n e z o d l =
 
 -- ---- the nodes
 pub place-zero : (s : List ℕ) → place s 0 ≡ 7 + features s
-unfolding place
-place-zero s = refl
+place-zero = rule-regular .front
 
 pub place-suc : (s : List ℕ) (i : ℕ) → place s (suc i) ≡ place s i + 1 + 3 * width s i
-unfolding place
-place-suc s i = refl
+place-suc = rule-regular .next
 
 pub place-next : (s : List ℕ) (i : ℕ) → place s (i + 1) ≡ place s i + 1 + 3 * width s i
 place-next s i = rw add-one (place-suc s i)
 
-place-up : (s : List ℕ) (i n : ℕ) → place s i ≤ place s (i + n)
-place-up s i zero = let e : i + 0 ≡ i = omega arith in rw e (omega arith)
-place-up s i (suc n) = let e : i + suc n ≡ i + n + 1 = omega arith in rw e (omega (arith, place-next s (i + n), place-up s i n))
-
 pub place-le : (s : List ℕ) (i j : ℕ) → i ≤ j → place s i ≤ place s j
-place-le s i j h = let e : i + (j - i) ≡ j = omega arith in rw e at (place-up s i (j - i))
+place-le = G.place-le rule-regular
 
 -- node i ends before the root section
 pub reach : {s : List ℕ} → Lie s → (i : ℕ) → i < count s → place s i + 1 + 3 * width s i + 5 ≤ length s
@@ -104,9 +106,6 @@ module _ {s at : List ℕ} (d : Laid s at) {i : ℕ} (h : i < count s) where
 
   pub feature-few : feature s i < 16
   feature-few = omega (arith, d .lie .known i h, few (d .head))
-
-  pub width-least : 2 ≤ width s i
-  width-least = size-least (d .head) (feature s i) (d .lie .known i h)
 
   pub width-most : width s i ≤ 8
   width-most = size-most (d .head) (feature s i) (d .lie .known i h)

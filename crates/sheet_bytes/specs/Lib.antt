@@ -1,3 +1,6 @@
 pub mod Sections
 pub mod Sheet
 pub mod Bytes
+pub mod Hand
+pub mod Frame
+pub mod RuleFrame
