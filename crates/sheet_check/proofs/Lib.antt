@@ -1,8 +1,7 @@
 pub mod Hashing
 pub mod Diagrams
 pub mod Walks
-pub mod Decoding
-pub mod Small
+pub mod Goods
 pub mod Reading
 pub mod Writing
 pub mod Answering
