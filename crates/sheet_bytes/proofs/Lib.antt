@@ -6,3 +6,4 @@ pub mod Framed
 pub mod Drawing
 pub mod RuleHand
 pub mod Places
+pub mod Opening

@@ -2,7 +2,7 @@
 ghost use mathlib.Core.Path.{_≡_};
 ghost use Prim.Native.Nat.{_+_, _<_};
 ghost use lib.ListN.{length};
-ghost use Rattle.promises.specs.Sheet.{pair, triple as word};
+ghost use Rattle.promises.specs.Sheet.{pair};
 
 // A byte as an index.
 pub fn wide(x: u8) -> usize
@@ -32,12 +32,4 @@ pub fn pair_at(s: &[u8], p: usize) -> usize
     ensures { λ r. ⌜ (r ≡ pair (now (s .entry)) p) × (r < 65536) ⌝ }
 {
     wide(s[p]) * 256 + wide(s[p + 1])
-}
-
-// A branch's three bytes at p, as one number.
-pub fn word_at(s: &[u8], p: usize) -> usize
-    requires { ⌜ p + 2 < length (now s) ⌝ }
-    ensures { λ r. ⌜ (r ≡ word (now (s .entry)) p) × (r < 16777216) ⌝ }
-{
-    wide(s[p]) * 65536 + pair_at(s, p + 1)
 }

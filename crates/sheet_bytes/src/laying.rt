@@ -3,21 +3,40 @@ use crate::bytes::index;
 use crate::bytes::narrow;
 use crate::bytes::pair_at;
 use crate::bytes::wide;
-use crate::bytes::word_at;
+use crate::hand::BRANCH;
+use crate::hand::spot;
+use crate::hand::word_at;
 use settings::features_ok;
 ghost use mathlib.Core.Path.{_≡_};
 ghost use Prim.Native.Nat.{_≤_, _<_};
 ghost use lib.ListN.{length};
 ghost use Rattle.settings.specs.Tells.{Tells};
-ghost use Rattle.sheet_bytes.specs.Bytes.{Laid, Lays};
-ghost use Rattle.promises.specs.Sheet.{NewerSheet, sheetFeatures as features, sheetSize as size, sheetCount as count, sheetFeature as feature};
-ghost use Rattle.promises.specs.Sheet.{sheetWidth as width, sheetBranch as branch, sheetRoot as root, Begins as Head, Lies as Lie};
+ghost use Rattle.sheet_bytes.specs.Frame.{Opens, Lays, rootSpot};
+ghost use Rattle.sheet_bytes.specs.RuleFrame.{ruleFrame};
+ghost use Rattle.sheet_bytes.specs.Bytes.{Placed, Laying};
+ghost use Rattle.promises.specs.Sheet.{byte, triple as word, NewerSheet, sheetFeatures as features, sheetSize as size, sheetCount as count};
+ghost use Rattle.promises.specs.Sheet.{sheetFeature as feature, sheetWidth as width, sheetBranch as branch};
+
+// The first section has one byte, the edition.
+const FIRST: usize = 1;
+
+// A section begins with the count of its items, of two bytes.
+const COUNT: usize = 2;
+
+// Where the second section begins, that of the features.
+const SECOND: usize = COUNT + FIRST;
+
+// Where the sizes begin.
+pub const SIZES: usize = SECOND + COUNT;
+
+// What stands before the nodes, besides the sizes.
+const BEFORE: usize = SIZES + COUNT;
 
 // Whether a later edition wrote the sheet.
 pub fn newer(s: &[u8]) -> bool
     ensures { λ r. ⌜ Tells r (NewerSheet (now (s .entry))) ⌝ }
 {
-    if s.len() < 3 {
+    if s.len() < SECOND {
         return false;
     }
     if s[0] != 0 {
@@ -32,66 +51,71 @@ pub fn newer(s: &[u8]) -> bool
     true
 }
 
-// Whether the sections before the nodes are good.
+// Whether the sections before the nodes are good, whatever the edition.
 pub fn head_ok(s: &[u8]) -> bool
-    ensures { λ r. ⌜ Tells r (Head (now (s .entry))) ⌝ }
+    ensures { λ r. ⌜ Tells r (Opens ruleFrame (now (s .entry))) ⌝ }
 {
-    if s.len() < 7 {
+    if s.len() < BEFORE {
         return false;
     }
-    if s[0] != 0 {
+    if pair_at(s, 0) != FIRST {
         return false;
     }
-    if s[1] != 1 {
+    let n = pair_at(s, SECOND);
+    if s.len() < BEFORE + n {
         return false;
     }
+    let from: usize = SIZES;
+    let to = SIZES + n;
+    features_ok(&s[from..to])
+}
+
+// Whether the edition is 1.
+pub fn first_edition(s: &[u8]) -> bool
+    requires { ⌜ Opens ruleFrame (now s) ⌝ }
+    ensures { λ r. ⌜ Tells r (byte (now (s .entry)) 2 ≡ 1) ⌝ }
+{
     if s[2] != 1 {
         return false;
     }
-    let n = pair_at(s, 3);
-    if s.len() < 7 + n {
-        return false;
-    }
-    let from: usize = 5;
-    let to = 5 + n;
-    features_ok(&s[from..to])
+    true
 }
 
 // How many features the sheet has.
 pub fn features_of(s: &[u8]) -> usize
-    requires { ⌜ Head (now s) ⌝ }
+    requires { ⌜ Opens ruleFrame (now s) ⌝ }
     ensures { λ r. ⌜ (r ≡ features (now (s .entry))) × (1 ≤ r) × (r ≤ 16) ⌝ }
 {
-    pair_at(s, 3)
+    pair_at(s, SECOND)
 }
 
 // The size of feature k.
 pub fn size_at(s: &[u8], k: usize) -> usize
-    requires { ⌜ (Head (now s)) × (k < features (now s)) ⌝ }
+    requires { ⌜ (Opens ruleFrame (now s)) × (k < features (now s)) ⌝ }
     ensures { λ r. ⌜ (r ≡ size (now (s .entry)) k) × (2 ≤ r) × (r ≤ 8) ⌝ }
 {
-    wide(s[5 + k])
+    wide(s[SIZES + k])
 }
 
 // How many nodes the sheet has.
 pub fn count_of(s: &[u8]) -> usize
-    requires { ⌜ Head (now s) ⌝ }
+    requires { ⌜ Opens ruleFrame (now s) ⌝ }
     ensures { λ r. ⌜ (r ≡ count (now (s .entry))) × (r < 65536) ⌝ }
 {
-    pair_at(s, 5 + features_of(s))
+    pair_at(s, SIZES + features_of(s))
 }
 
-// Whether the nodes lie one after the other up to a root that ends the sheet; then their places are noted.
-pub fn lay(s: &[u8], at: &mut [u32; 4096]) -> bool
-    requires { ⌜ (Head (now s)) × (length (now at) ≡ 4096) ⌝ }
-    ensures { λ r. ⌜ Lays (now (s .entry)) (now (at .exit)) r ⌝ }
+// Whether the nodes lie one after the other up to so many roots, which end the sheet; then their places are noted.
+pub fn lay(s: &[u8], at: &mut [u32; 4096], roots: usize) -> bool
+    requires { ⌜ (Opens ruleFrame (now s)) × (length (now at) ≡ 4096) × (roots ≤ 32) ⌝ }
+    ensures { λ r. ⌜ Laying (now (s .entry)) (now (at .exit)) roots r ⌝ }
 {
     let n = features_of(s);
     let m = count_of(s);
     if 4096 < m {
         return false;
     }
-    let mut p = 7 + n;
+    let mut p = BEFORE + n;
     let mut i: usize = 0;
     while i < m {
         if s.len() <= p {
@@ -102,29 +126,26 @@ pub fn lay(s: &[u8], at: &mut [u32; 4096]) -> bool
             return false;
         }
         at[i] = narrow(p);
-        p = p + 1 + 3 * size_at(s, f);
+        p = spot(p + 1, size_at(s, f));
         i += 1;
     }
-    if s.len() != p + 5 {
+    if s.len() != spot(p + COUNT, roots) {
         return false;
     }
-    if s[p] != 0 {
-        return false;
-    }
-    s[p + 1] == 1
+    pair_at(s, p) == roots
 }
 
-// The root's branch word.
-pub fn root_of(s: &[u8]) -> usize
-    requires { ⌜ Lie (now s) ⌝ }
-    ensures { λ r. ⌜ (r ≡ root (now (s .entry))) × (r < 16777216) ⌝ }
+// The branch word of root r, where so many roots end the sheet.
+pub fn root_at(s: &[u8], roots: usize, r: usize) -> usize
+    requires { ⌜ (Lays ruleFrame (now s) roots 0) × (r < roots) × (roots ≤ 32) ⌝ }
+    ensures { λ x. ⌜ (x ≡ word (now (s .entry)) (rootSpot ruleFrame (now (s .entry)) r)) × (x < 16777216) ⌝ }
 {
-    word_at(s, s.len() - 3)
+    word_at(s, spot(s.len() - BRANCH * roots, r))
 }
 
 // The feature of node i.
 pub fn feature_at(s: &[u8], at: &[u32; 4096], i: usize) -> usize
-    requires { ⌜ (Laid (now s) (now at)) × (i < count (now s)) ⌝ }
+    requires { ⌜ (Placed (now s) (now at)) × (i < count (now s)) ⌝ }
     ensures { λ r. ⌜ (r ≡ feature (now (s .entry)) i) × (r < 16) ⌝ }
 {
     wide(s[index(at[i])])
@@ -132,7 +153,7 @@ pub fn feature_at(s: &[u8], at: &[u32; 4096], i: usize) -> usize
 
 // How many branches node i has.
 pub fn width_at(s: &[u8], at: &[u32; 4096], i: usize) -> usize
-    requires { ⌜ (Laid (now s) (now at)) × (i < count (now s)) ⌝ }
+    requires { ⌜ (Placed (now s) (now at)) × (i < count (now s)) ⌝ }
     ensures { λ r. ⌜ (r ≡ width (now (s .entry)) i) × (2 ≤ r) × (r ≤ 8) ⌝ }
 {
     size_at(s, feature_at(s, at, i))
@@ -140,8 +161,8 @@ pub fn width_at(s: &[u8], at: &[u32; 4096], i: usize) -> usize
 
 // The word of branch v of node i.
 pub fn branch_at(s: &[u8], at: &[u32; 4096], i: usize, v: usize) -> usize
-    requires { ⌜ (Laid (now s) (now at)) × (i < count (now s)) × (v < width (now s) i) ⌝ }
+    requires { ⌜ (Placed (now s) (now at)) × (i < count (now s)) × (v < width (now s) i) ⌝ }
     ensures { λ r. ⌜ (r ≡ branch (now (s .entry)) i v) × (r < 16777216) ⌝ }
 {
-    word_at(s, index(at[i]) + 1 + 3 * v)
+    word_at(s, spot(index(at[i]) + 1, v))
 }

@@ -16,15 +16,17 @@ ghost use Prim.Native.Nat.{_<_};
 ghost use Rattle.settings.specs.Tells.{Tells};
 ghost use Rattle.promises.specs.Words.{sizes};
 ghost use Rattle.promises.specs.RuleSound.{RuleSound};
-ghost use Rattle.promises.specs.Sheet.{sheetSizes, sheetRule, Begins};
+ghost use Rattle.promises.specs.Sheet.{sheetSizes, sheetRule};
 ghost use Rattle.promises.specs.Deed.{Meets};
 ghost use Rattle.promises.specs.SheetDeeds.{read-sheet};
 ghost use Rattle.rule_settling.specs.Settling.{Puts};
+ghost use Rattle.sheet_bytes.specs.Frame.{Opens};
+ghost use Rattle.sheet_bytes.specs.RuleFrame.{ruleFrame};
 ghost use Rattle.sheet_check.specs.Diagram.{Ready};
 
 // Whether the sheet's feature list is the table's.
 fn same_list(t: &[u32], sheet: &[u8]) -> bool
-    requires { ⌜ (RuleSound (now t)) × (Begins (now sheet)) ⌝ }
+    requires { ⌜ (RuleSound (now t)) × (Opens ruleFrame (now sheet)) ⌝ }
     ensures { λ r. ⌜ Tells r (sheetSizes (now (sheet .entry)) ≡ sizes (now (t .entry))) ⌝ }
 {
     let n = features_of(sheet);

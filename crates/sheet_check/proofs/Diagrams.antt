@@ -59,7 +59,7 @@ code-of w = go (decLt w 65536)
     go (yes h) = ap (λ (b : Branch). code (b .to)) (branch-phrase w h)
     go (no h) = ap (λ (b : Branch). code (b .to)) (branch-node w (omega arith)) ∙ (let e : 65536 + (w - 65536) ≡ w = omega arith in e)
 
-word-same : (w x : ℕ) → branchOf w ≡ branchOf x → w ≡ x
+pub word-same : (w x : ℕ) → branchOf w ≡ branchOf x → w ≡ x
 word-same w x e = sym (code-of w) ∙ ap (λ (b : Branch). code (b .to)) e ∙ code-of x
 
 -- every word is a small phrase or a node

@@ -1,21 +1,23 @@
-// The nodes stand as the walk from the root finishes them: the walk keeps only how many nodes are done.
+// The nodes stand as the walk from the roots finishes them: the walk keeps only how many nodes are done.
 use sheet_bytes::NUMBERS;
 use sheet_bytes::branch_at;
 use sheet_bytes::count_of;
-use sheet_bytes::root_of;
+use sheet_bytes::root_at;
 use sheet_bytes::width_at;
-ghost use Prim.Native.Nat.{_<_};
+ghost use Prim.Native.Nat.{_≤_, _<_};
 ghost use Rattle.settings.specs.Tells.{Tells};
-ghost use Rattle.sheet_bytes.specs.Bytes.{Laid};
-ghost use Rattle.sheet_check.specs.Diagram.{Visits, VisitsAll};
-ghost use Rattle.promises.specs.Sheet.{sheetCount as count, sheetRoot as root, SheetSits as Below, SheetOrdered as Ordered, InOrder};
+ghost use Rattle.sheet_bytes.specs.Frame.{Lays};
+ghost use Rattle.sheet_bytes.specs.RuleFrame.{ruleFrame};
+ghost use Rattle.sheet_bytes.specs.Bytes.{Placed};
+ghost use Rattle.sheet_check.specs.Diagram.{Downward, Rooted, Visits, VisitsAll, InTurn};
+ghost use Rattle.promises.specs.Sheet.{sheetCount as count, SheetSits as Below};
 
 // A walk that met a node out of its turn; more than any count of nodes.
 const LOST: usize = 65536;
 
 // The walk from the branch word w, the nodes below c done: how many are done after it, or 65,536 where one is not met in its turn.
 fn visit(s: &[u8], at: &[u32; 4096], w: usize, c: usize) -> usize
-    requires { ⌜ (Ordered (now s)) × (Laid (now s) (now at)) × (Below (now s) (count (now s)) 0 w) × (c < 65536) ⌝ }
+    requires { ⌜ (Downward (now s)) × (Placed (now s) (now at)) × (Below (now s) (count (now s)) 0 w) × (c < 65536) ⌝ }
     ensures { λ r. ⌜ Visits (now (s .entry)) w c r ⌝ }
 {
     if w < NUMBERS {
@@ -33,7 +35,7 @@ fn visit(s: &[u8], at: &[u32; 4096], w: usize, c: usize) -> usize
 
 // The same over the branches of node i in turn. A lost walk stops at once, so each node's branches are walked once.
 fn visit_list(s: &[u8], at: &[u32; 4096], i: usize, c: usize) -> usize
-    requires { ⌜ (Ordered (now s)) × (Laid (now s) (now at)) × (i < count (now s)) × (c < 65536) ⌝ }
+    requires { ⌜ (Downward (now s)) × (Placed (now s) (now at)) × (i < count (now s)) × (c < 65536) ⌝ }
     ensures { λ r. ⌜ VisitsAll (now (s .entry)) i c r ⌝ }
 {
     let z = width_at(s, at, i);
@@ -49,10 +51,19 @@ fn visit_list(s: &[u8], at: &[u32; 4096], i: usize, c: usize) -> usize
     d
 }
 
-// Whether the walk from the root meets all nodes, each in its turn.
-pub fn in_order(s: &[u8], at: &[u32; 4096]) -> bool
-    requires { ⌜ (Ordered (now s)) × (Laid (now s) (now at)) × (Below (now s) (count (now s)) 0 (root (now s))) ⌝ }
-    ensures { λ r. ⌜ Tells r (InOrder (now (s .entry))) ⌝ }
+// Whether the walk from the roots in turn meets all nodes, each in its turn.
+pub fn in_order(s: &[u8], at: &[u32; 4096], roots: usize) -> bool
+    requires { ⌜ (Downward (now s)) × (Placed (now s) (now at)) × (Lays ruleFrame (now s) roots 0) × (Rooted (now s) roots) × (roots ≤ 32) ⌝ }
+    ensures { λ r. ⌜ Tells r (InTurn (now (s .entry))) ⌝ }
 {
-    visit(s, at, root_of(s), 0) == count_of(s)
+    let mut d: usize = 0;
+    let mut r: usize = 0;
+    while r < roots {
+        d = visit(s, at, root_at(s, roots, r), d);
+        if LOST <= d {
+            return false;
+        }
+        r += 1;
+    }
+    d == count_of(s)
 }

@@ -1,4 +1,4 @@
-// No two nodes are equal: each is searched for among the earlier nodes of its hash. Linear in the bytes, if the hash spreads the nodes.
+// No node is idle, and no two are equal: each is searched for among the earlier nodes of its hash. Linear in the bytes, if the hash spreads the nodes.
 use sheet_bytes::branch_at;
 use sheet_bytes::count_of;
 use sheet_bytes::feature_at;
@@ -8,13 +8,31 @@ use sheet_bytes::width_at;
 ghost use mathlib.Core.Path.{_≡_};
 ghost use Prim.Native.Nat.{_<_};
 ghost use Rattle.settings.specs.Tells.{Tells};
-ghost use Rattle.sheet_bytes.specs.Bytes.{Laid};
+ghost use Rattle.sheet_bytes.specs.Bytes.{Placed};
 ghost use Rattle.sheet_check.specs.Chains.{hash, Chained};
-ghost use Rattle.promises.specs.Sheet.{sheetCount as count, SheetSame as Same, SheetAlone as New, Once};
+ghost use Rattle.sheet_check.specs.Diagram.{Reduced};
+ghost use Rattle.promises.specs.Sheet.{sheetCount as count, SheetAlike as Alike, SheetSame as Same, SheetAlone as New};
+
+// Whether the branches of node i are all equal.
+fn alike(s: &[u8], at: &[u32; 4096], i: usize) -> bool
+    requires { ⌜ (Placed (now s) (now at)) × (i < count (now s)) ⌝ }
+    ensures { λ r. ⌜ Tells r (Alike (now (s .entry)) i) ⌝ }
+{
+    let z = width_at(s, at, i);
+    let first = branch_at(s, at, i, 0);
+    let mut v: usize = 0;
+    while v < z {
+        if branch_at(s, at, i, v) != first {
+            return false;
+        }
+        v += 1;
+    }
+    true
+}
 
 // Whether nodes i and j are equal.
 fn same(s: &[u8], at: &[u32; 4096], i: usize, j: usize) -> bool
-    requires { ⌜ (Laid (now s) (now at)) × (i < count (now s)) × (j < count (now s)) ⌝ }
+    requires { ⌜ (Placed (now s) (now at)) × (i < count (now s)) × (j < count (now s)) ⌝ }
     ensures { λ r. ⌜ Tells r (Same (now (s .entry)) i j) ⌝ }
 {
     if feature_at(s, at, i) != feature_at(s, at, j) {
@@ -33,7 +51,7 @@ fn same(s: &[u8], at: &[u32; 4096], i: usize, j: usize) -> bool
 
 // The hash of node i.
 fn hash_of(s: &[u8], at: &[u32; 4096], i: usize) -> usize
-    requires { ⌜ (Laid (now s) (now at)) × (i < count (now s)) ⌝ }
+    requires { ⌜ (Placed (now s) (now at)) × (i < count (now s)) ⌝ }
     ensures { λ r. ⌜ (r ≡ hash (now (s .entry)) i) × (r < 4096) ⌝ }
 {
     let z = width_at(s, at, i);
@@ -55,7 +73,7 @@ fn fresh(
     i: usize,
     h: usize,
 ) -> bool
-    requires { ⌜ (Laid (now s) (now at)) × (i < count (now s)) × (Chained (now s) (now heads) (now links) i) × (h ≡ hash (now s) i) × (h < 4096) ⌝ }
+    requires { ⌜ (Placed (now s) (now at)) × (i < count (now s)) × (Chained (now s) (now heads) (now links) i) × (h ≡ hash (now s) i) × (h < 4096) ⌝ }
     ensures { λ r. ⌜ Tells r (New (now (s .entry)) i) ⌝ }
 {
     let mut c = index(heads[h]);
@@ -69,16 +87,19 @@ fn fresh(
     true
 }
 
-// Whether no two nodes are equal.
-pub fn once(s: &[u8], at: &[u32; 4096]) -> bool
-    requires { ⌜ Laid (now s) (now at) ⌝ }
-    ensures { λ r. ⌜ Tells r (Once (now (s .entry))) ⌝ }
+// Whether no node is idle and no two are equal, in one pass.
+pub fn reduced(s: &[u8], at: &[u32; 4096]) -> bool
+    requires { ⌜ Placed (now s) (now at) ⌝ }
+    ensures { λ r. ⌜ Tells r (Reduced (now (s .entry))) ⌝ }
 {
     let m = count_of(s);
     let mut heads = [0u32; 4096];
     let mut links = [0u32; 4096];
     let mut i: usize = 0;
     while i < m {
+        if alike(s, at, i) {
+            return false;
+        }
         let h = hash_of(s, at, i);
         if !fresh(s, at, &heads, &links, i, h) {
             return false;

@@ -22,9 +22,10 @@ use Rattle.rule_nodes.specs.declared.Answer.{Answer}
 use Rattle.rule_nodes.specs.declared.Answer.the-variants.{Is, NoRoom}
 use Rattle.rule_nodes.proofs.Filling.{gives-eq, result-there, built-there, built-jump, fill-start, fill-more, fill-stop, stop-result, fill-listed, fill-make, result-mean, mean-result}
 use Rattle.rule_nodes.proofs.Reading.{lawful, good-small}
-use Rattle.sheet_bytes.proofs.Places.{sizes-length, sizes-at}
+use Rattle.sheet_bytes.proofs.Opening.{open-length, open-at}
 use Rattle.sheet_check.specs.Diagram.{Ready}
 use Rattle.sheet_check.proofs.Diagrams.{nodes-length, nodes-at, feature-at, branches-at, branch-node, below-ok}
+use Rattle.sheet_check.proofs.Wording.{good-downward}
 use Rattle.sheet_check.proofs.Walks.{branch-below}
 use Rattle.sheet_reader.specs.Reader.{given, Noted, Asks, Takes}
 use Rattle.sheet_reader.proofs.Noting.{noted-none, noted-grown, noted-put}
@@ -56,7 +57,7 @@ module _ (w s ps n : List ℕ) (b : ℕ) (q : Asks w s ps n b) where
     inside = omega (arith, q .below .earlier h)
 
     pub in-notes : i < 4096
-    in-notes = omega (arith, inside, q .ready .laid .lie .room)
+    in-notes = omega (arith, inside, q .ready .laid .room)
 
     whose : 65536 + i ≡ b
     whose = omega arith
@@ -73,15 +74,15 @@ module _ (w s ps n : List ℕ) (b : ℕ) (q : Asks w s ps n b) where
       g = given s k b
 
       same-features : features w ≡ sheet-features s
-      same-features = sym (length-sizes w) ∙ ap length (q .same) ∙ sizes-length (q .ready .laid .head)
+      same-features = sym (length-sizes w) ∙ ap length (q .same) ∙ open-length (q .ready .laid .opens)
 
       hk : k < features w
-      hk = omega (arith, same-features, q .ready .laid .lie .known i inside)
+      hk = omega (arith, same-features, q .ready .laid .known i inside)
 
       pub size-here : size w k ≡ width s i
       size-here =
           sym (at-sizes w k hk) ∙ ap (λ (S : List ℕ). getD S k 0) (q .same) ∙ ap (λ (j : ℕ). getD (sizesOf s) j 0) ek
-          ∙ sizes-at (q .ready .laid .head) (feature s i) (q .ready .laid .lie .known i inside)
+          ∙ open-at (q .ready .laid .opens) (feature s i) (q .ready .laid .known i inside)
 
       is : decode b ≡ node i
       is = branch-node b h ∙ ap node (sym ei)
@@ -109,7 +110,7 @@ module _ (w s ps n : List ℕ) (b : ℕ) (q : Asks w s ps n b) where
         -- the call for branch v
         module _ (c : ℕ) (hv : v < width s i) (ec : c ≡ branch s i v) where
           lower : (Below s (count s) 0 c) × (c < 65536 + i)
-          lower = branch-below (q .ready .good .ordered) i v inside hv ec
+          lower = branch-below (good-downward (q .ready .good)) i v inside hv ec
 
           pub asks-branch : Asks t s ps n′ c
           asks-branch =
@@ -183,7 +184,7 @@ module _ (w s ps n : List ℕ) (b : ℕ) (q : Asks w s ps n b) where
 -- ---- the whole: nothing is noted at first
 pub asks-root : (w s ps n : List ℕ) (b : ℕ) → Holds w → Ready s ps → sizes w ≡ sizesOf s → b ≡ root s → length n ≡ 4096 → ((i : ℕ) → i < 4096 → getD n i 0 ≡ 0) → Asks w s ps n b
 asks-root w s ps n b ok d e eb l z =
-    record { holds = ok; ready = d; same = e; below = rw eb (d .good .top); noted = noted-none w s n (d .laid .lie .room) l z }
+    record { holds = ok; ready = d; same = e; below = rw eb (d .good .top); noted = noted-none w s n (d .laid .room) l z }
 
 pub takes-root : (w t s n : List ℕ) (b : ℕ) (a : Answer) → b ≡ root s → Takes w t s n b a → Result w t 0 (ruleOf s) a
 takes-root w t s n b a e y = subst (λ (x : ℕ). Result w t 0 (given s 0 x) a) e (y .result)

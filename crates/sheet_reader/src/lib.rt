@@ -2,9 +2,10 @@
 use rule_nodes::Answer;
 use rule_nodes::make;
 use sheet_bytes::NUMBERS;
+use sheet_bytes::ROOTS;
 use sheet_bytes::branch_at;
 use sheet_bytes::feature_at;
-use sheet_bytes::root_of;
+use sheet_bytes::root_at;
 use sheet_bytes::width_at;
 use table_words::narrow;
 ghost use mathlib.Core.Path.{_≡_};
@@ -58,5 +59,5 @@ pub fn take_in(t: &mut [u32], s: &[u8], at: &[u32; 4096]) -> Answer
     ensures { λ r. ⌜ Result (now (t .entry)) (now (t .exit)) 0 (ruleOf (now (s .entry))) r ⌝ }
 {
     let mut notes = [0u32; 4096];
-    take_branch(t, s, at, &mut notes, root_of(s))
+    take_branch(t, s, at, &mut notes, root_at(s, ROOTS, 0))
 }

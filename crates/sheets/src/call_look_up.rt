@@ -5,11 +5,13 @@ use settings::Refusal;
 use settings::refusal_number;
 use settings::setting_ok;
 use sheet_bytes::NUMBERS;
+use sheet_bytes::ROOTS;
+use sheet_bytes::SIZES;
 use sheet_bytes::branch_at;
 use sheet_bytes::feature_at;
 use sheet_bytes::features_of;
 use sheet_bytes::narrow;
-use sheet_bytes::root_of;
+use sheet_bytes::root_at;
 use sheet_bytes::wide;
 use sheet_check::check;
 ghost use mathlib.Core.Path.{_≡_};
@@ -18,9 +20,11 @@ ghost use Rattle.theory.specs.Settings.{Valid};
 ghost use Rattle.theory.specs.Questions.{asked};
 ghost use Rattle.settings.specs.declared.refusals.Outcome.the-variants.{Taken};
 ghost use Rattle.settings.specs.Tells.{Tells};
-ghost use Rattle.promises.specs.Sheet.{sheetSizes, sheetRule, Begins};
+ghost use Rattle.promises.specs.Sheet.{sheetSizes, sheetRule};
 ghost use Rattle.promises.specs.Deed.{Meets};
 ghost use Rattle.promises.specs.SheetDeeds.{look-up-in};
+ghost use Rattle.sheet_bytes.specs.Frame.{Opens};
+ghost use Rattle.sheet_bytes.specs.RuleFrame.{ruleFrame};
 ghost use Rattle.sheet_check.specs.Diagram.{Ready};
 ghost use Rattle.promises.specs.ForC.{heard, Hears, tell-returned};
 
@@ -29,11 +33,11 @@ const REFUSED: u32 = 65536;
 
 // Whether the bytes t are a setting of the sheet's features.
 fn fits(s: &[u8], t: &[u8]) -> bool
-    requires { ⌜ Begins (now s) ⌝ }
+    requires { ⌜ Opens ruleFrame (now s) ⌝ }
     ensures { λ r. ⌜ Tells r (Valid (sheetSizes (now (s .entry))) (now (t .entry))) ⌝ }
 {
-    let from: usize = 5;
-    let to = 5 + features_of(s);
+    let from: usize = SIZES;
+    let to = SIZES + features_of(s);
     setting_ok(&s[from..to], t)
 }
 
@@ -43,7 +47,7 @@ fn walk(s: &[u8], at: &[u32; 4096], t: &[u8]) -> Looked
     ensures { λ r. ⌜ (r .outcome ≡ Taken) × (r .number ≡ sheetRule (now (s .entry)) (now (t .entry)) .end)
         × (r .asked ≡ asked (sheetSizes (now (s .entry))) (sheetRule (now (s .entry))) (now (t .entry))) ⌝ }
 {
-    let mut b = root_of(s);
+    let mut b = root_at(s, ROOTS, 0);
     let mut asked: u32 = 0;
     while NUMBERS <= b {
         let i = b - NUMBERS;

@@ -1,6 +1,7 @@
 -- `sheet_bytes::laying::lay` meets its contract: the nodes passed lie where `place` says, and their places are noted. Assumes nothing.
 use Rattle.sheet_bytes.specs.Bytes.{Holds}
-use Rattle.sheet_bytes.proofs.Places.{place-zero, place-next, place-le, holds-none, holds-more, lay-lost, all-passed, lay-tells}
+use Rattle.sheet_bytes.proofs.Places.{place-zero, place-next, place-le, holds-none, holds-more, all-passed}
+use Rattle.sheet_bytes.proofs.Opening.{laying-lost, laying-tells}
 use Prim.Native.Nat.{ℕ, _+_, _*_, _-_, _≤_, _<_}
 use mathlib.Core.Path.{_≡_, sym, ap, _∙_}
 use native.Mathlib.Omega.{arith}
@@ -12,10 +13,11 @@ use Rattle.sheet_bytes.proofs.laying.lay.Tie as tie
 use Rattle.promises.specs.Sheet.{byte, sheetFeatures as features, sheetSize as size, sheetCount as count, nodePlace as place, sheetFeature as feature, sheetWidth as width}
 
 abbrev Inv-loop : tie.InvT-loop
-Inv-loop s at₀ n m p₀ i₀ at p i = (n ≡ features s) × (m ≡ count s) × (i ≤ m) × (p ≡ place s i) × (p ≤ 23 + 25 * i) × ((j : ℕ) → j < i → feature s j < features s) × (Holds s at i) × (length at ≡ 4096)
+Inv-loop s at₀ roots n m p₀ i₀ at p i = (n ≡ features s) × (m ≡ count s) × (i ≤ m) × (p ≡ place s i) × (p ≤ 23 + 25 * i)
+    × ((j : ℕ) → j < i → feature s j < features s) × (Holds s at i) × (length at ≡ 4096)
 
 abbrev μ-loop : tie.MeasureT-loop
-μ-loop s at₀ n m p₀ i₀ at p i = m - i
+μ-loop s at₀ roots n m p₀ i₀ at p i = m - i
 
 features-of-requires : tie.Need-features-of-requires Inv-loop μ-loop
 features-of-requires c κs = (c .before) .pre .0
@@ -24,7 +26,7 @@ count-of-requires : tie.Need-count-of-requires Inv-loop μ-loop
 count-of-requires c κs = (c .before .before) .pre .0
 
 returns : tie.Need-returns Inv-loop μ-loop
-returns c = lay-lost (λ l. omega (arith, l .room, (c .before .count-of) .ensures .0))
+returns c = laying-lost (λ l. omega (arith, l .room, (c .before .count-of) .ensures .0))
 
 loop-holds : tie.Need-loop-holds Inv-loop μ-loop
 loop-holds c = (
@@ -41,13 +43,13 @@ loop-holds c = (
 returns-2 : tie.Need-returns-2 Inv-loop μ-loop
 returns-2 c =
     let c7 = c .before .before .before .before .before .before .before in
-    let l = c .before .before .loop in lay-lost (λ q. omega (arith, q .ends, place-le (c7 .args .s .now) (l .i) (count (c7 .args .s .now)) (omega (arith, l .inv .1)), l .inv .3))
+    let l = c .before .before .loop in laying-lost (λ q. omega (arith, q .lays .ends, place-le (c7 .args .s .now) (l .i) (count (c7 .args .s .now)) (omega (arith, l .inv .1)), l .inv .3))
 
 returns-3 : tie.Need-returns-3 Inv-loop μ-loop
 returns-3 c =
     let c10 = c .before .before .before .before .before .before .before .before .before .before in
-    let l = c .before .before .before .before .before .loop in lay-lost (λ q. omega
-    (arith, q .known (l .i) (omega (arith, l .inv .1)), c .before .wide .ensures .0 ∙ ap (byte (c10 .args .s .now)) (l .inv .3), l .inv .0))
+    let l = c .before .before .before .before .before .loop in laying-lost (λ q. omega
+    (arith, q .lays .known (l .i) (omega (arith, l .inv .1)), c .before .wide .ensures .0 ∙ ap (byte (c10 .args .s .now)) (l .inv .3), l .inv .0))
 
 narrow-requires : tie.Need-narrow-requires Inv-loop μ-loop
 narrow-requires c κs = let l = (c .before .before .before .before .before .loop) in omega (arith, l .inv .4)
@@ -57,41 +59,45 @@ size-at-requires c κs =
     let c6 = c .before .before .before .before .before .before in let c11 = c6 .before .before .before .before .before in
     let l = c6 .loop in (c11 .pre .0, omega (arith, l .inv .0))
 
+spot-requires : tie.Need-spot-requires Inv-loop μ-loop
+spot-requires c κs = let l = c .before .before .before .before .before .before .before .loop in omega (arith, l .inv .4, c .size-at .ensures .2)
+
 loop-again : tie.Need-loop-again Inv-loop μ-loop
 loop-again c =
-    let c7 = c .before .before .before .before .before .before .before in let c12 = c7 .before .before .before .before .before in
-    let l = c7 .loop in let s = c12 .args .s .now in
-    let f : (c .before .before .before .wide) .result ≡ feature s (l .i) = c .before .before .before .wide .ensures .0 ∙ ap (byte s) (l .inv .3) in
-    let z : (c .size-at) .result ≡ width s (l .i) = c .size-at .ensures .0 ∙ ap (size s) f in
+    let c4 = c .before .before .before .before in let c8 = c4 .before .before .before .before in let c13 = c8 .before .before .before .before .before in
+    let l = c8 .loop in let s = c13 .args .s .now in
+    let f : c4 .wide .result ≡ feature s (l .i) = c4 .wide .ensures .0 ∙ ap (byte s) (l .inv .3) in
+    let z : c .before .size-at .result ≡ width s (l .i) = c .before .size-at .ensures .0 ∙ ap (size s) f in
     let k : feature s (l .i) < features s = omega (arith, l .inv .0) in (
       l .inv .0,
       l .inv .1,
       omega arith,
-      omega (arith, l .inv .3, place-next s (l .i)),
-      omega (arith, l .inv .4, c .size-at .ensures .2),
+      omega (arith, l .inv .3, place-next s (l .i), c .spot .ensures),
+      omega (arith, l .inv .4, c .spot .ensures, c .before .size-at .ensures .2),
       below-more _ _ (l .inv .5) k,
-      holds-more (omega (arith, l .inv .7)) (c .before .narrow .ensures ∙ l .inv .3) (l .inv .6),
-      length-set (l .at) (l .i) (c .before .narrow .result) ∙ l .inv .7,
+      holds-more (omega (arith, l .inv .7)) (c .before .before .narrow .ensures ∙ l .inv .3) (l .inv .6),
+      length-set (l .at) (l .i) (c .before .before .narrow .result) ∙ l .inv .7,
     )
+
+spot-requires-2 : tie.Need-spot-requires-2 Inv-loop μ-loop
+spot-requires-2 c κs = let l = c .before .loop in omega (arith, l .inv .4, l .inv .2, c .before .before .before .before .before .before .pre .2)
 
 returns-4 : tie.Need-returns-4 Inv-loop μ-loop
 returns-4 c =
-    let c7 = c .before .before .before .before .before .before .before in
-    let l = c .before .before .loop in let e = all-passed (c7 .args .s .now) (l .inv .1) (l .inv .2) (omega arith) (l .inv .3) in lay-lost (λ q. c .if4 .taken (omega (arith, q .ends, e)))
+    let c3 = c .before .before .before in let s = c3 .before .before .before .before .before .args .s .now in
+    let l = c3 .loop in let e = all-passed s (l .inv .1) (l .inv .2) (omega arith) (l .inv .3) in
+    laying-lost (λ q. c .if4 .taken (omega (arith, q .lays .ends, q .lays .tops, e, c .before .spot2 .ensures)))
+
+pair-at-requires : tie.Need-pair-at-requires Inv-loop μ-loop
+pair-at-requires c κs = omega (arith, c .if4 .left, c .before .spot2 .ensures)
 
 returns-5 : tie.Need-returns-5 Inv-loop μ-loop
 returns-5 c =
-    let c9 = c .before .before .before .before .before .before .before .before .before in
-    let l = c .before .before .before .before .loop in let e = all-passed (c9 .args .s .now) (l .inv .1) (l .inv .2) (omega arith) (l .inv .3) in
-    lay-lost (λ q. c .if5 .taken (ap (byte (c9 .args .s .now)) e ∙ q .zero))
-
-returns-6 : tie.Need-returns-6 Inv-loop μ-loop
-returns-6 c =
-    let c6 = c .before .before .before .before .before .before in let c10 = c6 .before .before .before .before in
-    let l = c .before .before .before .before .before .loop in let e = all-passed (c10 .args .s .now) (l .inv .1) (l .inv .2) (omega arith) (l .inv .3) in
-    let e2 : l .i ≡ count (c10 .args .s .now) = omega (arith, l .inv .1) in
-    lay-tells (l .p) e (omega (arith, l .inv .1, c6 .if1 .left)) (λ i h. l .inv .5 i (omega (arith, e2))) (c .before .before .before .if4 .left) (c .before .if5 .left)
-    (record { holds = λ i h. l .inv .6 .holds i (omega (arith, e2)) })
+    let c4 = c .before .before .before .before in let c9 = c4 .before .before .before .before .before in
+    let l = c4 .loop in let e = all-passed (c9 .args .s .now) (l .inv .1) (l .inv .2) (omega arith) (l .inv .3) in
+    let e2 : l .i ≡ count (c9 .args .s .now) = omega (arith, l .inv .1) in
+    laying-tells (l .p) (c .pair-at .result) e (omega (arith, l .inv .1, c4 .before .if1 .left)) (λ i h. l .inv .5 i (omega (arith, e2)))
+    (c .before .if4 .left ∙ c .before .before .spot2 .ensures) (c .pair-at .ensures .0) (record { holds = λ i h. l .inv .6 .holds i (omega (arith, e2)) })
 
 pub lay-spec : {M : Type 1} → statement M
 lay-spec =
@@ -113,15 +119,12 @@ lay-spec =
     (λ c. search needs)
     (λ c. search needs)
     size-at-requires
-    (λ c. search needs)
-    (λ c. search needs)
+    spot-requires
     (λ c. search needs)
     (λ c. search needs)
     loop-again
     (λ c. search needs)
+    spot-requires-2
     returns-4
-    (λ c. search needs)
-    returns-5
-    (λ c. search needs)
-    (λ c. search needs)
-    returns-6)
+    pair-at-requires
+    returns-5)

@@ -1,6 +1,6 @@
 -- `sheet_bytes::laying::size_at` meets its contract: the byte of the feature in the second section. Assumes nothing.
 use native.Mathlib.Omega.{arith}
-use Rattle.sheet_bytes.proofs.Places.{size-least, size-most}
+use Rattle.sheet_bytes.proofs.Framing.{size-least, size-most}
 use borrow.Author.Needs.{needs}
 use Rattle.sheet_bytes.proofs.laying.size_at.Statement.{statement}
 use Rattle.sheet_bytes.proofs.laying.size_at.Tie as tie

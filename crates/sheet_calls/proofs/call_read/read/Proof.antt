@@ -24,7 +24,7 @@ returns-2 c =
 same-list-requires : tie.Need-same-list-requires
 same-list-requires c κs =
     let c7 = c .before .before .before .before .before .before .before in
-    (c7 .door .ensures .sound (c .before .before .before .before .before .enum-told .given .1), c .before .before .before .check .ensures .ready (c .before .enum-told2 .given .1) .laid .head)
+    (c7 .door .ensures .sound (c .before .before .before .before .before .enum-told .given .1), c .before .before .before .check .ensures .ready (c .before .enum-told2 .given .1) .laid .opens)
 
 returns-3 : tie.Need-returns-3
 returns-3 c =

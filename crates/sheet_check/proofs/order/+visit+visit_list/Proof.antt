@@ -3,6 +3,7 @@
 use Prim.Native.Nat.{_+_, _*_, _-_, _≤_, ℕ, _<_}
 use mathlib.Core.Path.{_≡_}
 use native.Mathlib.Omega.{arith}
+use Rattle.sheet_check.specs.Diagram.{further}
 use Rattle.sheet_check.proofs.Walks.{visits-phrase, visits-done, visits-met, visits-lost, Walked, walked-none, walked-all, branch-below, walked-more, walked-lost}
 use borrow.Author.Needs.{needs}
 use borrow.Fn.Kinds.{In}
@@ -17,7 +18,7 @@ use Rattle.sheet_bytes.proofs.branch_at.Reads as branch-at-reads
 use Rattle.sheet_bytes.proofs.width_at.Reads as width-at-reads
 use Rattle.sheet_check.proofs.order.+visit+visit_list.{statement}
 use Rattle.sheet_check.proofs.order.+visit+visit_list.Tie.{close}
-use Rattle.promises.specs.Sheet.{sheetWidth as width}
+use Rattle.promises.specs.Sheet.{sheetWidth as width, sheetNode as nodeOf}
 
 abbrev μ-visit : Measures 2 visit-kinds.ps ℕ
 μ-visit κs a = 2 * a .1 .1 .0 + 1
@@ -50,7 +51,7 @@ visit-returns t c = visits-phrase ((c .if1) .taken) ((c .before .before) .pre .1
 
 visit-returns-2 : (t : ℕ) → visit-lts.Need-returns-2 (visit-claims t) (visit-at t) visit.Post
 visit-returns-2 t c =
-    let p = c .before .before .before .pre .1 in visits-done (c .before .before .before .args .w) (c .before .before .before .args .c) (p .0) (p .2) (omega arith) (c .if2 .taken) (p .3)
+    let p = c .before .before .before .pre .1 in visits-done (c .before .before .before .args .w) (c .before .before .before .args .c) (p .1) (p .2) (omega arith) (c .if2 .taken) (p .3)
 
 visit-visit-list-requires : (t : ℕ) → visit-lts.Need-visit-list-requires (visit-claims t) (visit-at t) visit.Post
 visit-visit-list-requires t c κs = let p = (c .before .before .before) .pre .1 in (omega arith, (p .0, p .1, p .2 .earlier (omega arith), p .3))
@@ -61,15 +62,15 @@ visit-add-result t c = let p = (c .before .before .before .before .before) .pre 
 visit-returns-3 : (t : ℕ) → visit-lts.Need-returns-3 (visit-claims t) (visit-at t) visit.Post
 visit-returns-3 t c =
     let p = c .before .before .before .before .before .pre .1 in visits-met (c .before .before .before .before .before .args .w)
-    (c .before .before .before .before .before .args .c) (p .0) (p .2) (omega arith) (omega arith) (c .before .visit-list .ensures) (c .if3 .taken)
+    (c .before .before .before .before .before .args .c) (p .1) (p .2) (omega arith) (omega arith) (c .before .visit-list .ensures) (c .if3 .taken)
 
 visit-returns-4 : (t : ℕ) → visit-lts.Need-returns-4 (visit-claims t) (visit-at t) visit.Post
 visit-returns-4 t c =
     let p = c .before .before .before .before .before .pre .1 in visits-lost (c .before .before .before .before .before .args .w)
-    (c .before .before .before .before .before .args .c) (p .0) (p .2) (omega arith) (omega arith) (c .before .visit-list .ensures) (c .if3 .left)
+    (c .before .before .before .before .before .args .c) (p .1) (p .2) (omega arith) (omega arith) (c .before .visit-list .ensures) (c .if3 .left)
 
 abbrev visit-list-Inv-loop : visit-list-lts.InvT-loop
-visit-list-Inv-loop s at i c z d₀ v₀ d v = (z ≡ width s i) × (v ≤ z) × Walked s i c v d
+visit-list-Inv-loop s at i c z d₀ v₀ d v = (z ≡ width s i) × (v ≤ z) × Walked (further s i) (nodeOf s i .branches) c v d
 
 abbrev visit-list-μ-loop : visit-list-lts.MeasureT-loop
 visit-list-μ-loop s at i c z d₀ v₀ d v = z - v

@@ -23,12 +23,12 @@ returns : tie.Need-returns Inv-loop μ-loop
 returns c = let l = (c .before .before .before .loop) in λ q. q .new (l .c - 1) (omega (arith, l .inv .inside)) (sure ((c .if1) .taken) ((c .before .same) .ensures))
 
 mul-index-2 : tie.Need-mul-index-2 Inv-loop μ-loop
-mul-index-2 c = let p = (c .before .before .before .before .before .before .before) .pre in let l = (c .before .before .before .loop) in omega (arith, l .inv .inside, p .1, p .0 .lie .room)
+mul-index-2 c = let p = (c .before .before .before .before .before .before .before) .pre in let l = (c .before .before .before .loop) in omega (arith, l .inv .inside, p .1, p .0 .room)
 
 element-copy-out-index-2 : tie.Need-element-copy-out-index-2 Inv-loop μ-loop
 element-copy-out-index-2 c =
     let c7 = c .before .before .before .before .before .before .before in
-    let p = c7 .pre in let l = c .before .before .before .loop in omega (arith, l .inv .inside, p .1, p .0 .lie .room)
+    let p = c7 .pre in let l = c .before .before .before .loop in omega (arith, l .inv .inside, p .1, p .0 .room)
 
 loop-less : tie.Need-loop-less Inv-loop μ-loop
 loop-less c =

@@ -13,7 +13,7 @@ returns : tie.Need-returns
 returns c = refuses refl refl (pass (λ n. n tt) (unread ((c .before .before .before .check) .ensures) ((c .before .o) .given .1)))
 
 fits-requires : tie.Need-fits-requires
-fits-requires c κs = (c .before .before .check) .ensures .ready ((c .enum-told) .given .1) .laid .head
+fits-requires c κs = (c .before .before .check) .ensures .ready ((c .enum-told) .given .1) .laid .opens
 
 returns-2 : tie.Need-returns-2
 returns-2 c =

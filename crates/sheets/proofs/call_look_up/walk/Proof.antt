@@ -1,6 +1,8 @@
 -- `sheets::call_look_up::walk` meets its contract: the branch word stands on the way of the setting with the count, and falls. Assumes nothing.
 use mathlib.Core.Path.{refl, _∙_}
 use native.Mathlib.Omega.{arith}
+use Rattle.sheet_bytes.proofs.Opening.{open-list}
+use Rattle.sheet_check.proofs.Wording.{good-spans, one-word}
 use Rattle.sheets.proofs.Finding.{Way, find-start, find-end, find-asked, find-node, find-room, find-feature, find-value, find-on, find-less}
 use borrow.Author.Needs.{needs}
 use Rattle.sheets.proofs.call_look_up.walk.Statement.{statement}
@@ -12,12 +14,12 @@ Inv-loop s at t b₀ asked₀ b asked = Way s t asked b
 abbrev μ-loop : tie.MeasureT-loop
 μ-loop s at t b₀ asked₀ b asked = b
 
-root-of-requires : tie.Need-root-of-requires Inv-loop μ-loop
-root-of-requires c κs = (c .before .before) .pre .0 .laid .lie
+root-at-requires : tie.Need-root-at-requires Inv-loop μ-loop
+root-at-requires c κs = (good-spans (c .before .before .pre .0 .good) .lays, omega arith, omega arith)
 
 loop-holds : tie.Need-loop-holds Inv-loop μ-loop
 loop-holds c =
-    find-start (c .before .before .before .pre .0 .good) (c .before .before .before .args .t .now) (c .before .before .before .pre .1) (c .root-of .result) (c .root-of .ensures .0)
+    find-start (c .before .before .before .pre .0 .good) (c .before .before .before .args .t .now) (c .before .before .before .pre .1) (c .root-at .result) (c .root-at .ensures .0 ∙ one-word _)
 
 feature-at-requires : tie.Need-feature-at-requires Inv-loop μ-loop
 feature-at-requires c κs =
@@ -43,7 +45,7 @@ branch-at-requires c κs =
 add-asked : tie.Need-add-asked Inv-loop μ-loop
 add-asked c = let a = (c .before .before .before .before .before .before .before .before .before) in let l = (c .before .before .before .before .before .loop) in
     let n = find-room (a .pre .0 .good) (a .args .t .now) (a .pre .1) (l .asked) (l .b) (omega arith) (l .inv) in
-    omega (arith, n, a .pre .0 .laid .head .list .few)
+    omega (arith, n, open-list (a .pre .0 .laid .opens) .few)
 
 loop-less : tie.Need-loop-less Inv-loop μ-loop
 loop-less c =
@@ -72,7 +74,7 @@ walk-spec =
     (tie.spec
     Inv-loop
     μ-loop
-    root-of-requires
+    root-at-requires
     loop-holds
     feature-at-requires
     shared-slice-read-wide

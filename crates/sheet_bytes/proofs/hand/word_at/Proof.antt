@@ -1,7 +1,7 @@
--- `sheet_bytes::bytes::word_at` meets its contract: the flag byte above the two-byte number. Assumes nothing.
+-- `sheet_bytes::hand::word_at` meets its contract: the flag byte above the two-byte number. Assumes nothing.
 use borrow.Author.Needs.{needs}
-use Rattle.sheet_bytes.proofs.bytes.word_at.Statement.{statement}
-use Rattle.sheet_bytes.proofs.bytes.word_at.Tie as tie
+use Rattle.sheet_bytes.proofs.hand.word_at.Statement.{statement}
+use Rattle.sheet_bytes.proofs.hand.word_at.Tie as tie
 use Rattle.promises.specs.Sheet.{triple as word}
 
 returns : tie.Need-returns

@@ -1,11 +1,11 @@
--- `sheet_check::nodes::alike` meets its contract: each branch passed equals branch 0. Assumes nothing.
+-- `sheet_check::twins::alike` meets its contract: each branch passed equals branch 0. Assumes nothing.
 use Prim.Native.Nat.{ℕ, _-_, _≤_, _<_}
 use mathlib.Core.Path.{_≡_, sym, _∙_}
 use native.Mathlib.Omega.{arith}
 use borrow.Author.Count.{below-more}
 use borrow.Author.Needs.{needs}
-use Rattle.sheet_check.proofs.nodes.alike.Statement.{statement}
-use Rattle.sheet_check.proofs.nodes.alike.Tie as tie
+use Rattle.sheet_check.proofs.twins.alike.Statement.{statement}
+use Rattle.sheet_check.proofs.twins.alike.Tie as tie
 use Rattle.promises.specs.Sheet.{sheetWidth as width, sheetBranch as branch}
 
 abbrev Inv-loop : tie.InvT-loop
