@@ -18,7 +18,7 @@ use Rattle.sheet_bytes.specs.RuleFrame.{ruleFrame}
 use Rattle.sheet_bytes.proofs.Framing as G
 use Rattle.sheet_bytes.proofs.RuleHand.{rule-regular}
 use Rattle.promises.specs.Sheet.{pair, sheetFeatures as features, sheetSizes as sizesOf, sheetCount as count, nodePlace as place, sheetFeature as feature, sheetWidth as width}
-use Rattle.promises.specs.Sheet.{nodesEnd as end, Begins as Head, Lies as Lie}
+use Rattle.promises.specs.Sheet.{nodesEnd as end, Begins as Head}
 
 -- ---- the feature list
 pub opens : {s : List ℕ} → Head s → Opens ruleFrame s
@@ -42,10 +42,6 @@ place-next s i = rw add-one (place-suc s i)
 
 pub place-le : (s : List ℕ) (i j : ℕ) → i ≤ j → place s i ≤ place s j
 place-le = G.place-le rule-regular
-
--- node i ends before the root section
-pub reach : {s : List ℕ} → Lie s → (i : ℕ) → i < count s → place s i + 1 + 3 * width s i + 5 ≤ length s
-reach {s} l i h = omega (arith, place-next s i, place-le s (i + 1) (count s) (omega arith), l .ends)
 
 -- the nodes before node i take at most 25 bytes each
 pub place-most : {s : List ℕ} → Head s → (i : ℕ) → ((j : ℕ) → j < i → feature s j < features s) → place s i ≤ 23 + 25 * i

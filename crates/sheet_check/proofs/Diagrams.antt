@@ -1,15 +1,14 @@
--- The diagram that stands in a rule sheet's bytes: its nodes by index, its words and branches; ordered nodes are a well-formed node list. Assumes nothing.
-use mathlib.Core.Path.{_≡_, refl, sym, ap, subst, _∙_}
+-- The diagram that stands in a rule sheet's bytes: its nodes by index, its words and branches. Assumes nothing.
+use mathlib.Core.Path.{_≡_, sym, ap, subst, _∙_}
 use mathlib.Core.List.{List}
-use Prim.Native.Nat.{ℕ, suc, _+_, _-_, _≤_, _<_}
+use Prim.Native.Nat.{ℕ, _+_, _-_, _≤_, _<_}
 use native.Mathlib.Nat.{le-refl}
-use native.Mathlib.Numerals.{add-one}
 use native.Mathlib.Decide.{decLt}
 use native.Mathlib.Omega.{arith}
 use lib.ListN.{length, getD}
 use Rattle.theory.specs.Diagrams as D
 use Rattle.theory.specs.Diagrams.{Target, at, blank}
-use Rattle.theory.specs.WellFormed.{Ok, Under, WF}
+use Rattle.theory.specs.WellFormed.{Ok, Under}
 use Rattle.theory.specs.Rules.{rules, Branch, node}
 use Rattle.theory.proofs.Bounded.{Bounded, Bounds}
 use Rattle.theory.proofs.WellFormed.{under-weaken}
@@ -17,11 +16,9 @@ use Rattle.sheet_bytes.specs.Frame as F
 use Rattle.sheet_bytes.specs.Frame.{Stands}
 use Rattle.sheet_bytes.specs.RuleFrame.{ruleFrame}
 use Rattle.sheet_bytes.proofs.Framing as G
-use Rattle.sheet_bytes.proofs.Forms.{nodes-wf}
-use Rattle.sheet_bytes.proofs.Places.{opens, reach}
 pub use Rattle.sheet_bytes.proofs.RuleHand.{branch-phrase, branch-node}
-use Rattle.promises.specs.Sheet.{triple as word, sheetSizes as sizesOf, sheetCount as count, sheetFeature as feature, sheetWidth as width, sheetBranch as branch}
-use Rattle.promises.specs.Sheet.{SheetSits as Below, sheetNode as nodeOf, sheetNodes as nodesOf, SheetOrdered as Ordered}
+use Rattle.promises.specs.Sheet.{triple as word, sheetCount as count, sheetFeature as feature, sheetWidth as width, sheetBranch as branch}
+use Rattle.promises.specs.Sheet.{SheetSits as Below, sheetNode as nodeOf, sheetNodes as nodesOf}
 use Rattle.promises.specs.RuleWords.{decode as branchOf}
 
 -- ---- the nodes by index
@@ -106,23 +103,3 @@ module _ (s : List ℕ) (m k p : ℕ) (h : m ≤ count s) where
 -- a word that lies below, under other names
 pub same-below : {s : List ℕ} {i j k l w x : ℕ} → i ≡ j → k ≡ l → w ≡ x → Below s i k w → Below s j l x
 same-below {s} {i} {j} {k} {l} {w} {x} e f q b = subst (λ (n : ℕ). Below s n l x) e (subst (λ (n : ℕ). Below s i n x) f (subst (Below s i k) q b))
-
--- ---- ordered nodes are a diagram
-module _ {s : List ℕ} (g : Ordered s) where
-  pub ordered-lower : (i : ℕ) → i < count s → F.Lower ruleFrame s i
-  ordered-lower i h = record {
-    lower = λ v l. below-stands s i (suc (feature s i)) (F.spotOf ruleFrame s i v) (omega arith) (omega (arith, reach (g .lie) i h))
-        (subst (λ (k : ℕ). Below s i k (branch s i v)) (add-one (feature s i)) (g .nodes .each i h .lower .lower v l));
-  }
-
-  pub ordered-differ : (i : ℕ) → i < count s → F.Alike ruleFrame s i → ⊥
-  ordered-differ i h a = g .nodes .each i h .differ (record { alike = λ v l. word-same (branch s i v) (branch s i 0) (a .alike v l) })
-
-  pub ordered-once : (i j : ℕ) → i < j → j < count s → F.nodeOf ruleFrame s i ≡ F.nodeOf ruleFrame s j → ⊥
-  ordered-once i j l h e =
-      let q = G.node-same ruleFrame s i j e in
-      g .once .once j h .new i l (record { feature = q .0; each = λ v x. word-same (branch s i v) (branch s j v) (q .1 v x) })
-
-  pub ordered-wf : WF (sizesOf s) (nodesOf s)
-  unfolding F.sizesOf sizesOf F.nodesOf nodesOf F.nodeOf nodeOf
-  ordered-wf = nodes-wf (opens (g .head)) (g .lie .known) ordered-lower ordered-differ (λ i h. refl) ordered-once

@@ -1,22 +1,24 @@
 -- Good bytes are the lawful and canonical bytes of the rule frame, of edition 1, with one root, nothing after it and at most 4,096 nodes. Assumes nothing.
-use mathlib.Core.Path.{_≡_, refl, sym, ap, subst, _∙_}
+use mathlib.Core.Path.{_≡_, sym, ap, subst, _∙_}
 use mathlib.Core.List.{List, [], _∷_}
-use Prim.Native.Nat.{ℕ, suc, _+_, _*_, _≤_, _<_}
+use Prim.Native.Nat.{ℕ, _+_, _*_, _≤_, _<_}
 use native.Mathlib.Nat.{add-zero}
-use native.Mathlib.Numerals.{add-one}
 use native.Mathlib.Omega.{arith}
+use Rattle.theory.specs.WellFormed.{WF}
 use Rattle.theory.specs.Walk.{scan, scans}
 use Rattle.theory.specs.Rules.{Branch}
 use Rattle.theory.proofs.Scanning.{scans-one}
 use Rattle.sheet_bytes.specs.Frame as F
-use Rattle.sheet_bytes.specs.Frame.{Stands, Lawful, Canonical, heads, root, rootsOf}
+use Rattle.sheet_bytes.specs.Frame.{Lawful, Canonical, heads, root, rootsOf}
 use Rattle.sheet_bytes.specs.RuleFrame.{ruleFrame}
+use Rattle.sheet_bytes.specs.Bytes.{Spans}
 use Rattle.sheet_bytes.proofs.Sections.{Bytes}
-use Rattle.sheet_bytes.proofs.Framing.{same-node}
+use Rattle.sheet_bytes.proofs.Forms.{lawful-tidy}
 use Rattle.sheet_bytes.proofs.Places.{opens}
-use Rattle.sheet_check.proofs.Diagrams.{below-stands, stands-below, ordered-lower, ordered-differ, ordered-once}
-use Rattle.promises.specs.Sheet.{byte, pair, triple as word, row, sheetSizes as sizesOf, sheetCount as count, sheetFeature as feature, sheetBranch as branch, nodesEnd as end, sheetRoot as top}
-use Rattle.promises.specs.Sheet.{Begins as Head, Lies as Lie, SheetSits as Below, SheetNodesOk as Nodes, Once, sheetNode as nodeOf, sheetNodes as nodesOf, InOrder, GoodSheet as Good}
+use Rattle.sheet_check.specs.Diagram.{Downward}
+use Rattle.sheet_check.proofs.Wording.{words-lawful, lawful-downward, lawful-rooted, words-canonical, canonical-reduced, canonical-turn, one-word}
+use Rattle.promises.specs.Sheet.{byte, pair, triple as word, row, sheetSizes as sizesOf, sheetCount as count, nodesEnd as end, sheetRoot as top}
+use Rattle.promises.specs.Sheet.{Begins as Head, Lies as Lie, SheetSits as Below, sheetNode as nodeOf, sheetNodes as nodesOf, InOrder, GoodSheet as Good}
 use Rattle.promises.specs.RuleWords.{decode as branchOf}
 
 -- a pair that is 1
@@ -43,28 +45,26 @@ module _ {s : List ℕ} (g : Good s) where
   tops : heads ruleFrame s ≡ 1
   tops = one-back s (end s) (g .ordered .lie .zero) (g .ordered .lie .one)
 
-  stands-top : (r : ℕ) → r < 1 → Stands ruleFrame s (count s) 0 (end s + 2 + 3 * r)
-  stands-top r h =
-      let e : end s + 2 ≡ end s + 2 + 3 * r = omega arith in
-      subst (Stands ruleFrame s (count s) 0) e (below-stands s (count s) 0 (end s + 2) (omega arith) (omega (arith, g .ordered .lie .ends)) (g .top))
+  pub good-spans : Spans s 1
+  good-spans = record { room = g .ordered .lie .room; lays = record { known = g .ordered .lie .known; tops = tops; ends = omega (arith, tops, g .ordered .lie .ends) } }
+
+  pub good-downward : Downward s
+  good-downward = record { lower = λ i h. g .ordered .nodes .each i h .lower }
+
+  sits-top : (r : ℕ) → r < 1 → Below s (count s) 0 (word s (end s + 2 + 3 * r))
+  sits-top r h = let e : end s + 2 ≡ end s + 2 + 3 * r = omega arith in subst (λ (p : ℕ). Below s (count s) 0 (word s p)) e (g .top)
 
   pub good-form : Lawful ruleFrame s 1 0 × Canonical ruleFrame s
-  unfolding InOrder F.sizesOf sizesOf F.nodesOf nodesOf F.nodeOf nodeOf
-  good-form =
-      let o = g .ordered in (
-        record {
-          opens = opens (o .head);
-          lays = record { known = o .lie .known; tops = tops; ends = omega (arith, tops, o .lie .ends) };
-          nodes = ordered-lower o;
-          roots = stands-top;
-        },
-        record {
-          differ = ordered-differ o;
-          zeroed = λ i h. refl;
-          once = ordered-once o;
-          order = order-one s tops ∙ g .order;
-        },
-      )
+  unfolding InOrder
+  good-form = (
+    words-lawful (opens (g .ordered .head)) (good-spans .lays) good-downward (record { rooted = sits-top }),
+    words-canonical (record { differ = λ i h. g .ordered .nodes .each i h .differ; once = g .ordered .once }) (record { turn = order-one s tops ∙ g .order }),
+  )
+
+  -- their nodes are a diagram
+  pub good-wf : WF (sizesOf s) (nodesOf s)
+  unfolding F.sizesOf sizesOf F.nodesOf nodesOf F.nodeOf nodeOf
+  good-wf = lawful-tidy (good-form .0) (good-form .1) .well
 
 -- THEOREM: and bytes that have them are good
 module _ {s : List ℕ} (B : Bytes s) (L : Lawful ruleFrame s 1 0) (C : Canonical ruleFrame s) (e : byte s 2 ≡ 1) (r : count s ≤ 4096) where
@@ -77,32 +77,13 @@ module _ {s : List ℕ} (B : Bytes s) (L : Lawful ruleFrame s 1 0) (C : Canonica
       let z = one-at s (end s) (L .lays .tops) in
       record { room = r; known = L .lays .known; ends = omega (arith, L .lays .tops, L .lays .ends); zero = z .0; one = z .1 }
 
-  nodes : Nodes s
-  nodes = record {
-    each = λ i h. record {
-      lower = record {
-        lower = λ v l. subst (λ (k : ℕ). Below s i k (branch s i v)) (sym (add-one (feature s i)))
-            (stands-below s i (suc (feature s i)) (F.spotOf ruleFrame s i v) (omega arith) (L .nodes i h .lower v l));
-      };
-      differ = λ a. C .differ i h (record { alike = λ v l. ap branchOf (a .alike v l) });
-    };
-  }
-
-  once : Once s
-  once = record { once = λ i h. record { new = λ j l x. C .once j i l h (same-node ruleFrame s j i (x .feature) (λ v q. ap branchOf (x .each v q))) } }
-
-  sits : Below s (count s) 0 (top s)
-  sits = stands-below s (count s) 0 (end s + 2) (omega arith) (subst (Stands ruleFrame s (count s) 0) (add-zero (end s + 2)) (L .roots 0 (omega arith)))
-
-  order : InOrder s
-  unfolding InOrder F.sizesOf sizesOf F.nodesOf nodesOf F.nodeOf nodeOf
-  order = sym (order-one s (L .lays .tops)) ∙ C .order
-
   pub form-good : Good s
+  unfolding InOrder
   form-good =
+      let q = canonical-reduced C in
       record {
         bytes = B;
-        ordered = record { head = head; lie = lie; nodes = nodes; once = once };
-        top = sits;
-        order = order;
+        ordered = record { head = head; lie = lie; nodes = record { each = λ i h. record { lower = lawful-downward L .lower i h; differ = q .differ i h } }; once = q .once };
+        top = subst (Below s (count s) 0) (one-word s) (lawful-rooted L .rooted 0 (omega arith));
+        order = sym (order-one s (L .lays .tops)) ∙ canonical-turn C .turn;
       }

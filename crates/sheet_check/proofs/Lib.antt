@@ -1,8 +1,8 @@
 pub mod Hashing
 pub mod Diagrams
-pub mod Goods
 pub mod Wording
 pub mod Walks
+pub mod Goods
 pub mod Reading
 pub mod Writing
 pub mod Answering

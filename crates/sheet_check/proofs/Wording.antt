@@ -1,7 +1,7 @@
--- Lawful and canonical form, words compared, are those of the frame of rule sheets; and good bytes in these words. Assumes nothing.
-use mathlib.Core.Path.{_≡_, refl, sym, ap, subst, _∙_}
+-- Lawful and canonical form, words compared, are those of the frame of rule sheets. Assumes nothing.
+use mathlib.Core.Path.{_≡_, refl, sym, ap, subst}
 use mathlib.Core.List.{List}
-use Prim.Native.Nat.{ℕ, suc, _+_, _*_, _≤_}
+use Prim.Native.Nat.{ℕ, suc, _+_, _≤_}
 use native.Mathlib.Nat.{add-zero}
 use native.Mathlib.Numerals.{add-one}
 use native.Mathlib.Omega.{arith}
@@ -9,14 +9,12 @@ use lib.ListN.{length}
 use Rattle.sheet_bytes.specs.Frame as F
 use Rattle.sheet_bytes.specs.Frame.{Opens, Lays, Lawful, Canonical, rootSpot, spotOf}
 use Rattle.sheet_bytes.specs.RuleFrame.{ruleFrame}
-use Rattle.sheet_bytes.specs.Bytes.{Spans}
 use Rattle.sheet_bytes.proofs.Framing.{node-same, same-node}
 use Rattle.sheet_bytes.proofs.Opening.{node-ends, root-inside}
 use Rattle.sheet_check.specs.Diagram.{Downward, Rooted, Reduced, InTurn}
 use Rattle.sheet_check.proofs.Diagrams.{word-same, below-stands, stands-below}
-use Rattle.sheet_check.proofs.Goods.{good-form}
 use Rattle.promises.specs.Sheet.{triple as word, sheetSizes as sizesOf, sheetCount as count, sheetFeature as feature, sheetBranch as branch, nodesEnd as end, sheetRoot as root}
-use Rattle.promises.specs.Sheet.{SheetSits as Below, sheetNode as nodeOf, sheetNodes as nodesOf, GoodSheet as Good}
+use Rattle.promises.specs.Sheet.{SheetSits as Below, sheetNode as nodeOf, sheetNodes as nodesOf}
 use Rattle.promises.specs.RuleWords.{decode as branchOf}
 
 -- ---- lawful form
@@ -71,14 +69,6 @@ module _ {s : List ℕ} (c : Canonical ruleFrame s) where
   pub canonical-turn : InTurn s
   unfolding F.sizesOf sizesOf F.nodesOf nodesOf F.nodeOf nodeOf
   canonical-turn = record { turn = c .order }
-
--- ---- good bytes
-module _ {s : List ℕ} (g : Good s) where
-  pub good-spans : Spans s 1
-  good-spans = record { room = g .ordered .lie .room; lays = good-form g .0 .lays }
-
-  pub good-downward : Downward s
-  good-downward = record { lower = λ i h. g .ordered .nodes .each i h .lower }
 
 -- the first root is the root
 pub one-word : (s : List ℕ) → word s (rootSpot ruleFrame s 0) ≡ root s

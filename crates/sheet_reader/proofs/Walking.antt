@@ -25,7 +25,7 @@ use Rattle.rule_nodes.proofs.Reading.{lawful, good-small}
 use Rattle.sheet_bytes.proofs.Opening.{open-length, open-at}
 use Rattle.sheet_check.specs.Diagram.{Ready}
 use Rattle.sheet_check.proofs.Diagrams.{nodes-length, nodes-at, feature-at, branches-at, branch-node, below-ok}
-use Rattle.sheet_check.proofs.Wording.{good-downward}
+use Rattle.sheet_check.proofs.Goods.{good-downward}
 use Rattle.sheet_check.proofs.Walks.{branch-below}
 use Rattle.sheet_reader.specs.Reader.{given, Noted, Asks, Takes}
 use Rattle.sheet_reader.proofs.Noting.{noted-none, noted-grown, noted-put}

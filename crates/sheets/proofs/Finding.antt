@@ -11,7 +11,8 @@ use Rattle.theory.specs.Rules.{Node, Phrase, node, phrase, says}
 use Rattle.theory.specs.WellFormed.{WF}
 use Rattle.theory.specs.Questions.{asked}
 use Rattle.theory.proofs.Ways.{OnWay, way-start, way-end, way-asked, way-node, way-feature, way-value, way-room, way-on}
-use Rattle.sheet_check.proofs.Diagrams.{nodes-length, nodes-at, feature-at, branches-length, branches-at, branch-phrase, branch-node, below-ok, ordered-wf}
+use Rattle.sheet_check.proofs.Diagrams.{nodes-length, nodes-at, feature-at, branches-length, branches-at, branch-phrase, branch-node, below-ok}
+use Rattle.sheet_check.proofs.Goods.{good-wf}
 use Rattle.promises.specs.Sheet.{byte, sheetSizes as sizesOf, sheetCount as count, sheetFeature as feature, sheetWidth as width, sheetBranch as branch, sheetRoot as root}
 use Rattle.promises.specs.Sheet.{sheetNodes as nodesOf, sheetRule as ruleOf, GoodSheet as Good}
 use Rattle.promises.specs.RuleWords.{decode as branchOf}
@@ -36,7 +37,7 @@ module _ {s : List ℕ} (g : Good s) (t : List ℕ) (valid : Valid (sizesOf s) t
     find-asked = way-asked (sizesOf s) (nodesOf s) (ruleOf s) t valid n (says b) ending
 
   wf : WF (sizesOf s) (nodesOf s)
-  wf = ordered-wf (g .ordered)
+  wf = good-wf g
 
   -- a node goes on
   module _ (n b : ℕ) (h : 65536 ≤ b) (o : Way s t n b) where

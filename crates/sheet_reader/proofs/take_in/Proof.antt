@@ -2,7 +2,8 @@
 use Rattle.sheet_reader.proofs.Walking.{asks-root, takes-root}
 use mathlib.Core.Path.{_∙_}
 use native.Mathlib.Omega.{arith}
-use Rattle.sheet_check.proofs.Wording.{good-spans, one-word}
+use Rattle.sheet_check.proofs.Wording.{one-word}
+use Rattle.sheet_check.proofs.Goods.{good-spans}
 use lib.ListN.{getD-replicate, length-replicate}
 use Prim.Native.Nat.{ℕ}
 use borrow.Author.Needs.{needs}

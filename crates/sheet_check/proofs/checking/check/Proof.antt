@@ -4,8 +4,7 @@ use native.Mathlib.Omega.{arith}
 use Rattle.settings.proofs.Answers.{sure, sure-not, granted, denied}
 use Rattle.sheet_bytes.proofs.Opening.{spans-placed}
 use Rattle.sheet_check.proofs.Answering.{check-newer, check-bad, check-good}
-use Rattle.sheet_check.proofs.Goods.{good-form, form-good}
-use Rattle.sheet_check.proofs.Wording.{good-spans}
+use Rattle.sheet_check.proofs.Goods.{good-spans, good-form, form-good}
 use borrow.Author.Needs.{needs}
 use Rattle.sheet_check.proofs.checking.check.Statement.{statement}
 use Rattle.sheet_check.proofs.checking.check.Tie as tie

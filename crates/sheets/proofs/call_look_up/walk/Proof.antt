@@ -2,7 +2,8 @@
 use mathlib.Core.Path.{refl, _∙_}
 use native.Mathlib.Omega.{arith}
 use Rattle.sheet_bytes.proofs.Opening.{open-list}
-use Rattle.sheet_check.proofs.Wording.{good-spans, one-word}
+use Rattle.sheet_check.proofs.Wording.{one-word}
+use Rattle.sheet_check.proofs.Goods.{good-spans}
 use Rattle.sheets.proofs.Finding.{Way, find-start, find-end, find-asked, find-node, find-room, find-feature, find-value, find-on, find-less}
 use borrow.Author.Needs.{needs}
 use Rattle.sheets.proofs.call_look_up.walk.Statement.{statement}
