@@ -10,11 +10,14 @@ use Rattle.settings.specs.declared.refusals.Outcome.{Outcome}
 use Rattle.settings.specs.declared.refusals.Outcome.the-variants.{Taken, Refused}
 use Rattle.promises.specs.Deed.{Deed, refusals, Meets}
 use Rattle.promises.specs.Table.{Effect, keeps, puts}
+use Rattle.promises.specs.RuleDeeds.{looked}
+use Rattle.promises.specs.CostDeeds.{cost-looked}
 use Rattle.promises.specs.BothDeeds.{both}
+use Rattle.table_calls.proofs.Drawn.{written}
 use Rattle.rule_calls.specs.Writing as R
-use Rattle.rule_calls.proofs.Edge as RE
+use Rattle.rule_calls.proofs.Edge.{drawn as rules-drawn}
 use Rattle.cost_calls.specs.Writing as C
-use Rattle.cost_calls.proofs.Edge as CE
+use Rattle.cost_calls.proofs.Edge.{drawn as costs-drawn}
 
 module _ {d : Deed both} {m : Cases} {v w : List ℕ} {r : d .Result} {o : Outcome} (e : d .ending r ≡ o) (t : Ends (refusals d (v, w)) o)
     (g : o ≡ Taken → d .Gives (both .says (v, w)) r) (k : (x : Refusal) → o ≡ Refused x → r ≡ d .refusal x) where
@@ -23,7 +26,7 @@ module _ {d : Deed both} {m : Cases} {v w : List ℕ} {r : d .Result} {o : Outco
   wrote-cost {w′} f x =
       record {
         ends = subst (Ends (refusals d (v, w))) (sym e) t;
-        leaves = λ q. subst (λ (y : Effect rules × Effect costs). both .Leaves y (v, w) (v, w′)) (sym f) (refl, CE.written (λ s a. refl) (x .becomes (sym e ∙ q)));
+        leaves = λ q. subst (λ (y : Effect rules × Effect costs). both .Leaves y (v, w) (v, w′)) (sym f) (refl, written cost-looked costs-drawn (λ s a. refl) (x .becomes (sym e ∙ q)));
         gives = λ q. g (sym e ∙ q);
         kept = λ y q i. (v, x .refused y (sym e ∙ q) i);
         refused = λ y q. k y (sym e ∙ q);
@@ -34,7 +37,7 @@ module _ {d : Deed both} {m : Cases} {v w : List ℕ} {r : d .Result} {o : Outco
   wrote-rule {v′} f x =
       record {
         ends = subst (Ends (refusals d (v, w))) (sym e) t;
-        leaves = λ q. subst (λ (y : Effect rules × Effect costs). both .Leaves y (v, w) (v′, w)) (sym f) (RE.written (λ s a. refl) (x .becomes (sym e ∙ q)), refl);
+        leaves = λ q. subst (λ (y : Effect rules × Effect costs). both .Leaves y (v, w) (v′, w)) (sym f) (written looked rules-drawn (λ s a. refl) (x .becomes (sym e ∙ q)), refl);
         gives = λ q. g (sym e ∙ q);
         kept = λ y q i. (x .refused y (sym e ∙ q) i, w);
         refused = λ y q. k y (sym e ∙ q);

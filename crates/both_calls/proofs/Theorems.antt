@@ -3,8 +3,8 @@ use mathlib.Core.Path.{sym, _∙_}
 use mathlib.Core.List.{List}
 use Prim.Native.Nat.{ℕ}
 use native.Mathlib.Omega.{arith}
-use Rattle.rule_sound.proofs.Unique.{sound-kind as rules-kind}
-use Rattle.cost_sound.proofs.Unique.{sound-kind}
+use Rattle.rule_sound.proofs.Pictures.{sound-kind as rules-kind}
+use Rattle.cost_sound.proofs.Pictures.{sound-kind}
 use Rattle.promises.specs.RuleSound.{RuleSound as SoundRules}
 use Rattle.promises.specs.CostSound.{CostSound as Sound}
 

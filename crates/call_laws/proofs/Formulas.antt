@@ -15,7 +15,8 @@ use Rattle.promises.specs.Table.{stateOf}
 use Rattle.promises.specs.CostDeeds.{cost-looked, costed, join, scale}
 use Rattle.table_calls.proofs.Like.{clear, rest}
 use Rattle.cost_calls.proofs.Answering.{agree-roots, agree-bases}
-use Rattle.cost_calls.proofs.Edge.{drawn, placed}
+use Rattle.table_calls.proofs.Drawn.{placed}
+use Rattle.cost_calls.proofs.Edge.{drawn}
 use Rattle.call_laws.specs.Formulas.{One, Formula, saidBy, Worked, source, stays, added, subtracted, smaller, larger, scaled}
 use Rattle.call_laws.proofs.Standing.{there, still-agrees, written-agrees}
 use Rattle.promises.specs.Words.{sizes}
@@ -24,7 +25,7 @@ use Rattle.promises.specs.CostSound.{CostSound as Sound}
 
 -- what a taken call gives of places that agree with f and g
 on-agrees : (w : List ℕ) (a : ℕ) {f : Cost} → a < 16 → Agree (sizes w) (costOf w a) f → Agree (sizes w) (on (stateOf costed w) a) f
-on-agrees w a h i s v = sym (placed w a h s v) ∙ i s v
+on-agrees w a h i s v = sym (placed cost-looked drawn w a h s v) ∙ i s v
 
 pairs-give : (F : ℤ → ℤ → ℤ) {p a b : ℕ} {w v : List ℕ} {f g : Cost} → Agree (sizes w) (costOf w a) f → Agree (sizes w) (costOf w b) g → Meets (join F p a b) w v Taken →
     Agree (sizes v) (costOf v p) (O.joined F f g)

@@ -28,7 +28,8 @@ use Rattle.theory_costs.proofs.Range.{within-stays, constant-within}
 use Rattle.theory_costs.proofs.Relative.{offs}
 use Rattle.cost_sound.proofs.Pictures.{sound-proper}
 use Rattle.cost_calls.proofs.Sounding.{sound-pos}
-use Rattle.cost_calls.proofs.Edge.{drawn, placed}
+use Rattle.table_calls.proofs.Drawn.{placed}
+use Rattle.cost_calls.proofs.Edge.{drawn}
 use Rattle.demands.proofs.Matching.{matches-refl, outnumber-like}
 use Rattle.demands.proofs.Room.{constant-fits}
 use Rattle.demands.proofs.CostLaws.{leaves-like}
@@ -41,7 +42,7 @@ record Fixed (w : List ℕ) (p : ℕ) (x : ℤ) : Type 0 where
   gives : Agree (sizes w) (costOf w p) (constant x)
 
 fixed-on : {w : List ℕ} {p : ℕ} {x : ℤ} → Fixed w p x → Agree (sizes w) (on (stateOf costed w) p) (constant x)
-fixed-on {w} {p} i s v = sym (placed w p (i .below) s v) ∙ i .gives s v
+fixed-on {w} {p} i s v = sym (placed cost-looked drawn w p (i .below) s v) ∙ i .gives s v
 
 -- ---- ADD OF TWO CONSTANTS in any sound table: RANGE where their sum is out of range, else taken
 module _ {w w′ : List ℕ} {p a b : ℕ} {x y : ℤ} {o : Outcome} (i : Fixed w a x) (j : Fixed w b y) (h : p < 16) (c : Meets (add p a b) w w′ o) where

@@ -1,17 +1,15 @@
 -- The way from a root to the end, by the words that the code reads, with what its branches add. Assumes nothing.
-use mathlib.Core.Path.{_≡_, sym, ap, subst, _∙_}
+use mathlib.Core.Path.{_≡_, sym, ap, subst}
 use mathlib.Core.List.{List, _++_}
 use Prim.Native.Nat.{ℕ, suc, _+_, _-_, _<_}
 use native.Mathlib.Omega.{arith}
-use lib.IntN.{ℤ, _+ℤ_}
+use lib.IntN.{_+ℤ_}
 use lib.ListN.{length, getD, drop, take}
 use Rattle.theory.specs.Settings.{Valid}
 use Rattle.theory.specs.Functions.{Amount}
-use Rattle.theory.specs.Costs.{costs, Cost, amount, to-end, to-node}
+use Rattle.theory.specs.Costs.{costs, amount, to-end, to-node}
 use Rattle.theory.specs.Diagrams.{Branch, up, value}
-use Rattle.theory.specs.Asked.{Asked}
 use Rattle.theory.specs.Questions.{asked}
-use Rattle.theory.proofs.Asked.{asked-counts}
 use Rattle.theory.proofs.Lists.{pos-drop}
 use Rattle.theory.proofs.Ranges.{valid-fixed}
 use Rattle.theory.proofs.Ways as W
@@ -20,16 +18,13 @@ use Rattle.theory_costs.proofs.Placing.{adds-fits}
 use Rattle.table_calls.proofs.Ways as C
 use Rattle.cost_words.specs.Table.{costTable}
 use Rattle.cost_words.proofs.Packing.{target-end, target-node}
-use Rattle.cost_words.proofs.Reading.{under-word, at-costs}
+use Rattle.cost_words.proofs.Reading.{under-word}
 use Rattle.cost_calls.proofs.Sounding.{sound-pos, sound-wf, sound-root}
 use Rattle.promises.specs.Integers.{Fit, int}
 use Rattle.promises.specs.Range.{Within, addMost, costMost}
 use Rattle.promises.specs.Words.{features, count, sizes, feature, body}
 use Rattle.promises.specs.CostWords.{target, costBranch as branch, goes, added, costNodes as nodes, costRoot as root, costBase as base, costOf}
 use Rattle.promises.specs.CostSound.{CostSound as Sound}
-use Rattle.promises.specs.State.{on}
-use Rattle.promises.specs.Table.{stateOf}
-use Rattle.promises.specs.CostDeeds.{costed}
 
 -- the branch b, with what was added before it, stands on the way of the setting s from the root of place p, where n features were asked
 abbrev pub OnWay : List ℕ → ℕ → List ℕ → ℕ → Branch costs → Type 0
@@ -105,10 +100,3 @@ module _ (w s : List ℕ) (p : ℕ) (ok : Sound w) (hp : p < 16) (valid : Valid 
         -- the next target word, and the word of the sum
         pub read-on : (y c : ℕ) → y ≡ g → int c ≡ int a +ℤ int d → OnWay w p s (n + 1) (branch y c)
         read-on y c ey ec = subst (OnWay w p s (n + 1)) (λ j. record { adds = sym ec j; to = target (sym ey j) }) way-step
-
--- what a look up found is what the edge asks of it
-pub looked-up : (w : List ℕ) (p : ℕ) (s : List ℕ) (z : ℤ) (a : ℕ) → p < 16 → z ≡ costOf w p s .off → a ≡ asked (sizes w) (costOf w p) s
-    → (amount z ≡ on (stateOf costed w) p s) × Asked (sizes w) (on (stateOf costed w) p) s a
-looked-up w p s z a h e f =
-    let q : costOf w p ≡ on (stateOf costed w) p = sym (at-costs w p h) in
-    (ap amount e ∙ ap (λ (g : Cost). g s) q, subst (λ (g : Cost). Asked (sizes w) g s a) q (subst (Asked (sizes w) (costOf w p) s) (sym f) (asked-counts (sizes w) (costOf w p) s)))

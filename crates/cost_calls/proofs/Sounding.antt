@@ -1,13 +1,13 @@
--- What a sound table gives a call: room, a feature list, places that are branches, and that a place may be replaced. Assumes nothing.
+-- What a sound table gives a call: room, places that are branches, and that a place may be replaced. Assumes nothing.
 use mathlib.Core.Path.{_≡_}
 use mathlib.Core.List.{List}
 use Prim.Native.Nat.{ℕ, _≤_, _<_}
 use native.Mathlib.Omega.{arith}
 use lib.ListN.{length}
-use Rattle.theory.specs.Settings.{FeatureList, Pos}
+use Rattle.theory.specs.Settings.{Pos}
 use Rattle.theory.specs.WellFormed.{Ok, WF}
 use Rattle.theory.specs.Tally.{tally}
-use Rattle.table_checks.proofs.Pictures.{tested-wf, tested-root, tested-list}
+use Rattle.table_checks.proofs.Pictures.{tested-wf, tested-root}
 use Rattle.table_calls.proofs.Sounding.{tested-pos, tested-untidy, tested-tally}
 use Rattle.cost_words.proofs.Regular.{regular}
 use Rattle.cost_sound.proofs.Pictures.{sound-tested}
@@ -19,9 +19,6 @@ use Rattle.promises.specs.CostSound.{CostSound as Sound}
 module _ {w : List ℕ} (s : Sound w) where
   pub sound-long : 8192 ≤ length w
   sound-long = omega (arith, s .header .room)
-
-  pub sound-list : FeatureList (sizes w)
-  sound-list = tested-list regular (sound-tested s)
 
   pub sound-pos : Pos (sizes w)
   sound-pos = tested-pos regular (sound-tested s)

@@ -24,7 +24,8 @@ use Rattle.cost_engine.specs.declared.operators.Operator.the-variants.{Scale}
 use Rattle.cost_range.specs.Operable.{Operable, Factored}
 use Rattle.cost_calls.proofs.Sounding.{sound-pos}
 use Rattle.cost_calls.proofs.Answering.{write-refused}
-use Rattle.cost_calls.proofs.Edge.{room-ends}
+use Rattle.table_calls.proofs.Drawn.{room-ends}
+use Rattle.cost_calls.proofs.Edge.{drawn}
 use Rattle.cost_settling.specs.Settling.{Puts}
 use Rattle.cost_settling.proofs.Operands.{place-operand}
 use Rattle.cost_settling.proofs.Settling.{write-pass, puts-one}
@@ -37,7 +38,7 @@ use Rattle.promises.specs.CostWords.{costNodes as nodes, rootAt}
 use Rattle.promises.specs.CostSound.{CostSound as Sound}
 use Rattle.promises.specs.State.{on}
 use Rattle.promises.specs.Table.{stateOf}
-use Rattle.promises.specs.CostDeeds.{costed, range-cases}
+use Rattle.promises.specs.CostDeeds.{cost-looked, costed, range-cases}
 
 -- ---- the range
 -- costs that agree leave their range together
@@ -84,4 +85,4 @@ scale-agrees w b p a z eb ea h t v = ap₂ (λ (x : Branch costs) (y : ℤ). sca
 
 -- ---- the refusals of a cost that is worked out: RANGE as it is, NO ROOM by the rests as they are counted
 pub range-ends : (w : List ℕ) (g : Cost) (o : Outcome) → Ends (put-cases g w) o → Ends (range-cases g (stateOf costed w)) o
-range-ends w g o e = (e .0, λ n. room-ends w g o (e .1 n))
+range-ends w g o e = (e .0, λ n. room-ends cost-looked drawn w g o (e .1 n))

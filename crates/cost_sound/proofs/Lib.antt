@@ -4,4 +4,3 @@ pub mod Reading
 pub mod Ranging
 pub mod Pictures
 pub mod Changing
-pub mod Unique

@@ -23,6 +23,7 @@ use Rattle.theory_costs.proofs.Narrow.{table-narrow}
 use Rattle.theory_costs.proofs.Relative.{from-zeros}
 use Rattle.theory_costs.proofs.Spreads.{within-spread}
 use Rattle.theory_costs.proofs.Words.{int-one}
+use Rattle.table_words.specs.Words.{kind}
 use Rattle.table_words.proofs.Words.{at-sizes}
 use Rattle.cost_words.specs.Words.{targetWord}
 use Rattle.cost_words.specs.Table.{goesOf, addedOf, bodyOf, costTable}
@@ -84,6 +85,10 @@ tested-sound {w} t r =
         wf .fits i l .full ∙ ap (λ (x : Node costs). getD (sizes w) (x .feature) 0) (at-nodes w i h) ∙ at-sizes w (feature w i) (t .nodes-ok i h .known) in
         subst (λ (b : Branch costs). Fit addMost (b .adds)) (branch-at w i v h hv)
         (adds-fit (sizes w) (nodes w) (sizes-pos (tested-header t)) wf (ranged-narrow t r) i v l (omega arith))
+
+-- THEOREM: the kind word is 2, that of a sound rule table 1
+pub sound-kind : {w : List ℕ} → Sound w → kind w ≡ 2
+sound-kind s = s .header .kind
 
 -- ---- THEOREMS: a sound table's roots and nodes are those of its costs in turn, its words their picture
 pub sound-tidy : {w : List ℕ} → Sound w → Tidy (sizes w) (roots w) (nodes w)

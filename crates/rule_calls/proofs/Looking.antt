@@ -5,21 +5,16 @@ use Prim.Native.Nat.{ℕ, suc, _+_, _-_, _≤_, _<_}
 use native.Mathlib.Omega.{arith}
 use lib.ListN.{length, getD}
 use Rattle.theory.specs.Settings.{Valid}
-use Rattle.theory.specs.Rules.{Phrase, Rule, node, phrase, says}
-use Rattle.theory.specs.Asked.{Asked}
+use Rattle.theory.specs.Rules.{Phrase, node, phrase, says}
 use Rattle.theory.specs.Questions.{asked}
-use Rattle.theory.proofs.Asked.{asked-counts}
 use Rattle.theory.proofs.Ways as W
 use Rattle.table_calls.proofs.Ways as C
 use Rattle.rule_words.specs.Table.{ruleTable}
-use Rattle.rule_words.proofs.Reading.{decode-phrase, decode-node, under-word, at-rules}
+use Rattle.rule_words.proofs.Reading.{decode-phrase, decode-node, under-word}
 use Rattle.rule_calls.proofs.Sounding.{sound-wf, sound-root}
 use Rattle.promises.specs.Words.{features, count, sizes, feature, body}
 use Rattle.promises.specs.RuleWords.{decode, ruleNodes as nodes, ruleRoot as root, ruleOf}
 use Rattle.promises.specs.RuleSound.{RuleSound as Sound}
-use Rattle.promises.specs.State.{on}
-use Rattle.promises.specs.Table.{stateOf}
-use Rattle.promises.specs.RuleDeeds.{ruled}
 
 -- the branch word b stands on the way of the setting s from the root of place p, where n features were asked
 abbrev pub OnWay : List ℕ → ℕ → List ℕ → ℕ → ℕ → Type 0
@@ -70,10 +65,3 @@ module _ (w s : List ℕ) (p : ℕ) (ok : Sound w) (hp : p < 32) (valid : Valid 
 
           pub read-less : c < b
           read-less = omega (arith, under-word (nodes w) i (suc k) (body w i v) (C.read-under ruleTable w (sound-wf ok) (ruleOf w p) s valid n tt i here k ek v ev))
-
--- what a look up found is what the edge asks of it
-pub looked-up : (w : List ℕ) (p : ℕ) (s : List ℕ) (n a : ℕ) → p < 32 → n ≡ ruleOf w p s .end → a ≡ asked (sizes w) (ruleOf w p) s
-    → (says n ≡ on (stateOf ruled w) p s) × Asked (sizes w) (on (stateOf ruled w) p) s a
-looked-up w p s n a h e f =
-    let q : ruleOf w p ≡ on (stateOf ruled w) p = sym (at-rules w p h) in
-    (ap says e ∙ ap (λ (g : Rule). g s) q, subst (λ (g : Rule). Asked (sizes w) g s a) q (subst (Asked (sizes w) (ruleOf w p) s) (sym f) (asked-counts (sizes w) (ruleOf w p) s)))

@@ -1,10 +1,8 @@
 // Opening a rule table in lent words.
 use settings::Outcome;
 use settings::Refusal;
-use settings::features_ok;
+use table_calls::can_open;
 use table_calls::lay;
-use table_words::NODES;
-use table_words::RECORDS;
 ghost use lib.ListN.{length};
 ghost use Rattle.promises.specs.Deed.{Meets};
 ghost use Rattle.promises.specs.TableDeeds as D;
@@ -14,16 +12,7 @@ ghost use Rattle.promises.specs.RuleDeeds.{ruled};
 pub fn open(t: &mut [u32], features: &[u8], capacity: usize) -> Outcome
     ensures { λ r. ⌜ Meets (D.open-table ruled (now (features .entry)) capacity (length (now (t .entry)))) (now (t .entry)) (now (t .exit)) r ⌝ }
 {
-    if !features_ok(features) {
-        return Outcome::Refused(Refusal::BadOpening);
-    }
-    if capacity < 1 {
-        return Outcome::Refused(Refusal::BadOpening);
-    }
-    if NODES < capacity {
-        return Outcome::Refused(Refusal::BadOpening);
-    }
-    if t.len() < RECORDS + 32 * capacity {
+    if !can_open(t, features, capacity) {
         return Outcome::Refused(Refusal::BadOpening);
     }
     lay(t, 1, 0, features, capacity);

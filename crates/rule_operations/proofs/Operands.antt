@@ -24,7 +24,8 @@ use Rattle.rule_restrict.proofs.Restricting.{restr-whole}
 use Rattle.rule_engine.specs.Joint.{joint, Operands}
 use Rattle.rule_engine.proofs.Applying.{joint-apply, joint-case, joint-forgotten}
 use Rattle.rule_calls.proofs.Sounding.{sound-root}
-use Rattle.rule_calls.proofs.Edge.{placed}
+use Rattle.table_calls.proofs.Drawn.{placed}
+use Rattle.rule_calls.proofs.Edge.{drawn}
 use Rattle.rule_settling.proofs.Settling.{sound-holds}
 use Rattle.promises.specs.Tab.{tab}
 use Rattle.promises.specs.Words.{features, size, sizes}
@@ -33,7 +34,7 @@ use Rattle.promises.specs.RuleSound.{RuleSound as Sound}
 use Rattle.promises.specs.Operators.{pairOf, caseOf}
 use Rattle.promises.specs.State.{on, Places}
 use Rattle.promises.specs.Table.{stateOf}
-use Rattle.promises.specs.RuleDeeds.{ruled, caseRule, applied, without}
+use Rattle.promises.specs.RuleDeeds.{looked, ruled, caseRule, applied, without}
 use Rattle.rule_operations.specs.Joining.{Handed, Lined}
 
 -- the number that the branch word b gives a setting
@@ -81,7 +82,8 @@ module _ {w : List ℕ} (s : Sound w) where
 
     pub apply-agrees : (o : ℕ) → o < 6 → a < 32 → b < 32 → Agree (sizes w) (joint w o 16 2 0 l) (applied o (on (stateOf ruled w) a) (on (stateOf ruled w) b))
     apply-agrees o h ha hb x v =
-        joint-apply w o 16 l h no-feature x v ∙ ap₂ (λ (y z : ℕ). says (pairOf o y z)) (ap (said w x) ea ∙ numbers (placed w a ha x v)) (ap (said w x) eb ∙ numbers (placed w b hb x v))
+        joint-apply w o 16 l h no-feature x v
+        ∙ ap₂ (λ (y z : ℕ). says (pairOf o y z)) (ap (said w x) ea ∙ numbers (placed looked drawn w a ha x v)) (ap (said w x) eb ∙ numbers (placed looked drawn w b hb x v))
 
   -- ---- CASE
   -- what is handed on for a branch is a branch of the table, phrase 0 too
@@ -109,7 +111,7 @@ module _ {w : List ℕ} (s : Sound w) where
         joint-case w 16 (length l) r no-feature x v
         ∙ ap (λ (y : ℕ). says (caseOf (said w x y) (tab (λ j. said w x (listed r (1 + j))) (length l)))) (e .first)
         ∙ ap says (case-ext (λ j. said w x (listed r (1 + j))) numbered (length l) i is)
-        ∙ ap (λ (y : ℕ). says (caseOf y (tab numbered (length l)))) (numbers (placed w q hq x v))
+        ∙ ap (λ (y : ℕ). says (caseOf y (tab numbered (length l)))) (numbers (placed looked drawn w q hq x v))
       where
         -- the selector's number, and those of the branches
         i : ℕ
@@ -119,7 +121,7 @@ module _ {w : List ℕ} (s : Sound w) where
         numbered j = on (stateOf ruled w) (getD l j 0) x .end
 
         is : i < length l → said w x (listed r (1 + i)) ≡ numbered i
-        is h = ⊎-elim (ap (said w x)) (λ n. absurd (n .0 (record { setting = x; valid = v; holds = refl }))) (e .others i h) ∙ numbers (placed w (getD l i 0) (p .each i h) x v)
+        is h = ⊎-elim (ap (said w x)) (λ n. absurd (n .0 (record { setting = x; valid = v; holds = refl }))) (e .others i h) ∙ numbers (placed looked drawn w (getD l i 0) (p .each i h) x v)
 
   -- ---- FORGET
   module _ (q f m : ℕ) (l : List ℕ) (hf : f < features w) (em : m ≡ size w f) (e : (j : ℕ) → j < 9 → listed l j ≡ root w q) where

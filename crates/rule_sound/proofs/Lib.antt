@@ -1,4 +1,3 @@
 pub mod Sitting
 pub mod Walking
 pub mod Pictures
-pub mod Unique

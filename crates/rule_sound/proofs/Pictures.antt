@@ -10,6 +10,7 @@ use Rattle.theory.specs.Build.{table}
 use Rattle.theory.specs.Walk.{Tidy}
 use Rattle.theory.specs.Rules.{Rule}
 use Rattle.theory.proofs.Bounded.{Results, empty-bounded, rules-bounded}
+use Rattle.table_words.specs.Words.{kind}
 use Rattle.rule_words.specs.Words.{encode}
 use Rattle.rule_words.specs.Table.{ruleTable}
 use Rattle.rule_words.specs.Picture.{Pictures, Proper, IsTable}
@@ -76,6 +77,10 @@ tested-sound {w} t =
       roots-ok = record { rooted = t .roots-ok };
       in-order = t .in-order;
     }
+
+-- THEOREM: the kind word is 1, that of a sound cost table 2
+pub sound-kind : {w : List ℕ} → Sound w → kind w ≡ 1
+sound-kind s = s .header .kind
 
 -- ---- THEOREMS: a sound table's roots and nodes are those of its rules in turn, its words their picture
 pub sound-tidy : {w : List ℕ} → Sound w → Tidy (sizes w) (roots w) (nodes w)

@@ -1,4 +1,4 @@
--- What a table that a call wrote is at the edge: a sound table that gives its functions. The pictures of the layers below say so, for every kind. Assumes nothing.
+-- What a table that a call wrote is at the edge, as the pictures of the layers below say, for every kind; and how the calls that every kind has meet their deeds. Assumes nothing.
 use mathlib.Core.Path.{_≡_, refl, sym, ap, subst, _∙_}
 use mathlib.Core.List.{List, [], _∷_, _++_}
 use Prim.Native.Nat.{ℕ, _<_}
@@ -9,23 +9,30 @@ use lib.Seq.{getD-set-same, getD-set-other}
 use Rattle.theory.specs.Kind.{Kind}
 use Rattle.theory.specs.Settings.{Valid}
 use Rattle.theory.specs.Functions.{Agree, Amount, Fun, zero-fun}
+use Rattle.theory.specs.Asked.{Asked}
+use Rattle.theory.specs.Questions.{asked}
+use Rattle.theory.specs.Rests.{Counts}
 use Rattle.theory.specs.Tally.{tally}
+use Rattle.theory.proofs.Asked.{asked-counts}
 use Rattle.theory.proofs.Counting.{tally-counts, counts-unique}
 use Rattle.settings.specs.Refusals.{Cases, Ends, _when_else_, taken}
 use Rattle.settings.specs.declared.refusals.Refusal.{Refusal}
-use Rattle.settings.specs.declared.refusals.Refusal.the-variants.{NoRoom}
+use Rattle.settings.specs.declared.refusals.Refusal.the-variants.{NoRoom, BadOpening}
 use Rattle.settings.specs.declared.refusals.Outcome.{Outcome}
 use Rattle.settings.specs.declared.refusals.Outcome.the-variants.{Taken, Refused}
+use Rattle.settings.proofs.Endings.{stop, pass}
 use Rattle.promises.specs.Words.{capacity, sizes}
 use Rattle.promises.specs.Deed.{Answer, Deed, refusals, Meets}
 use Rattle.promises.specs.State.{State, on, put, Outnumber, room-cases}
 use Rattle.promises.specs.Table.{Tabled, Effect, puts, stateOf, Made, Leaves, table}
-use Rattle.promises.specs.TableDeeds.{fresh}
+use Rattle.promises.specs.TableDeeds.{Openable, fresh, open-table, look-up, tally-all}
 use Rattle.table_words.specs.Table.{Table}
 use Rattle.table_words.specs.Picture.{Pictures, Proper, Becomes}
 use Rattle.table_calls.specs.Writing.{Exceeds, Writes}
+use Rattle.table_calls.specs.Door.{Enters}
 use Rattle.table_calls.specs.Opening.{Opens}
 use Rattle.table_calls.proofs.Like.{alike, more, like-ends}
+use Rattle.table_calls.proofs.Meeting.{let-in, refuses, takes}
 
 module _ {K : Kind} (D : Table K) (Sound : List ℕ → Type 0) (looked : Answer (Amount K × ℕ)) where
   -- a kind of table at the edge
@@ -99,3 +106,25 @@ module _ {K : Kind} {D : Table K} {own : List ℕ → ℕ → Fun K} {Sound : Li
         kept = λ y q. x .refused y (sym e ∙ q);
         refused = λ y q. k y (sym e ∙ q);
       }
+
+  -- ---- the calls that every kind has, where they are not refused at the door
+  -- OPEN: refused, or a fresh table
+  pub not-opened : {S : List ℕ} {cap : ℕ} (w : List ℕ) → (Openable S cap (length w) → ⊥) → Meets (open-table T S cap (length w)) w w (Refused BadOpening)
+  not-opened w n = refuses refl refl (pass (λ m. m tt) (stop n))
+
+  pub fresh-opened : {S : List ℕ} {cap : ℕ} {w w′ : List ℕ} → Openable S cap (length w) → Opens D S cap w w′ Taken → Meets (open-table T S cap (length w)) w w′ Taken
+  fresh-opened o a = takes refl (pass (λ m. m tt) (pass (λ m. m o) refl)) (laid-out a refl) tt
+
+  -- LOOK UP: what was found is what the place's own function gives, and so many features it asks
+  pub looks : {w s : List ℕ} {p : ℕ} {o : Outcome} {r : looked .Result} → Enters Sound (D .places) (p ∷ []) w o → o ≡ Taken → Valid (sizes w) s
+      → looked .ending r ≡ Taken → looked .value r .0 ≡ own w p s → looked .value r .1 ≡ asked (sizes w) (own w p) s → Meets (look-up T p s) w w r
+  looks {w} {s} {p} {r = r} e t v k g a =
+      let q : own w p ≡ on (stateOf T w) p = sym (F .at-said w p (e .there t .each 0 (omega arith))) in
+      takes k (let-in e t (pass (λ m. m v) refl)) refl (
+        g ∙ ap (λ (f : Fun K). f s) q,
+        subst (λ (f : Fun K). Asked (sizes w) f s (looked .value r .1)) q (subst (Asked (sizes w) (own w p) s) (sym a) (asked-counts (sizes w) (own w p) s)),
+      )
+
+  -- TALLY: the number of distinct rests
+  pub tallies : {w : List ℕ} {n : ℕ} → Sound w → n ≡ tally (sizes w) (D .said w) → Meets (tally-all T) w w (record { outcome = Taken; count = n })
+  tallies {w} s e = takes refl (pass (λ m. m s) refl) refl (subst (Counts (sizes w) (D .said w)) (sym e) (tally-counts (sizes w) (D .said w)))

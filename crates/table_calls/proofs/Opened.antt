@@ -16,9 +16,8 @@ use Rattle.theory.proofs.Growing.{each-append}
 use Rattle.theory.proofs.Ranges.{features-pos}
 use Rattle.theory.proofs.Values.{value-ending}
 use Rattle.theory.proofs.WellFormed.{wf-empty}
-use Rattle.settings.specs.declared.refusals.Refusal.the-variants.{BadOpening}
-use Rattle.settings.specs.declared.refusals.Outcome.the-variants.{Taken, Refused}
-use Rattle.settings.proofs.Endings.{stop, pass, not-taken, not-refused}
+use Rattle.settings.specs.declared.refusals.Outcome.the-variants.{Taken}
+use Rattle.settings.proofs.Endings.{pass, not-refused}
 use Rattle.table_words.specs.Table.{Table}
 use Rattle.table_words.specs.Picture.{Shows, Pictures, Proper, nodeHash}
 use Rattle.table_words.proofs.Tab.{split, tab-none, tab-snoc, getD-tab, length-tab}
@@ -122,6 +121,3 @@ module _ {K : Kind} (T : Table K) {b : ℕ} {S : List ℕ} {cap : ℕ} {w w′ :
       → ((s : List ℕ) → T .InRange (zero-fun s)) → T .Shared cap S (fresh (T .places)) → Opens T S cap w w′ Taken
   opened shares roots range shared =
       record { ends = pass (λ q. q o) refl; long = n .long; proper = λ e. fresh-proper range shared; pictures = λ e. fresh-pictures shares roots; past = λ e. n .past; refused = λ x. not-refused }
-
-pub not-opened : {K : Kind} {T : Table K} {S : List ℕ} {cap : ℕ} {w : List ℕ} → (Openable S cap (length w) → ⊥) → Opens T S cap w w (Refused BadOpening)
-not-opened h = record { ends = stop h; long = refl; proper = not-taken; pictures = not-taken; past = not-taken; refused = λ x e. refl }

@@ -9,4 +9,5 @@ pub use door::are_places;
 pub use fitting::index;
 pub use fitting::setting_fits;
 pub use matching::same_features;
+pub use opening::can_open;
 pub use opening::lay;

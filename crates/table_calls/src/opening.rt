@@ -1,10 +1,32 @@
-// A fresh table laid out in lent words.
+// A fresh table laid out in lent words, and whether it can be.
+use settings::features_ok;
+use table_words::NODES;
 use table_words::RECORDS;
 use table_words::narrow;
 ghost use Prim.Native.Nat.{_≤_, _<_};
 ghost use lib.ListN.{length};
+ghost use Rattle.settings.specs.Tells.{Tells};
 ghost use Rattle.table_calls.specs.Opening.{Cleared, Based, Named, Sized};
 ghost use Rattle.promises.specs.TableDeeds.{Openable};
+
+// Whether a table over the feature list with room for capacity nodes can be opened in the words t.
+pub fn can_open(t: &[u32], features: &[u8], capacity: usize) -> bool
+    ensures { λ r. ⌜ Tells r (Openable (now (features .entry)) capacity (length (now (t .entry)))) ⌝ }
+{
+    if !features_ok(features) {
+        return false;
+    }
+    if capacity < 1 {
+        return false;
+    }
+    if NODES < capacity {
+        return false;
+    }
+    if t.len() < RECORDS + 32 * capacity {
+        return false;
+    }
+    true
+}
 
 // Sets the first n words to 0.
 fn clear(t: &mut [u32], n: usize)

@@ -26,12 +26,4 @@ returns-2 c =
 pub settle-spec : {M : Type 1} → statement M
 settle-spec =
     tie.close
-    (tie.spec
-    (λ c. search needs)
-    (λ c. search needs)
-    roll-back-requires
-    (λ c. search needs)
-    returns
-    finish-requires
-    (λ c. search needs)
-    returns-2)
+    (tie.spec (λ c. search needs) (λ c. search needs) roll-back-requires (λ c. search needs) returns finish-requires (λ c. search needs) returns-2)

@@ -2,7 +2,9 @@
 use Rattle.both_calls.proofs.Operands.{choice-said, choice-within}
 use Rattle.both_calls.proofs.Edge.{wrote-cost}
 use Rattle.both_calls.proofs.Entering.{turned-away, let-in}
-use Rattle.cost_calls.proofs.Edge.{room-ends}
+use Rattle.table_calls.proofs.Drawn.{room-ends}
+use Rattle.promises.specs.CostDeeds.{cost-looked}
+use Rattle.cost_calls.proofs.Edge.{drawn}
 use Rattle.table_calls.proofs.Meeting.{refuses}
 use Rattle.table_calls.proofs.Theorems.{puts-one}
 use Rattle.theory_costs.proofs.Range.{within-stays}
@@ -32,7 +34,8 @@ returns-2 c = let x = (c .before .before .before .before .before .before .before
     let hb = e .cost-places t .each 2 (omega arith) in
     let hq = e .rule-places t .each 0 (omega arith) in
     let p = puts-one (c .before .before .before .before .put-choice .ensures) _ (λ s k. ap (λ (g : Cost). g s) (choice-said w (x .args .a) (x .args .b) ha hb v (x .args .rule) hq)) in
-    wrote-cost refl (let-in e t (pass (within-stays (choice-within w (x .args .a) (x .args .b) ha hb v (x .args .rule) hq (e .costs t))) (room-ends w _ _ (p .ends)))) (λ k. tt) (λ y k. k) refl p
+    wrote-cost refl (let-in e t (pass (within-stays (choice-within w (x .args .a) (x .args .b) ha hb v (x .args .rule) hq (e .costs t))) (room-ends cost-looked drawn w _ _ (p .ends))))
+    (λ k. tt) (λ y k. k) refl p
 
 pub choose-spec : {M : Type 1} → statement M
 choose-spec =

@@ -2,7 +2,9 @@
 use Rattle.both_calls.proofs.Operands.{below-said}
 use Rattle.both_calls.proofs.Edge.{wrote-rule}
 use Rattle.both_calls.proofs.Entering.{turned-away, let-in}
-use Rattle.rule_calls.proofs.Edge.{room-ends}
+use Rattle.table_calls.proofs.Drawn.{room-ends}
+use Rattle.promises.specs.RuleDeeds.{looked}
+use Rattle.rule_calls.proofs.Edge.{drawn}
 use Rattle.table_calls.proofs.Meeting.{refuses}
 use Rattle.table_calls.proofs.Theorems.{puts-one}
 use Rattle.theory.specs.Rules.{Rule}
@@ -29,7 +31,7 @@ returns-2 c =
     let w = x .args .costs .now in
     let p = puts-one (c .before .before .before .before .put-below .ensures) _ (λ s k.
     ap (λ (g : Rule). g s) (below-said w (x .args .a) (x .args .b) (e .cost-places t .each 0 (omega arith)) (e .cost-places t .each 1 (omega arith)))) in
-    wrote-rule refl (let-in e t (room-ends v _ _ (p .ends))) (λ k. tt) (λ y k. k) refl p
+    wrote-rule refl (let-in e t (room-ends looked drawn v _ _ (p .ends))) (λ k. tt) (λ y k. k) refl p
 
 pub less-spec : {M : Type 1} → statement M
 less-spec =

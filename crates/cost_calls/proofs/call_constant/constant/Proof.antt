@@ -1,6 +1,8 @@
 -- `cost_calls::call_constant::constant` meets its contract: the door, the amount tested, and the end needs no node. Assumes nothing.
 use Rattle.cost_calls.proofs.Sounding.{sound-untidy}
-use Rattle.cost_calls.proofs.Edge.{written}
+use Rattle.table_calls.proofs.Drawn.{written}
+use Rattle.promises.specs.CostDeeds.{cost-looked}
+use Rattle.cost_calls.proofs.Edge.{drawn}
 use Rattle.cost_calls.proofs.Answering.{constant-ok, constant-within, constant-becomes}
 use Rattle.table_calls.proofs.Meeting.{turned-away, let-in, refuses, takes}
 use Rattle.promises.specs.Range.{costMost}
@@ -46,7 +48,7 @@ returns-3 c =
     let e = toZ-ofZ (a .fits .amount) in
     let f : Fit costMost (a .args .amount) = subst (Fit costMost) e (granted (c6 .amount-ok .result) (c .before .before .before .before .before .if1 .left) (c6 .amount-ok .ensures)) in
     takes refl (let-in (c9 .door .ensures) (c7 .enum-told .given .1) (pass (λ n. n f) refl))
-    (written (λ s v. refl) (constant-becomes (c .before .before .before .before .word-of .result) (a .args .amount)
+    (written cost-looked drawn (λ s v. refl) (constant-becomes (c .before .before .before .before .word-of .result) (a .args .amount)
     (c .before .before .before .before .word-of .ensures ∙ e) (c .before .before .finish .ensures))) tt
 
 pub constant-spec : {M : Type 1} → statement M

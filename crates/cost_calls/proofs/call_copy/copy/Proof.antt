@@ -1,6 +1,8 @@
 -- `cost_calls::call_copy::copy` meets its contract: the door, and the branch is there. Assumes nothing.
 use Rattle.cost_calls.proofs.Sounding.{sound-long, sound-untidy}
-use Rattle.cost_calls.proofs.Edge.{written, placed}
+use Rattle.table_calls.proofs.Drawn.{written, placed}
+use Rattle.promises.specs.CostDeeds.{cost-looked}
+use Rattle.cost_calls.proofs.Edge.{drawn}
 use Rattle.cost_calls.proofs.Answering.{copy-ok, copy-within, copy-becomes}
 use Rattle.table_calls.proofs.Meeting.{turned-away, let-in, refuses, takes}
 use native.Mathlib.Omega.{arith}
@@ -39,7 +41,7 @@ returns-2 c =
     let a = c10 .before .before .before .before in
     let e = c10 .door .ensures in
     let t = c8 .enum-told .given .1 in
-    takes refl (let-in e t refl) (written (placed (a .args .t .now) (a .args .from) (e .there t .each 1 (omega arith)))
+    takes refl (let-in e t refl) (written cost-looked drawn (placed cost-looked drawn (a .args .t .now) (a .args .from) (e .there t .each 1 (omega arith)))
     (copy-becomes (a .args .t .now) (a .args .from) (c6 .root-word .result) (c .before .before .before .before .base-word .result) (c6 .root-word .ensures)
     (c .before .before .before .before .base-word .ensures) (c .before .before .finish .ensures))) tt
 

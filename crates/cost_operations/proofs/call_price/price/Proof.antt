@@ -2,7 +2,9 @@
 use Rattle.cost_operations.proofs.Prices.{no-feature, other-length, listed-good}
 use Rattle.cost_operations.specs.Pricing.{Listed}
 use Rattle.cost_calls.proofs.Sounding.{sound-long}
-use Rattle.cost_calls.proofs.Edge.{room-ends, wrote}
+use Rattle.table_calls.proofs.Drawn.{room-ends, wrote}
+use Rattle.promises.specs.CostDeeds.{cost-looked}
+use Rattle.cost_calls.proofs.Edge.{drawn}
 use Rattle.table_calls.proofs.Meeting.{turned-away, let-in, refuses}
 use Rattle.table_calls.proofs.Theorems.{puts-one}
 use Rattle.promises.specs.CostOperations.{priced}
@@ -75,9 +77,9 @@ returns-5 c =
     } in
     let g = priced (a .args .feature) (a .args .prices .now) in
     let x = puts-one (c .before .before .put-prices .ensures) g (λ s v. refl) in
-    wrote {d = D.price (a .args .place) (a .args .feature) (a .args .prices .now)} refl refl x
+    wrote cost-looked drawn {d = D.price (a .args .place) (a .args .feature) (a .args .prices .now)} refl refl x
     (let-in (c16 .door .ensures) (c14 .enum-told .given .1) (pass (listed-good (a .args .feature) (a .args .prices .now) (a .args .t .now) d)
-    (room-ends (a .args .t .now) g (c .before .before .put-prices .result) (x .ends)))) (λ q. tt) (λ y q. q)
+    (room-ends cost-looked drawn (a .args .t .now) g (c .before .before .put-prices .result) (x .ends)))) (λ q. tt) (λ y q. q)
 
 pub price-spec : {M : Type 1} → statement M
 price-spec =

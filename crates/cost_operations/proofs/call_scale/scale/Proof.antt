@@ -1,10 +1,11 @@
 -- `cost_operations::call_scale::scale` meets its contract: the door, the factor tested, and it comes through as its word. Assumes nothing.
 use Rattle.cost_operations.proofs.Operands.{operable, scale-agrees, range-ends}
 use Rattle.cost_calls.proofs.Sounding.{sound-long}
-use Rattle.cost_calls.proofs.Edge.{wrote}
+use Rattle.table_calls.proofs.Drawn.{wrote}
+use Rattle.cost_calls.proofs.Edge.{drawn}
 use Rattle.table_calls.proofs.Meeting.{turned-away, let-in, refuses}
 use Rattle.promises.specs.CostOperations.{scaled}
-use Rattle.promises.specs.CostDeeds.{costed}
+use Rattle.promises.specs.CostDeeds.{cost-looked, costed}
 use Rattle.promises.specs.CostDeeds as D
 use Rattle.promises.specs.State.{on}
 use Rattle.promises.specs.Table.{stateOf}
@@ -62,7 +63,7 @@ returns-3 c =
     let h = scaled (a .args .factor) (on (stateOf costed (a .args .t .now)) (a .args .a)) in
     let x = c .before .before .before .before .put-joint .ensures .joins h (scale-agrees (a .args .t .now) _ (a .args .a) _ (a .args .factor) (c8 .arm-of .ensures)
     (c .before .before .before .before .before .word-of .ensures ∙ i) (e .there t .each 1 (omega arith))) in
-    wrote {d = D.scale (a .args .place) (a .args .a) (a .args .factor)} refl refl x
+    wrote cost-looked drawn {d = D.scale (a .args .place) (a .args .a) (a .args .factor)} refl refl x
     (let-in e t (pass (λ n. n f) (range-ends (a .args .t .now) h (c .before .before .before .before .put-joint .result) (x .ends)))) (λ q. tt) (λ y q. q)
 
 pub scale-spec : {M : Type 1} → statement M

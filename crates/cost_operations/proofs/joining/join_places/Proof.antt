@@ -1,11 +1,12 @@
 -- `cost_operations::joining::join_places` meets its contract: the door, and the branches of the places are the operands. Assumes nothing.
 use Rattle.cost_operations.proofs.Operands.{operable, places-agree, range-ends}
 use Rattle.cost_calls.proofs.Sounding.{sound-long}
-use Rattle.cost_calls.proofs.Edge.{wrote}
+use Rattle.table_calls.proofs.Drawn.{wrote}
+use Rattle.cost_calls.proofs.Edge.{drawn}
 use Rattle.cost_engine.specs.Joint.{opOf}
 use Rattle.table_calls.proofs.Meeting.{turned-away, let-in, refuses}
 use Rattle.promises.specs.CostOperations.{joined}
-use Rattle.promises.specs.CostDeeds.{costed, join}
+use Rattle.promises.specs.CostDeeds.{cost-looked, costed, join}
 use Rattle.promises.specs.State.{on}
 use Rattle.promises.specs.Table.{stateOf}
 use native.Mathlib.Omega.{arith}
@@ -46,7 +47,7 @@ returns-2 c =
     let h = joined (opOf (a .args .o)) (on z (a .args .a)) (on z (a .args .b)) in
     let x = c .before .before .before .before .put-joint .ensures .joins h (places-agree (e .sound t) (a .args .o) _ _ (a .args .a) (a .args .b) (c9 .arm-of .ensures)
     (c7 .arm-of2 .ensures) (e .there t .each 1 (omega arith)) (e .there t .each 2 (omega arith))) in
-    wrote {d = join (opOf (a .args .o)) (a .args .place) (a .args .a) (a .args .b)} refl refl x
+    wrote cost-looked drawn {d = join (opOf (a .args .o)) (a .args .place) (a .args .a) (a .args .b)} refl refl x
     (let-in e t (range-ends (a .args .t .now) h (c .before .before .before .before .put-joint .result) (x .ends))) (λ q. tt) (λ y q. q)
 
 pub join-places-spec : {M : Type 1} → statement M

@@ -1,6 +1,8 @@
 -- `rule_calls::call_constant::constant` meets its contract: what the door refuses is refused, and a phrase needs no node. Assumes nothing.
 use Rattle.rule_calls.proofs.Sounding.{sound-untidy}
-use Rattle.rule_calls.proofs.Edge.{written}
+use Rattle.table_calls.proofs.Drawn.{written}
+use Rattle.promises.specs.RuleDeeds.{looked}
+use Rattle.rule_calls.proofs.Edge.{drawn}
 use Rattle.rule_calls.proofs.Answering.{constant-becomes}
 use Rattle.rule_words.proofs.Reading.{decode-phrase}
 use Rattle.table_calls.proofs.Meeting.{turned-away, let-in, refuses, takes}
@@ -34,7 +36,7 @@ returns-3 : tie.Need-returns-3
 returns-3 c =
     let c7 = c .before .before .before .before .before .before .before in
     takes refl (let-in (c7 .door .ensures) (c .before .before .before .before .before .enum-told .given .1) (pass (λ k. k (omega arith)) refl))
-    (written (λ s v. refl) (constant-becomes (omega arith) (c .before .before .finish .ensures))) tt
+    (written looked drawn (λ s v. refl) (constant-becomes (omega arith) (c .before .before .finish .ensures))) tt
 
 pub constant-spec : {M : Type 1} → statement M
 constant-spec =

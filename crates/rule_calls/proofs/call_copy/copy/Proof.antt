@@ -1,6 +1,8 @@
 -- `rule_calls::call_copy::copy` meets its contract: what the door refuses is refused, and the branch is there. Assumes nothing.
 use Rattle.rule_calls.proofs.Sounding.{sound-long, sound-root, sound-untidy}
-use Rattle.rule_calls.proofs.Edge.{written, placed}
+use Rattle.table_calls.proofs.Drawn.{written, placed}
+use Rattle.promises.specs.RuleDeeds.{looked}
+use Rattle.rule_calls.proofs.Edge.{drawn}
 use Rattle.rule_calls.proofs.Answering.{copy-becomes}
 use Rattle.table_calls.proofs.Meeting.{turned-away, let-in, refuses, takes}
 use Rattle.promises.specs.RuleWords.{decode, ruleNodes}
@@ -32,7 +34,7 @@ returns-2 c =
     let c6 = c .before .before .before .before .before .before in let c8 = c6 .before .before in let a = c8 .before .before .before .before in
     let e = c8 .door .ensures in
     let t = c6 .enum-told .given .1 in
-    takes refl (let-in e t refl) (written (placed (a .args .t .now) (a .args .from) (e .there t .each 1 (omega arith)))
+    takes refl (let-in e t refl) (written looked drawn (placed looked drawn (a .args .t .now) (a .args .from) (e .there t .each 1 (omega arith)))
     (copy-becomes (a .args .from) (c .before .before .before .before .root-word .ensures) (c .before .before .finish .ensures))) tt
 
 pub copy-spec : {M : Type 1} → statement M

@@ -1,11 +1,14 @@
 -- `rule_calls::call_look_up::look_up` meets its contract: what the door refuses is refused, and the way ends at the number. Assumes nothing.
 use Rattle.rule_calls.proofs.Sounding.{sound-long}
-use Rattle.rule_calls.proofs.Looking.{looked-up}
-use Rattle.table_calls.proofs.Meeting.{turned-away, let-in, refuses, takes}
-use Rattle.settings.proofs.Endings.{stop, pass}
+use Rattle.rule_calls.proofs.Edge.{drawn}
+use Rattle.table_calls.proofs.Meeting.{turned-away, let-in, refuses}
+use Rattle.table_calls.proofs.Drawn.{looks}
+use Rattle.promises.specs.RuleDeeds.{looked}
+use Rattle.theory.specs.Rules.{says}
+use Rattle.settings.proofs.Endings.{stop}
 use Rattle.settings.proofs.Answers.{denied, granted}
 use native.Mathlib.Omega.{arith}
-use mathlib.Core.Path.{refl}
+use mathlib.Core.Path.{refl, ap}
 use borrow.Author.Needs.{needs}
 use Rattle.rule_calls.proofs.call_look_up.look_up.Statement.{statement}
 use Rattle.rule_calls.proofs.call_look_up.look_up.Tie as tie
@@ -28,23 +31,11 @@ walk-requires c κs =
 
 returns-3 : tie.Need-returns-3
 returns-3 c =
-    let a = c .before .before .before .before .before .before .before .before .before in
-    let e = c .before .before .before .before .before .door .ensures in
-    let t = c .before .before .before .enum-told .given .1 in
-    let v = granted (c .before .before .setting-fits .result) (c .before .if1 .left) (c .before .before .setting-fits .ensures) in
-    takes (c .walk .ensures .0) (let-in e t (pass (λ n. n v) refl)) refl (looked-up (a .args .t .now) (a .args .place) (a .args .setting .now) (c .walk .result .number)
-    (c .walk .result .asked) (e .there t .each 0 (omega arith)) (c .walk .ensures .1) (c .walk .ensures .2))
+    looks looked drawn (c .before .before .before .before .before .door .ensures) (c .before .before .before .enum-told .given .1)
+    (granted (c .before .before .setting-fits .result) (c .before .if1 .left) (c .before .before .setting-fits .ensures))
+    (c .walk .ensures .0) (ap says (c .walk .ensures .1)) (c .walk .ensures .2)
 
 pub look-up-spec : {M : Type 1} → statement M
 look-up-spec =
     tie.close
-    (tie.spec
-    (λ c. search needs)
-    (λ c κs. search needs)
-    (λ c. search needs)
-    returns
-    (λ c. search needs)
-    setting-fits-requires
-    returns-2
-    walk-requires
-    returns-3)
+    (tie.spec (λ c. search needs) (λ c κs. search needs) (λ c. search needs) returns (λ c. search needs) setting-fits-requires returns-2 walk-requires returns-3)

@@ -28,14 +28,4 @@ returns-2 c = record { each = λ k h. (c .before .loop) .inv .1 k (omega arith) 
 pub are-places-spec : {M : Type 1} → statement M
 are-places-spec =
     tie.close
-    (tie.spec
-    Inv-loop
-    μ-loop
-    loop-holds
-    (λ c. search needs)
-    (λ c. search needs)
-    returns
-    (λ c. search needs)
-    (λ c. search needs)
-    loop-again
-    returns-2)
+    (tie.spec Inv-loop μ-loop loop-holds (λ c. search needs) (λ c. search needs) returns (λ c. search needs) (λ c. search needs) loop-again returns-2)

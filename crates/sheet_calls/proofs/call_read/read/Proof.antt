@@ -7,7 +7,9 @@ use Rattle.promises.specs.Sheet.{sheetRule}
 use Rattle.promises.specs.SheetDeeds.{read-sheet}
 use Rattle.table_calls.proofs.Meeting.{turned-away, let-in, refuses}
 use Rattle.table_calls.proofs.Theorems.{puts-one}
-use Rattle.rule_calls.proofs.Edge.{room-ends, wrote}
+use Rattle.table_calls.proofs.Drawn.{room-ends, wrote}
+use Rattle.promises.specs.RuleDeeds.{looked}
+use Rattle.rule_calls.proofs.Edge.{drawn}
 use Rattle.sheet_check.proofs.Answering.{unread, read-on}
 use borrow.Author.Needs.{needs}
 use Rattle.sheet_calls.proofs.call_read.read.Statement.{statement}
@@ -47,9 +49,9 @@ returns-4 c =
     let c14 = c12 .before .before in let a = c14 .before .before .before .before .before in
     let p = puts-one (c .before .before .put-read .ensures) (sheetRule (a .args .sheet .now)) (λ t v. refl) in
     let list = granted (c6 .same-list .result) (c .before .before .before .before .before .if1 .left) (c6 .same-list .ensures) in
-    wrote {d = read-sheet (a .args .place) (a .args .sheet .now)} refl refl p
+    wrote looked drawn {d = read-sheet (a .args .place) (a .args .sheet .now)} refl refl p
     (let-in (c14 .door .ensures) (c12 .enum-told .given .1) (read-on (c10 .check .ensures) (c8 .enum-told2 .given .1)
-    (pass (λ n. n list) (room-ends (a .args .t .now) (sheetRule (a .args .sheet .now)) (c .before .before .put-read .result) (p .ends)))))
+    (pass (λ n. n list) (room-ends looked drawn (a .args .t .now) (sheetRule (a .args .sheet .now)) (c .before .before .put-read .result) (p .ends)))))
     (λ e. tt) (λ x e. e)
 
 pub read-spec : {M : Type 1} → statement M
