@@ -1,5 +1,4 @@
 -- What less remembers stays right while the rule table grows; a hit is what `build` gives, and a result may be remembered. Assumes nothing.
-use mathlib.Core.Bool.{Bool, true}
 use mathlib.Core.Path.{_≡_, subst}
 use mathlib.Core.List.{List}
 use Prim.Native.Nat.{ℕ, _+_}
@@ -15,7 +14,7 @@ use Rattle.rule_lending.specs.declared.Answer.{Answer}
 use Rattle.rule_lending.specs.declared.Answer.the-variants.{Is}
 use Rattle.rule_lending.proofs.Building.{result-again, makes-again}
 use Rattle.both_less.specs.Less.{lessFrom}
-use Rattle.both_less.specs.Memory.{Recalled, Still, StillIf}
+use Rattle.both_less.specs.Memory.{Recalled}
 
 -- after `make`
 pub remembers-made : (w v t : List ℕ) (k : ℕ) (l : List ℕ) (a : Answer) (z : ℕ) (s : List ℕ) → Ready v → Makes v t k l a → a ≡ Is z → Remembers 4 (Recalled w v) s → Remembers 4 (Recalled w t) s
@@ -34,10 +33,3 @@ module _ (w v : List ℕ) (k : ℕ) (key : List ℕ) (f : listed key 0 ≡ k + 1
   remembers-result t s s′ z ok r m st =
       M.remembers-stored key l s s′ z 0 m st
       (record { there = λ j i. subst (λ (n : ℕ). Result t t n (lessFrom w n (listed key 1) (listed key 2) (listed key 3)) (Is z)) (omega (arith, f, i)) (result-again ok r) })
-
--- ---- what the calls leave
-pub still : (w v s : List ℕ) (a : Answer) (z : ℕ) → a ≡ Is z → Still w v s a → Remembers 4 (Recalled w v) s
-still w v s a z q h = subst (λ (y : Answer). Still w v s y) q h
-
-pub still-if : (w v s : List ℕ) (b : Bool) → b ≡ true → StillIf w v s b → Remembers 4 (Recalled w v) s
-still-if w v s b e h = subst (λ (y : Bool). StillIf w v s y) e h

@@ -3,7 +3,7 @@ use mathlib.Core.Bool.{Bool, true, false}
 use mathlib.Core.Path.{_≡_, refl, sym, ap, ap₂, subst, _∙_}
 use mathlib.Core.List.{List, [], _∷_, _++_}
 use Prim.Native.Nat.{ℕ, suc, _+_, _≤_, _<_}
-use native.Mathlib.Nat.{zero-add}
+use native.Mathlib.Nat.{le-refl, zero-add}
 use native.Mathlib.Numerals.{add-one}
 use native.Mathlib.Omega.{arith}
 use lib.IntN.{_-ℤ_}
@@ -35,7 +35,7 @@ use Rattle.table_words.proofs.Words.{length-sizes, at-sizes, kept-size}
 use Rattle.cost_nodes.specs.Nodes.{layout, Holds, told, Gives, Result, Makes, built, arms, Armed, Filling, Stopped, Fills}
 use Rattle.cost_nodes.specs.declared.Answer.{Answer}
 use Rattle.cost_nodes.specs.declared.Answer.the-variants.{Is, NoRoom}
-use Rattle.cost_nodes.proofs.Reading.{lawful}
+use Rattle.cost_nodes.proofs.Reading.{lawful, holds-passed}
 use Rattle.promises.specs.Integers.{Fit, int}
 use Rattle.promises.specs.Range.{addMost}
 use Rattle.promises.specs.CostSound.{kept, sideOf}
@@ -94,22 +94,6 @@ module _ (w : List ℕ) (k : ℕ) (g : Cost) (ok : Holds w) (hk : k < features w
   same-size : (t x a : List ℕ) → Filling w t k g (size w k) x a → size t k ≡ size w k
   same-size t x a f = kept-size w t (f .filled .grown .kept) (ok .laid .laid .few) k hk
 
-  -- `make` may be asked
-  pub fill-armed : (t x a : List ℕ) → Filling w t k g (size w k) x a → ((v : ℕ) → v < size w k → Fit addMost (int (listed a v) -ℤ int (listed a 0))) →
-      ((up : Bool) (v : ℕ) → v < size w k → Fit addMost (along (kept up t) (branch (listed x v) (listed a v)) -ℤ int (listed a 0))) →
-      ((up : Bool) → Passed (sideOf up) (nodes t) (length (nodes t)) (kept up t)) → Armed t k x a
-  fill-armed t x a f near sums paired =
-      let s : size t k ≡ size w k = same-size t x a f in
-      record {
-        each = λ v h.
-            subst (Ok (nodes t) (suc k)) (getD-tab (λ u. branch (listed x u) (listed a u)) (size w k) v blank (omega arith))
-            (F.fill-ok lawful w k g ok hs t (arms (size w k) x a) (full t x a f) v (omega (arith, at-sizes w k hk)));
-        pad = λ v l h. f .pad v (omega arith) h;
-        near = λ v h. near v (omega arith);
-        sums = λ up v h. sums up v (omega arith);
-        paired = paired;
-      }
-
   -- what branch v adds is what g has there, where the other features are 0
   fill-adds : (t x a : List ℕ) → Filling w t k g (size w k) x a → (v : ℕ) → v < size w k → int (listed a v) ≡ g (v ∷ zeros (drop (suc k) (sizes w))) .off
   unfolding eachTo
@@ -129,7 +113,7 @@ module _ (w : List ℕ) (k : ℕ) (g : Cost) (ok : Holds w) (hk : k < features w
       ∙ offs (m .says (zeros ns) (zeros-valid ns (pos-drop (suc k) (sizes w) (lawful .positive w (ok .laid)))))
 
   -- so of a cost whose amounts lie close together no two added integers lie too far apart
-  pub fill-near : (t x a : List ℕ) → Filling w t k g (size w k) x a → Spread addMost (drop k (sizes w)) g → (v : ℕ) → v < size w k → Fit addMost (int (listed a v) -ℤ int (listed a 0))
+  fill-near : (t x a : List ℕ) → Filling w t k g (size w k) x a → Spread addMost (drop k (sizes w)) g → (v : ℕ) → v < size w k → Fit addMost (int (listed a v) -ℤ int (listed a 0))
   fill-near t x a f sp v h =
       let ns : List ℕ = drop (suc k) (sizes w) in
       let z : Valid ns (zeros ns) = zeros-valid ns (pos-drop (suc k) (sizes w) (lawful .positive w (ok .laid))) in
@@ -150,7 +134,7 @@ module _ (w : List ℕ) (k : ℕ) (g : Cost) (ok : Holds w) (hk : k < features w
       rw (s, e) (branches-narrow (sizes w) k n ns c g (subst (λ (ms : List ℕ). Spread addMost ms g) c sp) v (omega (arith, at-sizes w k hk)) (nodes w) (ok .wf) nr)
 
   -- the sums below the new node lie no further from 0 than the cost's amounts lie apart
-  pub fill-sums : (t x a : List ℕ) → Filling w t k g (size w k) x a → Spread addMost (drop k (sizes w)) g → (up : Bool) → Passed (sideOf up) (nodes t) (length (nodes t)) (kept up t) →
+  fill-sums : (t x a : List ℕ) → Filling w t k g (size w k) x a → Spread addMost (drop k (sizes w)) g → (up : Bool) → Passed (sideOf up) (nodes t) (length (nodes t)) (kept up t) →
       (v : ℕ) → v < size w k → Fit addMost (along (kept up t) (branch (listed x v) (listed a v)) -ℤ int (listed a 0))
   unfolding eachTo
   fill-sums t x a f sp up q v h =
@@ -168,6 +152,21 @@ module _ (w : List ℕ) (k : ℕ) (g : Cost) (ok : Holds w) (hk : k < features w
       subst (Fit addMost)
       (ap₂ (λ (p q : Branch costs). along (kept up t) p -ℤ q .adds) (getD-tab (λ u. branch (listed x u) (listed a u)) (size w k) v blank h)
       (getD-tab (λ u. branch (listed x u) (listed a u)) (size w k) 0 blank (omega arith))) y
+
+  -- `make` may be asked
+  pub fill-armed : (t x a : List ℕ) → Filling w t k g (size w k) x a → Spread addMost (drop k (sizes w)) g → Narrow addMost (sizes w) (nodes w) → Armed t k x a
+  fill-armed t x a f sp nr =
+      let s : size t k ≡ size w k = same-size t x a f in
+      let paired = holds-passed t (f .filled .grown .well) (filling-narrow t (size w k) x a f (le-refl _) sp nr) in
+      record {
+        each = λ v h.
+            subst (Ok (nodes t) (suc k)) (getD-tab (λ u. branch (listed x u) (listed a u)) (size w k) v blank (omega arith))
+            (F.fill-ok lawful w k g ok hs t (arms (size w k) x a) (full t x a f) v (omega (arith, at-sizes w k hk)));
+        pad = λ v l h. f .pad v (omega arith) h;
+        near = λ v h. fill-near t x a f sp v (omega arith);
+        sums = λ up v h. fill-sums t x a f sp up (paired up) v (omega arith);
+        paired = paired;
+      }
 
   -- and its answer is the result
   pub fill-make : (t t′ x a : List ℕ) (o : Answer) → Filling w t k g (size w k) x a → Makes t t′ k x a o → Result w t′ k g o

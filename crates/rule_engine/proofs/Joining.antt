@@ -26,7 +26,7 @@ use Rattle.rule_nodes.specs.Nodes.{Result, Good, Place, Filling}
 use Rattle.rule_nodes.specs.declared.Answer.{Answer}
 use Rattle.rule_nodes.specs.declared.Answer.the-variants.{Is}
 use Rattle.rule_nodes.proofs.Reading.{good-small}
-use Rattle.rule_nodes.proofs.Stepping.{good-top, top-node, top-good, child-skip}
+use Rattle.rule_nodes.proofs.Stepping.{top-node, top-good, child-skip}
 use Rattle.rule_nodes.proofs.Filling.{gives-eq, result-there, built-skip, built-there, mean-result, filling-ext}
 use Rattle.rule_operators.specs.Operators.{opOf}
 use Rattle.rule_engine.specs.Shortcuts.{Standing, Short}
@@ -122,10 +122,6 @@ turn-small w f n k l j v p hk hv hj = ⊎-elim
     (λ e. rw (eq-eqb f k e) (let q : n ≤ size w f = p .forget (omega arith) in let z : size w f ≡ size w k = ap (size w) e in omega arith))
     (λ e. rw (ne-eqb f k e) hv)
     (same f k)
-
--- an operand tests a feature: it is none of those below k
-pub still-left : (w : List ℕ) (f n k m x : ℕ) (l : List ℕ) → Operands w f n k l → Lowest w n l m → x ≡ features w → m < x → k < features w
-still-left w f n k m x l p q e h = omega (arith, q .above k (p .upTo) (λ j a. good-top w k (listed l j) (p .each j a) (p .upTo)))
 
 -- ---- results
 -- no operand tests feature k

@@ -1,29 +1,25 @@
--- What a walk remembers while nodes are added; where it starts from, and what it ends with. Assumes nothing.
+-- The words with notes: the features that are left, where the walk starts from, and what it ends with. Assumes nothing.
 use mathlib.Core.Path.{_≡_, sym, subst}
 use mathlib.Core.List.{List}
-use Prim.Native.Nat.{ℕ}
+use Prim.Native.Nat.{ℕ, _<_}
 use native.Mathlib.Omega.{arith}
+use Rattle.table_words.specs.Words.{listed}
 use Rattle.table_notes.specs.Plain.{Resting, plain}
-use Rattle.table_notes.specs.Far.{Aside}
 use Rattle.table_notes.proofs.Plain.{plain-of}
-use Rattle.table_memory.proofs.Remembering as M
 use Rattle.rule_notes.proofs.Reading.{plain-head}
-use Rattle.rule_nodes.specs.Nodes.{Holds, Makes, Result}
+use Rattle.rule_nodes.specs.Nodes.{Result}
 use Rattle.rule_nodes.specs.declared.Answer.{Answer}
-use Rattle.rule_nodes.specs.declared.Answer.the-variants.{Is}
-use Rattle.rule_engine.specs.Joint.{joint, Operands}
-use Rattle.rule_engine.specs.Memory.{Noted}
-use Rattle.rule_engine.proofs.Recalling.{right-made}
+use Rattle.rule_nodes.proofs.Stepping.{good-top}
+use Rattle.rule_engine.specs.Joint.{joint, Operands, Lowest}
 use Rattle.promises.specs.Words.{features}
 
 -- the features are those of the words without notes
 pub plain-features : (w : List ℕ) → features w ≡ features (plain w)
 plain-features w = sym (plain-head w 2 (omega arith))
 
--- after `make_in`
-pub noted-made : (w t : List ℕ) (k : ℕ) (l : List ℕ) (a : Answer) (x o f n : ℕ) (s : List ℕ) → Holds (plain w) → Makes (plain w) (plain t) k l a × Aside w t → a ≡ Is x
-    → Noted w o f n s → Noted t o f n s
-noted-made w t k l a x o f n s ok m e d = M.noted-made w t s d (m .0 .grown .kept) (m .1) (right-made (plain w) (plain t) k l a x o f n ok (m .0) e)
+-- an operand tests a feature: it is none of those below k
+pub still-left : (w : List ℕ) {f n k m x : ℕ} {l : List ℕ} → Operands (plain w) f n k l → Lowest (plain w) n l m → x ≡ features w → m < x → k < features (plain w)
+still-left w {f} {n} {k} {m} {x} {l} p q e h = omega (arith, q .above k (p .upTo) (λ j a. good-top (plain w) k (listed l j) (p .each j a) (p .upTo)), plain-features w)
 
 -- ---- at rest the walk starts from the words without notes ..
 pub operands-plain : (w : List ℕ) (f n k : ℕ) (l : List ℕ) → Operands w f n k l → Resting w → Operands (plain w) f n k l

@@ -1,5 +1,4 @@
 -- The laws of the memory: what is remembered stays right while the table grows, a hit is what `build` gives, and a result may be remembered. Assumes nothing.
-use mathlib.Core.Bool.{Bool, true}
 use mathlib.Core.Path.{_≡_, sym, ap, subst, _∙_}
 use mathlib.Core.List.{List}
 use Prim.Native.Nat.{ℕ, _+_, _-_, _≤_, _<_}
@@ -8,29 +7,25 @@ use lib.ListN.{take, drop}
 use lib.Seq.{length-take-le, getD-take, getD-drop}
 use Rattle.theory.specs.Build.{Ext}
 use Rattle.theory.specs.Rules.{says, number}
-use Rattle.theory.specs.Settings.{Valid}
-use Rattle.theory.proofs.Growing.{make-grows}
 use Rattle.theory.proofs.Rules.{numbers}
-use Rattle.theory.proofs.Values.{value-ext}
+use Rattle.theory.specs.WellFormed.{Mean}
+use Rattle.theory.proofs.Values.{mean-more, value-ext}
 use Rattle.theory.proofs.WellFormed.{ok-ext}
 use Rattle.table_words.specs.Words.{listed}
-use Rattle.table_words.proofs.Filling.{grown-nodes}
 use Rattle.table_words.proofs.Tab.{tab-ext}
 use Rattle.table_words.proofs.Words.{kept-sizes}
-use Rattle.rule_words.specs.Words.{branches}
-use Rattle.rule_nodes.specs.Nodes.{Holds, Makes, Result, Good}
-use Rattle.rule_nodes.specs.declared.Answer.{Answer}
+use Rattle.rule_nodes.specs.Nodes.{Holds, Result, Good}
 use Rattle.rule_nodes.specs.declared.Answer.the-variants.{Is}
-use Rattle.rule_nodes.proofs.Reading.{lawful}
-use Rattle.rule_nodes.proofs.Filling.{gives-is, result-ext, result-mean, mean-result}
+use Rattle.rule_nodes.proofs.Filling.{result-ext, result-mean, mean-result}
 use Rattle.rule_operators.specs.Operators.{opOf}
 use Rattle.rule_engine.specs.Joint.{spread, joint, Operands}
 use Rattle.table_memory.specs.Memory.{Remembers, Recalls}
 use Rattle.table_memory.specs.declared.Memo.{Memo}
 use Rattle.table_memory.specs.declared.Memo.the-variants.{Known}
+use Rattle.table_memory.proofs.Building.{mean-said}
 use Rattle.table_memory.proofs.Remembering as M
-use Rattle.rule_engine.specs.Memory.{Recalled, Keyed, Right, Noted, Still, StillIf}
-use Rattle.promises.specs.Words.{size, sizes}
+use Rattle.rule_engine.specs.Memory.{Recalled, Keyed, Right}
+use Rattle.promises.specs.Words.{sizes}
 use Rattle.promises.specs.RuleWords.{decode, ruleNodes as nodes}
 
 -- ---- the joint rule
@@ -54,14 +49,12 @@ recalled-like w o f n k l r x e c = record {
   says = λ s v. c .says s v ∙ joint-like w o f n k l r e s;
 }
 
-recalled-more : (w t : List ℕ) (o f n k : ℕ) (l : List ℕ) (x : ℕ) → Holds w → sizes t ≡ sizes w → Ext (nodes w) (nodes t) → Recalled w o f n k l x → Recalled t o f n k l x
-recalled-more w t o f n k l x ok z e c = record {
-  each = λ j h. ok-ext (nodes w) (nodes t) k (decode (listed l j)) e (c .each j h);
-  good = ok-ext (nodes w) (nodes t) k (decode x) e (c .good);
-  says = λ s v.
-      value-ext (sizes w) (nodes w) (nodes t) k (decode x) s (ok .wf) e (c .good) ∙ c .says s (subst (λ (S : List ℕ). Valid (drop k S) s) z v)
-      ∙ sym (joint-more w t o f n k l ok e (c .each) s);
-}
+-- in a table that holds more, where its branch means the joint rule of the table before
+module _ (w t : List ℕ) (o f n k : ℕ) (l : List ℕ) (x : ℕ) (ok : Holds w) (z : sizes t ≡ sizes w) (e : Ext (nodes w) (nodes t)) (each : (j : ℕ) → j < n → Good w k (listed l j)) where
+  grown : Mean (nodes t) k (drop k (sizes w)) (decode x) (joint w o f n k l) → Recalled t o f n k l x
+  grown m =
+      let y = mean-said z (joint-more w t o f n k l ok e each) m in
+      record { each = λ j h. ok-ext (nodes w) (nodes t) k (decode (listed l j)) e (each j h); good = y .ok; says = y .says }
 
 -- it is what `build` gives
 recalled-result : (w : List ℕ) (o f n k : ℕ) (l : List ℕ) (x : ℕ) → Holds w → Recalled w o f n k l x → Result w w k (joint w o f n k l) (Is x)
@@ -70,14 +63,8 @@ recalled-result w o f n k l x ok c = mean-result w k (joint w o f n k l) x ok (r
 -- what `build` gave may be remembered
 pub result-recalled : (w t : List ℕ) (o f n k x : ℕ) (l : List ℕ) → Operands w f n k l → Result w t k (joint w o f n k l) (Is x) → Recalled t o f n k l x
 result-recalled w t o f n k x l p r =
-    let z : sizes t ≡ sizes w = kept-sizes w t (r .grown .kept) (p .holds .laid .laid .few) in
-    let e : Ext (nodes w) (nodes t) = result-ext w t k (joint w o f n k l) (Is x) (p .holds) r in
-    let y = result-mean w t k (joint w o f n k l) x (p .holds) r in
-    record {
-      each = λ j h. ok-ext (nodes w) (nodes t) k (decode (listed l j)) e (p .each j h);
-      good = y .ok;
-      says = λ s v. y .says s (subst (λ (S : List ℕ). Valid (drop k S) s) z v) ∙ sym (joint-more w t o f n k l (p .holds) e (p .each) s);
-    }
+    grown w t o f n k l x (p .holds) (kept-sizes w t (r .grown .kept) (p .holds .laid .laid .few)) (result-ext w t k (joint w o f n k l) (Is x) (p .holds) r) (p .each)
+    (result-mean w t k (joint w o f n k l) x (p .holds) r)
 
 -- ---- the memory
 -- the part of the longest key that is lent
@@ -103,18 +90,8 @@ module _ (w : List ℕ) (o f n k : ℕ) (l key : List ℕ) (q : Keyed n k l key)
       let a : Right o f n w key x y = M.hit key (q .long) s x y r m c e (omega (arith, q .feature)) in
       recalled-result w o f n k l x (p .holds) (recalled-like w o f n k (drop 1 key) l x (λ j h. getD-drop 1 key j 0 ∙ q .operand j h) (a .at k (q .feature)))
 
--- after `make`
-pub right-made : (w t : List ℕ) (k : ℕ) (l : List ℕ) (a : Answer) (x : ℕ) (o f n : ℕ) → Holds w → Makes w t k l a → a ≡ Is x → (key : List ℕ) (y z : ℕ) → Right o f n w key y z → Right o f n t key y z
-right-made w t k l a x o f n ok m e key y z c =
-    let g = gives-is e m in
-    record {
-      at = λ i h. recalled-more w t o f n i (drop 1 key) y ok (kept-sizes w t (g .grown .kept) (ok .laid .laid .few))
-          (rw (grown-nodes lawful w t _ (g .grown) (g .answers .1)) (make-grows k (branches (size w k) (listed l)) (nodes w))) (c .at i h);
-    }
-
--- ---- what the calls leave
-pub still : (w : List ℕ) (o f n : ℕ) (s : List ℕ) (a : Answer) (x : ℕ) → a ≡ Is x → Still w o f n s a → Noted w o f n s
-still w o f n s a x e h = subst (λ (y : Answer). Still w o f n s y) e h
-
-pub still-if : (w : List ℕ) (o f n : ℕ) (s : List ℕ) (b : Bool) → b ≡ true → StillIf w o f n s b → Noted w o f n s
-still-if w o f n s b e h = subst (λ (y : Bool). StillIf w o f n s y) e h
+-- what an entry says stays right while nodes are added
+pub right-more : (o f n : ℕ) (w t : List ℕ) → Holds w → sizes t ≡ sizes w → Ext (nodes w) (nodes t) → (key : List ℕ) (x y : ℕ) → Right o f n w key x y → Right o f n t key x y
+right-more o f n w t ok z e key x y c = record {
+  at = λ k h. let r = c .at k h in grown w t o f n k (drop 1 key) x ok z e (r .each) (mean-more (sizes w) (ok .wf) e (record { ok = r .good; says = r .says }));
+}

@@ -1,15 +1,17 @@
 -- `both_choose::rest_result`, `fill_branches` and `branch_result` meet their contracts: the remaining features fall; the first v branches are filled, and the memory is right for
 -- the table so far. Assumes nothing.
-use Rattle.both_choose.proofs.Recalling.{hit, noted-made, noted-stored, still, still-there, still-if}
+use Rattle.both_choose.proofs.Recalling.{hit, says-more, result-says, still-there}
+use Rattle.theory.proofs.Growing.{make-grows}
+use Rattle.cost_words.specs.Table.{costTable}
+use Rattle.table_memory.proofs.Building.{noted-result}
+use Rattle.table_notes.proofs.Alike.{grown-roomy}
 use Rattle.both_choose.proofs.Walking.{skip-most, choices-skip, choice-skip, first-place, second-place, choice-ends, still-left, choice-near, rule-step, choice-held}
 use Rattle.both_choose.proofs.Walking.{choices-step, choices-ext, more-fits, more-is, targets, sum-fits, choice-raised, choice-stopped}
-use Rattle.both_choose.specs.Memory.{Noted}
+use Rattle.both_choose.specs.Memory.{Noted, Still, StillIf}
 use Rattle.both_choose.specs.Choice.{choice}
-use Rattle.cost_nodes.proofs.Reading.{holds-passed}
-use Rattle.cost_nodes.proofs.Filling.{gives-is, gives-none, fill-start, fill-more, fill-stop, stop-result, fill-armed, fill-near, fill-sums, filling-narrow, fill-make, filled, not-filled, filling-ext}
+use Rattle.cost_nodes.proofs.Filling.{gives-is, gives-none, fill-start, fill-more, fill-stop, stop-result, fill-armed, fill-make, filled, not-filled, filling-ext}
 use Rattle.cost_nodes.proofs.Stepping.{good-small}
-use Rattle.cost_nodes.specs.Nodes.{Filling, Result}
-use Rattle.cost_nodes.specs.declared.Answer.the-variants.{Is}
+use Rattle.cost_nodes.specs.Nodes.{Filling}
 use Rattle.cost_notes.proofs.Reading.{plain-head}
 use Rattle.table_notes.specs.Far.{memory}
 use Rattle.table_notes.specs.Plain.{plain}
@@ -18,13 +20,10 @@ use Rattle.rule_lending.proofs.Lending.{key-small}
 use Rattle.rule_lending.specs.Lending.{lent}
 use Rattle.settings.proofs.Answers.{sure, sure-not}
 use Rattle.table_words.proofs.Words.{kept-features, kept-size}
-use Rattle.theory.specs.Costs.{Cost}
 use lib.ListN.{length, getD-replicate}
 use native.Mathlib.Omega.{arith}
 use Prim.Native.Nat.{ℕ, _+_, _-_, _*_, _≤_, _<_}
 use mathlib.Core.Path.{_≡_, refl, sym, subst, _∙_}
-use mathlib.Core.List.{List}
-use native.Mathlib.Nat.{le-refl}
 use borrow.Author.Needs.{needs}
 use borrow.Fn.Kinds.{In}
 use borrow.Fn.PlainCycle.{Measures, is, falls, and}
@@ -67,36 +66,22 @@ abbrev μ-rest-result : Measures 3 rest-result-kinds.ps ℕ
 μ-rest-result κs a = 3 * (features (plain (a .1 .0 .now)) - a .1 .1 .1 .0)
 
 abbrev branch-result-at : ℕ → In 3 branch-result-kinds.ps
-branch-result-at t =
-    and 3 branch-result-kinds.ps (is 3 branch-result-kinds.ps μ-branch-result t) branch-result.Pre
+branch-result-at t = and 3 branch-result-kinds.ps (is 3 branch-result-kinds.ps μ-branch-result t) branch-result.Pre
 
 abbrev branch-result-below : ℕ → In 3 branch-result-kinds.ps
-branch-result-below t =
-    and
-    3
-    branch-result-kinds.ps
-    (falls 3 branch-result-kinds.ps _<_ μ-branch-result t)
-    branch-result.Pre
+branch-result-below t = and 3 branch-result-kinds.ps (falls 3 branch-result-kinds.ps _<_ μ-branch-result t) branch-result.Pre
 
 abbrev fill-branches-at : ℕ → In 3 fill-branches-kinds.ps
-fill-branches-at t =
-    and 3 fill-branches-kinds.ps (is 3 fill-branches-kinds.ps μ-fill-branches t) fill-branches.Pre
+fill-branches-at t = and 3 fill-branches-kinds.ps (is 3 fill-branches-kinds.ps μ-fill-branches t) fill-branches.Pre
 
 abbrev fill-branches-below : ℕ → In 3 fill-branches-kinds.ps
-fill-branches-below t =
-    and
-    3
-    fill-branches-kinds.ps
-    (falls 3 fill-branches-kinds.ps _<_ μ-fill-branches t)
-    fill-branches.Pre
+fill-branches-below t = and 3 fill-branches-kinds.ps (falls 3 fill-branches-kinds.ps _<_ μ-fill-branches t) fill-branches.Pre
 
 abbrev rest-result-at : ℕ → In 3 rest-result-kinds.ps
-rest-result-at t =
-    and 3 rest-result-kinds.ps (is 3 rest-result-kinds.ps μ-rest-result t) rest-result.Pre
+rest-result-at t = and 3 rest-result-kinds.ps (is 3 rest-result-kinds.ps μ-rest-result t) rest-result.Pre
 
 abbrev rest-result-below : ℕ → In 3 rest-result-kinds.ps
-rest-result-below t =
-    and 3 rest-result-kinds.ps (falls 3 rest-result-kinds.ps _<_ μ-rest-result t) rest-result.Pre
+rest-result-below t = and 3 rest-result-kinds.ps (falls 3 rest-result-kinds.ps _<_ μ-rest-result t) rest-result.Pre
 
 abbrev branch-result-claims : ℕ → branch-result-lts.Claims
 branch-result-claims t = (sum-word-reads.Asked, sum-word-reads.Learnt, difference-word-reads.Asked, difference-word-reads.Learnt, rest-result-below t, rest-result.Post)
@@ -182,7 +167,7 @@ branch-result-returns-2 t c =
     let p = c16 .pre .1 .0 in (
       choice-raised _ _ _ _ _ _ _ _ _ p _ _ (more-is _ _ _ _ _ _ _ _ _ p _ (c11 .difference-word .result) (c12 .sum-word .ensures) (c11 .difference-word .ensures)) _
           (c8 .rest-result .ensures .0) _ _ _ (c .before .before .z .given .1) (c .sum-word2 .ensures),
-      still _ _ _ _ _ _ (c .before .before .z .given .1) (c8 .rest-result .ensures .1),
+      subst (Still _ _ _) (c .before .before .z .given .1) (c8 .rest-result .ensures .1),
     )
 
 abbrev fill-branches-Inv-loop : fill-branches-lts.InvT-loop
@@ -295,7 +280,7 @@ fill-branches-loop-again t c = let a =
           (c .before .before .before .before .before .before .before .before .before .before .before .before .arm-in .ensures)
           (c .before .before .before .before .before .before .before .before .before .before .arm-in2 .ensures))
           (c .before .before .before .before .before .before .before .branch-result .ensures .0) (c .before .z .given .1),
-      still _ _ _ _ _ _ (c .before .z .given .1) (c .before .before .before .before .before .before .before .branch-result .ensures .1),
+      subst (Still _ _ _) (c .before .z .given .1) (c .before .before .before .before .before .before .before .branch-result .ensures .1),
       search needs,
       search needs,
     )
@@ -364,16 +349,12 @@ rest-result-make-in-requires t c κs =
     let c20 = c8 .before .before .before .before .before .before .before .before .before .before .before .before in let c21 = c20 .before in
     let a = c21 .before .before .before .before in
     let p = a .pre .1 .0 in
-    let g : Cost = choice (lent (a .args .r .now) (a .args .k) (a .args .b)) (nodes (plain (a .args .t .now))) (a .args .k) (target (a .args .x)) (target (a .args .y)) (int (a .args .d)) in
     let hk = still-left _ _ _ _ _ _ _ p (sure-not (c20 .if1 .left) (c21 .is-number .ensures)) in
-    let fl = filled _ _ _ g _ _ _ (c .before .before .before .if3 .taken) (c8 .fill-branches .ensures .0) in
-    let nr = filling-narrow (plain (a .args .t .now)) (a .args .k) g (p .holds) hk _ _ _ _ fl (le-refl _) (choice-near _ _ _ _ _ _ _ p) (p .narrow) in
-    let paired = holds-passed _ (fl .filled .grown .well) nr in (
-      still-if _ _ _ _ (c .before .before .before .if3 .taken) (c8 .fill-branches .ensures .1) .room,
+    let fl = filled _ _ _ _ _ _ _ (c .before .before .before .if3 .taken) (c8 .fill-branches .ensures .0) in (
+      subst (StillIf _ _ _) (c .before .before .before .if3 .taken) (c8 .fill-branches .ensures .1) .room,
       fl .filled .grown .well,
       omega (arith, kept-features _ _ (fl .filled .grown .kept)),
-      fill-armed (plain (a .args .t .now)) (a .args .k) g (p .holds) hk _ _ _ fl (fill-near (plain (a .args .t .now)) (a .args .k) g (p .holds) hk _ _ _ fl (choice-near _ _ _ _ _ _ _ p))
-          (λ up. fill-sums (plain (a .args .t .now)) (a .args .k) g (p .holds) hk _ _ _ fl (choice-near _ _ _ _ _ _ _ p) up (paired up)) paired,
+      fill-armed _ _ _ (p .holds) hk _ _ _ fl (choice-near _ _ _ _ _ _ _ p) (p .narrow),
     )
 
 rest-result-returns-4 : (t : ℕ) → rest-result-lts.Need-returns-4 (rest-result-claims t) (rest-result-at t) rest-result.Post
@@ -382,26 +363,16 @@ rest-result-returns-4 t c =
     let c25 = c13 .before .before .before .before .before .before .before .before .before .before .before .before in let c26 = c25 .before in
     let a = c26 .before .before .before .before in
     let p = a .pre .1 .0 in
-    let g : Cost = choice (lent (a .args .r .now) (a .args .k) (a .args .b)) (nodes (plain (a .args .t .now))) (a .args .k) (target (a .args .x)) (target (a .args .y)) (int (a .args .d)) in
     let hk = still-left _ _ _ _ _ _ _ p (sure-not (c25 .if1 .left) (c26 .is-number .ensures)) in
-    let fl = filled _ _ _ g _ _ _ (c8 .if3 .taken) (c13 .fill-branches .ensures .0) in (
-      gives-none (c .enum-told2 .given .1) (fill-make (plain (a .args .t .now)) (a .args .k) g (p .holds) hk _ _ _ _ (c .before .before .before .before .make-in .result) fl
-          (c .before .before .before .before .make-in .ensures .0)),
-      tt,
-    )
+    let fl = filled _ _ _ _ _ _ _ (c8 .if3 .taken) (c13 .fill-branches .ensures .0) in
+    let m = c .before .before .before .before .make-in in
+    (gives-none (c .enum-told2 .given .1) (fill-make _ _ _ (p .holds) hk _ _ _ _ (m .result) fl (m .ensures .0)), tt)
 
 rest-result-remember-in-requires : (t : ℕ) → rest-result-lts.Need-remember-in-requires (rest-result-claims t) (rest-result-at t) rest-result.Post
 rest-result-remember-in-requires t c κs =
     let c7 = c .before .before .before .before .before .before .before in let c11 = c7 .before .before .before .before in
     let c16 = c11 .before .before .before .before .before in let c24 = c16 .before .before .before .before .before .before .before .before in
-    let a = c24 .before .before .before .before .before .before .before .before .before in
-    let g : Cost = choice (lent (a .args .r .now) (a .args .k) (a .args .b)) (nodes (plain (a .args .t .now))) (a .args .k) (target (a .args .x)) (target (a .args .y)) (int (a .args .d)) in
-    let f = c16 .fill-branches in
-    let fl = filled _ _ _ g _ _ _ (c11 .if3 .taken) (f .ensures .0) in (
-      noted-made _ _ _ _ (f .result .goes) (f .result .adds) _ _ _ _ (fl .filled .grown .well) (c7 .make-in .ensures) (c .before .before .before .z .given .1)
-          (still-if _ _ _ _ (c11 .if3 .taken) (f .ensures .1)) .room,
-      omega (arith, c24 .tag-of .ensures),
-    )
+    (grown-roomy _ _ (c7 .make-in .ensures .0 .grown .kept) (subst (StillIf _ _ _) (c11 .if3 .taken) (c16 .fill-branches .ensures .1) .room), omega (arith, c24 .tag-of .ensures))
 
 rest-result-returns-5 : (t : ℕ) → rest-result-lts.Need-returns-5 (rest-result-claims t) (rest-result-at t) rest-result.Post
 rest-result-returns-5 t c =
@@ -410,17 +381,14 @@ rest-result-returns-5 t c =
     let c29 = c21 .before .before .before .before .before .before .before .before in let c33 = c29 .before .before .before .before in let c34 = c33 .before in
     let a = c34 .before .before .before .before in
     let p = a .pre .1 .0 in
-    let g : Cost = choice (lent (a .args .r .now) (a .args .k) (a .args .b)) (nodes (plain (a .args .t .now))) (a .args .k) (target (a .args .x)) (target (a .args .y)) (int (a .args .d)) in
     let hk = still-left _ _ _ _ _ _ _ p (sure-not (c33 .if1 .left) (c34 .is-number .ensures)) in
-    let fl = filled _ _ _ g _ _ _ (c16 .if3 .taken) (c21 .fill-branches .ensures .0) in
-    let q = c8 .z .given .1 in
-    let f = c21 .fill-branches in
+    let fl = filled _ _ _ _ _ _ _ (c16 .if3 .taken) (c21 .fill-branches .ensures .0) in
     let m = c12 .make-in in
-    let re = gives-is q (fill-make (plain (a .args .t .now)) (a .args .k) g (p .holds) hk _ _ _ _ (m .result) fl (m .ensures .0)) in
-    let nm = noted-made _ _ _ (a .args .k) (f .result .goes) (f .result .adds) _ _ _ _ (fl .filled .grown .well) (m .ensures) q (still-if _ _ _ _ (c16 .if3 .taken) (f .ensures .1)) in (
-      subst (λ (w : List ℕ). Result (plain (a .args .t .now)) w (a .args .k) g (Is (c8 .z .given .0 .0) (c8 .z .given .0 .1 .0))) (sym (c .before .before .before .before .remember-in .ensures .0)) re,
-      noted-stored _ (a .args .t .now) _ _ _ _ (a .args .k) (a .args .b) _ _ _ p (omega (arith, p .holds .laid .laid .few)) (c29 .tag-of .ensures) refl nm
-          (c .before .before .before .before .remember-in .ensures) re,
+    let re = gives-is (c8 .z .given .1) (fill-make _ _ _ (p .holds) hk _ _ _ _ (m .result) fl (m .ensures .0)) in (
+      rw (c .before .before .before .before .remember-in .ensures .0) re,
+      noted-result costTable (says-more (a .args .r .now)) (fl .filled .grown .well) (m .ensures .0 .grown) (make-grows _ _ _) (m .ensures .1)
+          (subst (StillIf _ _ _) (c16 .if3 .taken) (c21 .fill-branches .ensures .1)) refl (c .before .before .before .before .remember-in .ensures)
+          (result-says _ _ _ (a .args .k) (a .args .b) _ _ _ p (omega (arith, p .holds .laid .laid .few)) (c29 .tag-of .ensures) re),
     )
 
 rest-result-returns-6 : (t : ℕ) → rest-result-lts.Need-returns-6 (rest-result-claims t) (rest-result-at t) rest-result.Post
@@ -428,9 +396,8 @@ rest-result-returns-6 t c =
     let c17 = c .before .before .before .before .before .before .before .before .before .before .before .before .before .before .before .before .before in
     let c18 = c17 .before in let a = c18 .before .before .before .before in
     let p = a .pre .1 .0 in
-    let g : Cost = choice (lent (a .args .r .now) (a .args .k) (a .args .b)) (nodes (plain (a .args .t .now))) (a .args .k) (target (a .args .x)) (target (a .args .y)) (int (a .args .d)) in
     let hk = still-left _ _ _ _ _ _ _ p (sure-not (c17 .if1 .left) (c18 .is-number .ensures)) in
-    (stop-result (plain (a .args .t .now)) (a .args .k) g (p .holds) hk _ (not-filled _ _ _ g _ _ _ (c .if3 .left) (c .before .before .before .before .before .fill-branches .ensures .0)), tt)
+    (stop-result _ _ _ (p .holds) hk _ (not-filled _ _ _ _ _ _ _ (c .if3 .left) (c .before .before .before .before .before .fill-branches .ensures .0)), tt)
 
 pub +branch-result+fill-branches+rest-result-spec : {M : Type 1} → statement M
 +branch-result+fill-branches+rest-result-spec =

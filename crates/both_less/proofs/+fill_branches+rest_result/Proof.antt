@@ -1,5 +1,5 @@
 -- `both_less::rest_result` and `fill_branches` meet their contracts: the remaining features fall; the first v branches are filled, and the memory is right for the rule table so far. Assumes nothing.
-use mathlib.Core.Path.{_≡_, refl, _∙_}
+use mathlib.Core.Path.{_≡_, refl, subst, _∙_}
 use Prim.Native.Nat.{ℕ, _-_, _*_, _≤_, _<_}
 use native.Mathlib.Omega.{arith}
 use lib.IntN.{pos}
@@ -12,10 +12,10 @@ use Rattle.rule_lending.specs.Building.{Filling}
 use Rattle.rule_lending.proofs.Building.{result-is, result-none, filling-ready, filling-long, fill-start, fill-more, fill-stop, stop-result, fill-listed, fill-make, filled, not-filled}
 use Rattle.both_less.specs.Less.{lessFrom}
 use Rattle.table_calls.proofs.Lists.{as-long, as-large}
-use Rattle.both_less.specs.Memory.{Recalled}
+use Rattle.both_less.specs.Memory.{Recalled, Still, StillIf}
 use Rattle.both_less.proofs.Walking.{beside-grown, first-place, second-place, bit-small, onward-word, still-left, less-equal, skip-left, operands-skip, less-skip, sum-fits}
 use Rattle.both_less.proofs.Walking.{onward-fits, operands-step, less-held}
-use Rattle.both_less.proofs.Recalling.{hit, remembers-made, remembers-result, still, still-if}
+use Rattle.both_less.proofs.Recalling.{hit, remembers-made, remembers-result}
 use borrow.Author.Needs.{needs}
 use borrow.Fn.Kinds.{In}
 use borrow.Fn.PlainCycle.{Measures, is, falls, and}
@@ -49,24 +49,16 @@ abbrev μ-rest-result : Measures 3 rest-result-kinds.ps ℕ
 μ-rest-result κs a = 2 * (features (a .0 .now) - a .1 .1 .1 .0)
 
 abbrev fill-branches-at : ℕ → In 3 fill-branches-kinds.ps
-fill-branches-at t =
-    and 3 fill-branches-kinds.ps (is 3 fill-branches-kinds.ps μ-fill-branches t) fill-branches.Pre
+fill-branches-at t = and 3 fill-branches-kinds.ps (is 3 fill-branches-kinds.ps μ-fill-branches t) fill-branches.Pre
 
 abbrev fill-branches-below : ℕ → In 3 fill-branches-kinds.ps
-fill-branches-below t =
-    and
-    3
-    fill-branches-kinds.ps
-    (falls 3 fill-branches-kinds.ps _<_ μ-fill-branches t)
-    fill-branches.Pre
+fill-branches-below t = and 3 fill-branches-kinds.ps (falls 3 fill-branches-kinds.ps _<_ μ-fill-branches t) fill-branches.Pre
 
 abbrev rest-result-at : ℕ → In 3 rest-result-kinds.ps
-rest-result-at t =
-    and 3 rest-result-kinds.ps (is 3 rest-result-kinds.ps μ-rest-result t) rest-result.Pre
+rest-result-at t = and 3 rest-result-kinds.ps (is 3 rest-result-kinds.ps μ-rest-result t) rest-result.Pre
 
 abbrev rest-result-below : ℕ → In 3 rest-result-kinds.ps
-rest-result-below t =
-    and 3 rest-result-kinds.ps (falls 3 rest-result-kinds.ps _<_ μ-rest-result t) rest-result.Pre
+rest-result-below t = and 3 rest-result-kinds.ps (falls 3 rest-result-kinds.ps _<_ μ-rest-result t) rest-result.Pre
 
 abbrev fill-branches-Inv-loop : fill-branches-lts.InvT-loop
 fill-branches-Inv-loop c t₀ s₀ k x y d m list₀ v₀ t s list v = (m ≡ size t₀ k) × (m ≡ size c k) × (v ≤ m) × Filling t₀ t k (lessFrom c k x y d) v list × Remembers 4
@@ -212,7 +204,7 @@ fill-branches-loop-again t c = let a =
           (c .before .before .before .before .before .before .before .before .before .before .before .before .before .arm-at .ensures)
           (c .before .before .before .before .before .before .before .before .before .before .before .before .arm-at2 .ensures) _ g)
           (c .before .before .before .before .before .before .before .rest-result .ensures .0) (c .before .z .given .1),
-      still _ _ _ _ _ (c .before .z .given .1) (c .before .before .before .before .before .before .before .rest-result .ensures .1),
+      subst (Still _ _ _) (c .before .z .given .1) (c .before .before .before .before .before .before .before .rest-result .ensures .1),
       search needs,
       search needs,
     )
@@ -307,7 +299,7 @@ rest-result-returns-5 t c =
     let fl = filled (c18 .fill-branches .result .list) (c13 .if4 .taken) (c18 .fill-branches .ensures .0) in
     let q = c6 .z .given .1 in
     let re = result-is q (fill-make (a .pre .1 .1 .ready) (omega arith) (c10 .make .result) fl (c10 .make .ensures)) in
-    let so = still-if _ _ _ _ (c13 .if4 .taken) (c18 .fill-branches .ensures .1) in (
+    let so = subst (StillIf _ _ _) (c13 .if4 .taken) (c18 .fill-branches .ensures .1) in (
       re,
       remembers-result _ _ (a .args .k) _ (c26 .narrow .ensures) refl _ _ _ _ (a .pre .1 .1 .ready) re
           (remembers-made _ _ _ (a .args .k) (c18 .fill-branches .result .list) (c10 .make .result) (c6 .z .given .0 .0) _ (filling-ready fl) (c10 .make .ensures) q so)

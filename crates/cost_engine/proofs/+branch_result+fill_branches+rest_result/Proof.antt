@@ -1,28 +1,27 @@
 -- `cost_engine::rest_result`, `fill_branches` and `branch_result` meet their contracts: the remaining features fall; the first v branches are filled, and the memory is right for
 -- the table so far. Assumes nothing.
 use mathlib.Core.Path.{_≡_, refl, sym, subst, _∙_}
-use mathlib.Core.List.{List}
 use Prim.Native.Nat.{ℕ, _+_, _-_, _*_, _≤_, _<_}
 use native.Mathlib.Omega.{arith}
 use lib.IntN.{ℤ}
 use lib.ListN.{length, getD-replicate}
-use Rattle.theory.specs.Costs.{Cost}
 use Rattle.table_words.proofs.Words.{kept-features, kept-size}
 use Rattle.table_notes.specs.Plain.{plain}
 use Rattle.table_notes.proofs.Plain.{length-plain}
-use Rattle.cost_nodes.specs.Nodes.{Filling, Result}
-use Rattle.cost_nodes.specs.declared.Answer.the-variants.{Is}
-use Rattle.cost_nodes.proofs.Reading.{holds-passed}
-use Rattle.cost_nodes.proofs.Filling.{gives-is, gives-none, fill-start, fill-more, fill-stop, stop-result, fill-armed, fill-near, fill-sums, filling-narrow, fill-make, filled, not-filled, filling-ext}
+use Rattle.cost_nodes.specs.Nodes.{Filling}
+use Rattle.cost_nodes.proofs.Filling.{gives-is, gives-none, fill-start, fill-more, fill-stop, stop-result, fill-armed, fill-make, filled, not-filled, filling-ext}
 use Rattle.cost_nodes.proofs.Stepping.{good-small}
-use Rattle.table_memory.proofs.Remembering.{noted-hit, noted-stored}
+use Rattle.theory.proofs.Growing.{make-grows}
+use Rattle.cost_words.specs.Table.{costTable}
+use Rattle.table_memory.proofs.Building.{noted-result}
+use Rattle.table_memory.proofs.Remembering.{noted-hit}
+use Rattle.table_notes.proofs.Alike.{grown-roomy}
 use Rattle.cost_notes.proofs.Reading.{plain-head}
 use Rattle.cost_engine.specs.Joint.{jointFrom, Operands}
-use Rattle.cost_engine.specs.Memory.{Noted}
-use Rattle.cost_engine.proofs.Recalling.{recalled-result, result-recalled, right-here, noted-made, still, still-if}
+use Rattle.cost_engine.specs.Memory.{Noted, Still, StillIf}
+use Rattle.cost_engine.proofs.Recalling.{recalled-result, result-recalled, right-here, right-more}
 use Rattle.cost_engine.proofs.Walking.{first-place, second-place, operands-more, operands-end, at-gap, still-left, skip-left, operands-skip, joint-skip, operands-step}
 use Rattle.cost_engine.proofs.Walking.{joint-held, operands-ext, joint-ends, sum-fits, joint-raised, joint-stopped}
-use native.Mathlib.Nat.{le-refl}
 use borrow.Author.Needs.{needs}
 use borrow.Fn.Kinds.{In}
 use borrow.Fn.PlainCycle.{Measures, is, falls, and}
@@ -64,36 +63,22 @@ abbrev μ-rest-result : Measures 2 rest-result-kinds.ps ℕ
 μ-rest-result κs a = 3 * (features (plain (a .0 .now)) - a .1 .1 .1 .0)
 
 abbrev branch-result-at : ℕ → In 2 branch-result-kinds.ps
-branch-result-at t =
-    and 2 branch-result-kinds.ps (is 2 branch-result-kinds.ps μ-branch-result t) branch-result.Pre
+branch-result-at t = and 2 branch-result-kinds.ps (is 2 branch-result-kinds.ps μ-branch-result t) branch-result.Pre
 
 abbrev branch-result-below : ℕ → In 2 branch-result-kinds.ps
-branch-result-below t =
-    and
-    2
-    branch-result-kinds.ps
-    (falls 2 branch-result-kinds.ps _<_ μ-branch-result t)
-    branch-result.Pre
+branch-result-below t = and 2 branch-result-kinds.ps (falls 2 branch-result-kinds.ps _<_ μ-branch-result t) branch-result.Pre
 
 abbrev fill-branches-at : ℕ → In 2 fill-branches-kinds.ps
-fill-branches-at t =
-    and 2 fill-branches-kinds.ps (is 2 fill-branches-kinds.ps μ-fill-branches t) fill-branches.Pre
+fill-branches-at t = and 2 fill-branches-kinds.ps (is 2 fill-branches-kinds.ps μ-fill-branches t) fill-branches.Pre
 
 abbrev fill-branches-below : ℕ → In 2 fill-branches-kinds.ps
-fill-branches-below t =
-    and
-    2
-    fill-branches-kinds.ps
-    (falls 2 fill-branches-kinds.ps _<_ μ-fill-branches t)
-    fill-branches.Pre
+fill-branches-below t = and 2 fill-branches-kinds.ps (falls 2 fill-branches-kinds.ps _<_ μ-fill-branches t) fill-branches.Pre
 
 abbrev rest-result-at : ℕ → In 2 rest-result-kinds.ps
-rest-result-at t =
-    and 2 rest-result-kinds.ps (is 2 rest-result-kinds.ps μ-rest-result t) rest-result.Pre
+rest-result-at t = and 2 rest-result-kinds.ps (is 2 rest-result-kinds.ps μ-rest-result t) rest-result.Pre
 
 abbrev rest-result-below : ℕ → In 2 rest-result-kinds.ps
-rest-result-below t =
-    and 2 rest-result-kinds.ps (falls 2 rest-result-kinds.ps _<_ μ-rest-result t) rest-result.Pre
+rest-result-below t = and 2 rest-result-kinds.ps (falls 2 rest-result-kinds.ps _<_ μ-rest-result t) rest-result.Pre
 
 abbrev branch-result-claims : ℕ → branch-result-lts.Claims
 branch-result-claims t = (
@@ -167,7 +152,7 @@ branch-result-returns-2 t c =
     let r = at-gap (plain (a .args .t .now)) _ _ _ _ _ _ _ (c9 .rest-result .result) (c12 .gap-word .ensures) (c9 .rest-result .ensures .0) in (
       joint-raised (plain (a .args .t .now)) _ _ _ _ _ _ _ (a .pre .1 .0) _ (c .before .ahead-word .result) _ _ _ (c .before .ahead-word .ensures) (c .sum-word .ensures)
           (gives-is (c .before .before .before .z .given .1) r),
-      still _ _ _ _ _ _ (c .before .before .before .z .given .1) (c9 .rest-result .ensures .1),
+      subst (Still _ _ _) (c .before .before .before .z .given .1) (c9 .rest-result .ensures .1),
     )
 
 abbrev fill-branches-Inv-loop : fill-branches-lts.InvT-loop
@@ -265,7 +250,7 @@ fill-branches-loop-again t c =
           (joint-held (plain (a .args .t .now)) _ (a .args .k) _ _ _ (a .pre .1 .0) (plain (l .t)) (l .v) _ _ _ _
           (filling-ext (plain (a .args .t .now)) (a .args .k) _ (a .pre .1 .0 .holds) (a .pre .1 .2) (plain (l .t)) (l .v) (l .goes) (l .adds) fl) (c12 .arm-in .ensures) (c10 .arm-in2 .ensures))
           (c7 .branch-result .ensures .0) (c .before .z .given .1),
-      still _ _ _ _ _ _ (c .before .z .given .1) (c7 .branch-result .ensures .1),
+      subst (Still _ _ _) (c .before .z .given .1) (c7 .branch-result .ensures .1),
       search needs,
       search needs,
     )
@@ -335,40 +320,28 @@ rest-result-make-in-requires : (t : ℕ) → rest-result-lts.Need-make-in-requir
 rest-result-make-in-requires t c κs =
     let c8 = c .before .before .before .before .before .before .before .before in
     let c21 = c8 .before .before .before .before .before .before .before .before .before .before .before .before .before in let a = c21 .before .before .before in
-    let g : Cost = jointFrom (a .args .o) (nodes (plain (a .args .t .now))) (a .args .k) (target (a .args .x)) (target (a .args .y)) (int (a .args .d)) in
     let hk = still-left _ _ _ _ _ _ (a .pre .1 .0) (c21 .if1 .left) in
-    let fl = filled _ _ _ g _ _ _ (c .before .before .before .if3 .taken) (c8 .fill-branches .ensures .0) in
-    let nr = filling-narrow (plain (a .args .t .now)) (a .args .k) g (a .pre .1 .0 .holds) hk _ _ _ _ fl (le-refl _) (a .pre .1 .0 .bounded .spread) (a .pre .1 .0 .narrow) in
-    let paired = holds-passed _ (fl .filled .grown .well) nr in (
-      still-if _ _ _ _ (c .before .before .before .if3 .taken) (c8 .fill-branches .ensures .1) .room,
+    let fl = filled _ _ _ _ _ _ _ (c .before .before .before .if3 .taken) (c8 .fill-branches .ensures .0) in (
+      subst (StillIf _ _ _) (c .before .before .before .if3 .taken) (c8 .fill-branches .ensures .1) .room,
       fl .filled .grown .well,
       omega (arith, kept-features _ _ (fl .filled .grown .kept)),
-      fill-armed (plain (a .args .t .now)) (a .args .k) g (a .pre .1 .0 .holds) hk _ _ _ fl
-          (fill-near (plain (a .args .t .now)) (a .args .k) g (a .pre .1 .0 .holds) hk _ _ _ fl (a .pre .1 .0 .bounded .spread))
-          (λ up. fill-sums (plain (a .args .t .now)) (a .args .k) g (a .pre .1 .0 .holds) hk _ _ _ fl (a .pre .1 .0 .bounded .spread) up (paired up)) paired,
+      fill-armed _ _ _ (a .pre .1 .0 .holds) hk _ _ _ fl (a .pre .1 .0 .bounded .spread) (a .pre .1 .0 .narrow),
     )
 
 rest-result-returns-4 : (t : ℕ) → rest-result-lts.Need-returns-4 (rest-result-claims t) (rest-result-at t) rest-result.Post
 rest-result-returns-4 t c =
     let c8 = c .before .before .before .before .before .before .before .before in let c13 = c8 .before .before .before .before .before in
     let c26 = c13 .before .before .before .before .before .before .before .before .before .before .before .before .before in let a = c26 .before .before .before in
-    let g : Cost = jointFrom (a .args .o) (nodes (plain (a .args .t .now))) (a .args .k) (target (a .args .x)) (target (a .args .y)) (int (a .args .d)) in
     let hk = still-left _ _ _ _ _ _ (a .pre .1 .0) (c26 .if1 .left) in
-    let fl = filled _ _ _ g _ _ _ (c8 .if3 .taken) (c13 .fill-branches .ensures .0) in (
-      gives-none (c .enum-told2 .given .1) (fill-make (plain (a .args .t .now)) (a .args .k) g (a .pre .1 .0 .holds) hk _ _ _ _
-          (c .before .before .before .before .make-in .result) fl (c .before .before .before .before .make-in .ensures .0)),
-      tt,
-    )
+    let fl = filled _ _ _ _ _ _ _ (c8 .if3 .taken) (c13 .fill-branches .ensures .0) in
+    let m = c .before .before .before .before .make-in in
+    (gives-none (c .enum-told2 .given .1) (fill-make _ _ _ (a .pre .1 .0 .holds) hk _ _ _ _ (m .result) fl (m .ensures .0)), tt)
 
 rest-result-remember-in-requires : (t : ℕ) → rest-result-lts.Need-remember-in-requires (rest-result-claims t) (rest-result-at t) rest-result.Post
 rest-result-remember-in-requires t c κs =
     let c7 = c .before .before .before .before .before .before .before in let c11 = c7 .before .before .before .before in
     let c16 = c11 .before .before .before .before .before in let c24 = c16 .before .before .before .before .before .before .before .before in
-    let fl = filled _ _ _ _ _ _ _ (c11 .if3 .taken) (c16 .fill-branches .ensures .0) in (
-      noted-made _ _ _ (c16 .fill-branches .result .goes) (c16 .fill-branches .result .adds) _ _ _ _ _ (fl .filled .grown .well) (c7 .make-in .ensures)
-          (c .before .before .before .z .given .1) (still-if _ _ _ _ (c11 .if3 .taken) (c16 .fill-branches .ensures .1)) .room,
-      omega (arith, c24 .narrow .ensures),
-    )
+    (grown-roomy _ _ (c7 .make-in .ensures .0 .grown .kept) (subst (StillIf _ _ _) (c11 .if3 .taken) (c16 .fill-branches .ensures .1) .room), omega (arith, c24 .narrow .ensures))
 
 rest-result-returns-5 : (t : ℕ) → rest-result-lts.Need-returns-5 (rest-result-claims t) (rest-result-at t) rest-result.Post
 rest-result-returns-5 t c =
@@ -376,15 +349,13 @@ rest-result-returns-5 t c =
     let c16 = c12 .before .before .before .before in let c21 = c16 .before .before .before .before .before in
     let c29 = c21 .before .before .before .before .before .before .before .before in let c34 = c29 .before .before .before .before .before in
     let a = c34 .before .before .before in
-    let g : Cost = jointFrom (a .args .o) (nodes (plain (a .args .t .now))) (a .args .k) (target (a .args .x)) (target (a .args .y)) (int (a .args .d)) in
     let hk = still-left _ _ _ _ _ _ (a .pre .1 .0) (c34 .if1 .left) in
-    let fl = filled _ _ _ g _ _ _ (c16 .if3 .taken) (c21 .fill-branches .ensures .0) in
-    let q = c8 .z .given .1 in
-    let re = gives-is q (fill-make (plain (a .args .t .now)) (a .args .k) g (a .pre .1 .0 .holds) hk _ _ _ _ (c12 .make-in .result) fl (c12 .make-in .ensures .0)) in
-    let nm = noted-made _ _ (a .args .k) (c21 .fill-branches .result .goes) (c21 .fill-branches .result .adds) _ _ _ _ _ (fl .filled .grown .well) (c12 .make-in .ensures) q
-    (still-if _ _ _ _ (c16 .if3 .taken) (c21 .fill-branches .ensures .1)) in (
-      subst (λ (u : List ℕ). Result (plain (a .args .t .now)) u (a .args .k) g (Is (c8 .z .given .0 .0) (c8 .z .given .0 .1 .0))) (sym (c .before .before .before .before .remember-in .ensures .0)) re,
-      noted-stored _ _ _ _ _ _ _ refl nm (c .before .before .before .before .remember-in .ensures)
+    let fl = filled _ _ _ _ _ _ _ (c16 .if3 .taken) (c21 .fill-branches .ensures .0) in
+    let m = c12 .make-in in
+    let re = gives-is (c8 .z .given .1) (fill-make _ _ _ (a .pre .1 .0 .holds) hk _ _ _ _ (m .result) fl (m .ensures .0)) in (
+      rw (c .before .before .before .before .remember-in .ensures .0) re,
+      noted-result costTable (right-more (a .args .o)) (fl .filled .grown .well) (m .ensures .0 .grown) (make-grows _ _ _) (m .ensures .1)
+          (subst (StillIf _ _ _) (c16 .if3 .taken) (c21 .fill-branches .ensures .1)) refl (c .before .before .before .before .remember-in .ensures)
           (right-here _ _ (a .args .k) _ _ _ (c29 .narrow .ensures) (result-recalled _ _ _ (a .args .k) _ _ (a .args .d) _ _ (a .pre .1 .0) re)),
     )
 
@@ -392,12 +363,8 @@ rest-result-returns-6 : (t : ℕ) → rest-result-lts.Need-returns-6 (rest-resul
 rest-result-returns-6 t c =
     let c18 = c .before .before .before .before .before .before .before .before .before .before .before .before .before .before .before .before .before .before in
     let a = c18 .before .before .before in
-    let g : Cost = jointFrom (a .args .o) (nodes (plain (a .args .t .now))) (a .args .k) (target (a .args .x)) (target (a .args .y)) (int (a .args .d)) in
-    let hk = still-left _ _ _ _ _ _ (a .pre .1 .0) (c18 .if1 .left) in (
-      stop-result (plain (a .args .t .now)) (a .args .k) g (a .pre .1 .0 .holds) hk _
-          (not-filled _ _ _ g _ _ _ (c .if3 .left) (c .before .before .before .before .before .fill-branches .ensures .0)),
-      tt,
-    )
+    let hk = still-left _ _ _ _ _ _ (a .pre .1 .0) (c18 .if1 .left) in
+    (stop-result _ _ _ (a .pre .1 .0 .holds) hk _ (not-filled _ _ _ _ _ _ _ (c .if3 .left) (c .before .before .before .before .before .fill-branches .ensures .0)), tt)
 
 pub +branch-result+fill-branches+rest-result-spec : {M : Type 1} → statement M
 +branch-result+fill-branches+rest-result-spec =

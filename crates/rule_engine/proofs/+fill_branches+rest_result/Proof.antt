@@ -1,9 +1,12 @@
 -- `rule_engine::rest_result` and `fill_branches` meet their contracts: the remaining features fall; the first v branches are filled, and the memory is right for the table so far. Assumes nothing.
-use Rattle.table_memory.proofs.Remembering.{noted-stored}
-use Rattle.rule_engine.proofs.Recalling.{key-part, right-here, hit, result-recalled, still, still-if}
-use Rattle.rule_engine.proofs.Noting.{plain-features, noted-made}
-use Rattle.rule_engine.proofs.Joining.{joint-held, operands-next, operands-skip, operands-ext, joint-skip, joint-forget, joint-phrases, joint-short, still-left}
-use Rattle.rule_engine.specs.Memory.{Noted}
+use Rattle.theory.proofs.Growing.{make-grows}
+use Rattle.rule_words.specs.Table.{ruleTable}
+use Rattle.table_memory.proofs.Building.{noted-result}
+use Rattle.table_notes.proofs.Alike.{grown-roomy}
+use Rattle.rule_engine.proofs.Recalling.{key-part, right-here, right-more, hit, result-recalled}
+use Rattle.rule_engine.proofs.Noting.{plain-features, still-left}
+use Rattle.rule_engine.proofs.Joining.{joint-held, operands-next, operands-skip, operands-ext, joint-skip, joint-forget, joint-phrases, joint-short}
+use Rattle.rule_engine.specs.Memory.{Noted, Still, StillIf}
 use Rattle.rule_engine.specs.Joint.{joint}
 use Rattle.table_notes.specs.Plain.{plain}
 use Rattle.table_notes.specs.Far.{memory}
@@ -11,13 +14,11 @@ use Rattle.table_notes.proofs.Plain.{length-plain}
 use Rattle.rule_notes.proofs.Reading.{plain-head}
 use Rattle.rule_nodes.proofs.Filling.{gives-is, gives-none, fill-start, fill-more, fill-stop, stop-result, fill-listed, fill-make, filled, not-filled, filling-ext}
 use Rattle.rule_nodes.proofs.Reading.{good-small}
-use Rattle.rule_nodes.specs.Nodes.{Filling, Result}
-use Rattle.rule_nodes.specs.declared.Answer.the-variants.{Is}
+use Rattle.rule_nodes.specs.Nodes.{Filling}
 use Rattle.table_words.proofs.Words.{kept-features, kept-size}
 use lib.ListN.{length, getD-replicate}
 use native.Mathlib.Omega.{arith}
 use Prim.Native.Nat.{ℕ, _+_, _-_, _*_, _≤_, _<_}
-use mathlib.Core.List.{List}
 use mathlib.Core.Path.{_≡_, refl, sym, subst, _∙_}
 use borrow.Author.Needs.{needs}
 use borrow.Fn.Kinds.{In}
@@ -50,24 +51,16 @@ abbrev μ-rest-result : Measures 2 rest-result-kinds.ps ℕ
 μ-rest-result κs a = 2 * (features (plain (a .0 .now)) - a .1 .1 .1 .1 .1 .0)
 
 abbrev fill-branches-at : ℕ → In 2 fill-branches-kinds.ps
-fill-branches-at t =
-    and 2 fill-branches-kinds.ps (is 2 fill-branches-kinds.ps μ-fill-branches t) fill-branches.Pre
+fill-branches-at t = and 2 fill-branches-kinds.ps (is 2 fill-branches-kinds.ps μ-fill-branches t) fill-branches.Pre
 
 abbrev fill-branches-below : ℕ → In 2 fill-branches-kinds.ps
-fill-branches-below t =
-    and
-    2
-    fill-branches-kinds.ps
-    (falls 2 fill-branches-kinds.ps _<_ μ-fill-branches t)
-    fill-branches.Pre
+fill-branches-below t = and 2 fill-branches-kinds.ps (falls 2 fill-branches-kinds.ps _<_ μ-fill-branches t) fill-branches.Pre
 
 abbrev rest-result-at : ℕ → In 2 rest-result-kinds.ps
-rest-result-at t =
-    and 2 rest-result-kinds.ps (is 2 rest-result-kinds.ps μ-rest-result t) rest-result.Pre
+rest-result-at t = and 2 rest-result-kinds.ps (is 2 rest-result-kinds.ps μ-rest-result t) rest-result.Pre
 
 abbrev rest-result-below : ℕ → In 2 rest-result-kinds.ps
-rest-result-below t =
-    and 2 rest-result-kinds.ps (falls 2 rest-result-kinds.ps _<_ μ-rest-result t) rest-result.Pre
+rest-result-below t = and 2 rest-result-kinds.ps (falls 2 rest-result-kinds.ps _<_ μ-rest-result t) rest-result.Pre
 
 abbrev fill-branches-Inv-loop : fill-branches-lts.InvT-loop
 fill-branches-Inv-loop t₀ s₀ o f n k ops m list₀ v₀ t s list v = (m ≡ size (plain t₀) k) × (v ≤ m) × Filling (plain t₀) (plain t) k
@@ -175,7 +168,7 @@ fill-branches-loop-again t c =
           (joint-held (plain (a .args .t .now)) (plain (l .t)) (a .args .o) (a .args .f) (a .args .n) (a .args .k) (l .v) (a .args .ops) _ (a .pre .1 .0)
           (filling-ext (plain (a .args .t .now)) (a .args .k) _ (a .pre .1 .0 .holds) (a .pre .1 .2) (plain (l .t)) (l .v) (l .list) fl) (c10 .operands-at .ensures))
           (c7 .rest-result .ensures .0) (c .before .r .given .1),
-      still _ _ _ _ _ _ _ (c .before .r .given .1) (c7 .rest-result .ensures .1),
+      subst (Still _ _ _ _ _) (c .before .r .given .1) (c7 .rest-result .ensures .1),
       search needs,
       search needs,
     )
@@ -231,25 +224,22 @@ rest-result-returns-3 t c =
 rest-result-operands-at-requires : (t : ℕ) → rest-result-lts.Need-operands-at-requires (rest-result-claims t) (rest-result-at t) rest-result.Post
 rest-result-operands-at-requires t c κs =
     let c7 = c .before .before .before .before .before .before .before in let a = c7 .before .before .before .before .before .before in
-    let hk = still-left (plain (a .args .t .now)) (a .args .f) (a .args .n) (a .args .k) (c7 .lowest .result) _ (a .args .t7) (a .pre .1 .0) (c7 .lowest .ensures)
-    (c .before .before .before .before .wide .ensures .0 ∙ c .before .before .before .before .before .features-word .ensures ∙ plain-features (a .args .t .now))
-    (c .before .before .before .if2 .left) in
+    let hk = still-left (a .args .t .now) (a .pre .1 .0) (c7 .lowest .ensures)
+    (c .before .before .before .before .wide .ensures .0 ∙ c .before .before .before .before .before .features-word .ensures) (c .before .before .before .if2 .left) in
     (a .pre .1 .0, hk, omega (arith, a .pre .1 .0 .holds .laid .laid .large (a .args .k) hk))
 
 rest-result-rest-result-requires-2 : (t : ℕ) → rest-result-lts.Need-rest-result-requires-2 (rest-result-claims t) (rest-result-at t) rest-result.Post
 rest-result-rest-result-requires-2 t c κs =
     let c6 = c .before .before .before .before .before .before in let c7 = c6 .before in let c8 = c7 .before in let c10 = c8 .before .before in
     let a = c10 .before .before .before .before .before .before in
-    let hk = still-left (plain (a .args .t .now)) (a .args .f) (a .args .n) (a .args .k) (c10 .lowest .result) _ (a .args .t7) (a .pre .1 .0) (c10 .lowest .ensures)
-    (c7 .wide .ensures .0 ∙ c8 .features-word .ensures ∙ plain-features (a .args .t .now)) (c6 .if2 .left) in
+    let hk = still-left (a .args .t .now) (a .pre .1 .0) (c10 .lowest .ensures) (c7 .wide .ensures .0 ∙ c8 .features-word .ensures) (c6 .if2 .left) in
     (omega arith, (operands-next _ _ _ (a .args .k) 0 (a .args .t7) _ (a .pre .1 .0) hk (c .before .before .operands-at .ensures), a .pre .1 .1))
 
 rest-result-returns-4 : (t : ℕ) → rest-result-lts.Need-returns-4 (rest-result-claims t) (rest-result-at t) rest-result.Post
 rest-result-returns-4 t c =
     let c7 = c .before .before .before .before .before .before .before in let c9 = c7 .before .before in let c11 = c9 .before .before in let c12 = c11 .before in
     let c13 = c12 .before in let c15 = c13 .before .before in let a = c15 .before .before .before .before .before .before in
-    let hk = still-left (plain (a .args .t .now)) (a .args .f) (a .args .n) (a .args .k) (c15 .lowest .result) _ (a .args .t7) (a .pre .1 .0) (c15 .lowest .ensures)
-    (c12 .wide .ensures .0 ∙ c13 .features-word .ensures ∙ plain-features (a .args .t .now)) (c11 .if2 .left) in (
+    let hk = still-left (a .args .t .now) (a .pre .1 .0) (c15 .lowest .ensures) (c12 .wide .ensures .0 ∙ c13 .features-word .ensures) (c11 .if2 .left) in (
       joint-forget _ _ _ _ _ (a .args .k) (a .args .t7) _ _ (a .pre .1 .0) (c9 .if4 .taken) hk (c7 .operands-at .ensures)
           (c .before .before .before .before .rest-result2 .ensures .0),
       c .before .before .before .before .rest-result2 .ensures .1,
@@ -258,8 +248,8 @@ rest-result-returns-4 t c =
 rest-result-key-of-requires : (t : ℕ) → rest-result-lts.Need-key-of-requires (rest-result-claims t) (rest-result-at t) rest-result.Post
 rest-result-key-of-requires t c κs =
     let c6 = c .before .before .before .before .before .before in let a = c6 .before .before .before .before .before .before in
-    let hk = still-left (plain (a .args .t .now)) (a .args .f) (a .args .n) (a .args .k) (c6 .lowest .result) _ (a .args .t7) (a .pre .1 .0) (c6 .lowest .ensures)
-    (c .before .before .before .wide .ensures .0 ∙ c .before .before .before .before .features-word .ensures ∙ plain-features (a .args .t .now)) (c .before .before .if2 .left) in
+    let hk = still-left (a .args .t .now) (a .pre .1 .0) (c6 .lowest .ensures)
+    (c .before .before .before .wide .ensures .0 ∙ c .before .before .before .before .features-word .ensures) (c .before .before .if2 .left) in
     omega (arith, a .pre .1 .0 .holds .laid .laid .few)
 
 rest-result-recall-in-requires : (t : ℕ) → rest-result-lts.Need-recall-in-requires (rest-result-claims t) (rest-result-at t) rest-result.Post
@@ -279,8 +269,7 @@ rest-result-fill-branches-requires : (t : ℕ) → rest-result-lts.Need-fill-bra
 rest-result-fill-branches-requires t c κs =
     let c12 = c .before .before .before .before .before .before .before .before .before .before .before .before in let c13 = c12 .before in let c14 = c13 .before in
     let c16 = c14 .before .before in let a = c16 .before .before .before .before .before .before in
-    let hk = still-left (plain (a .args .t .now)) (a .args .f) (a .args .n) (a .args .k) (c16 .lowest .result) _ (a .args .t7) (a .pre .1 .0) (c16 .lowest .ensures)
-    (c13 .wide .ensures .0 ∙ c14 .features-word .ensures ∙ plain-features (a .args .t .now)) (c12 .if2 .left) in
+    let hk = still-left (a .args .t .now) (a .pre .1 .0) (c16 .lowest .ensures) (c13 .wide .ensures .0 ∙ c14 .features-word .ensures) (c12 .if2 .left) in
     (omega arith, (a .pre .1 .0, a .pre .1 .1, hk))
 
 rest-result-make-in-requires : (t : ℕ) → rest-result-lts.Need-make-in-requires (rest-result-claims t) (rest-result-at t) rest-result.Post
@@ -288,15 +277,12 @@ rest-result-make-in-requires t c κs =
     let c7 = c .before .before .before .before .before .before .before in
     let c20 = c7 .before .before .before .before .before .before .before .before .before .before .before .before .before in let c21 = c20 .before in let c22 = c21 .before in
     let c24 = c22 .before .before in let a = c24 .before .before .before .before .before .before in
-    let hk = still-left (plain (a .args .t .now)) (a .args .f) (a .args .n) (a .args .k) (c24 .lowest .result) _ (a .args .t7) (a .pre .1 .0) (c24 .lowest .ensures)
-    (c21 .wide .ensures .0 ∙ c22 .features-word .ensures ∙ plain-features (a .args .t .now)) (c20 .if2 .left) in
-    let fl = filled (plain (a .args .t .now)) _ (a .args .k) (joint (plain (a .args .t .now)) (a .args .o) (a .args .f) (a .args .n) (a .args .k) (a .args .t7)) _ _
-    (c .before .before .if5 .taken) (c7 .fill-branches .ensures .0) in (
-      still-if _ _ _ _ _ _ (c .before .before .if5 .taken) (c7 .fill-branches .ensures .1) .room,
+    let hk = still-left (a .args .t .now) (a .pre .1 .0) (c24 .lowest .ensures) (c21 .wide .ensures .0 ∙ c22 .features-word .ensures) (c20 .if2 .left) in
+    let fl = filled _ _ _ _ _ _ (c .before .before .if5 .taken) (c7 .fill-branches .ensures .0) in (
+      subst (StillIf _ _ _ _ _) (c .before .before .if5 .taken) (c7 .fill-branches .ensures .1) .room,
       fl .filled .grown .well,
       omega (arith, kept-features _ _ (fl .filled .grown .kept)),
-      fill-listed (plain (a .args .t .now)) (a .args .k)
-          (joint (plain (a .args .t .now)) (a .args .o) (a .args .f) (a .args .n) (a .args .k) (a .args .t7)) (a .pre .1 .0 .holds) hk _ _ fl,
+      fill-listed _ _ _ (a .pre .1 .0 .holds) hk _ _ fl,
     )
 
 rest-result-returns-6 : (t : ℕ) → rest-result-lts.Need-returns-6 (rest-result-claims t) (rest-result-at t) rest-result.Post
@@ -304,15 +290,9 @@ rest-result-returns-6 t c =
     let c7 = c .before .before .before .before .before .before .before in let c12 = c7 .before .before .before .before .before in
     let c25 = c12 .before .before .before .before .before .before .before .before .before .before .before .before .before in let c26 = c25 .before in let c27 = c26 .before in
     let c29 = c27 .before .before in let a = c29 .before .before .before .before .before .before in
-    let hk = still-left (plain (a .args .t .now)) (a .args .f) (a .args .n) (a .args .k) (c29 .lowest .result) _ (a .args .t7) (a .pre .1 .0) (c29 .lowest .ensures)
-    (c26 .wide .ensures .0 ∙ c27 .features-word .ensures ∙ plain-features (a .args .t .now)) (c25 .if2 .left) in
-    let fl = filled (plain (a .args .t .now)) _ (a .args .k) (joint (plain (a .args .t .now)) (a .args .o) (a .args .f) (a .args .n) (a .args .k) (a .args .t7)) _ _
-    (c7 .if5 .taken) (c12 .fill-branches .ensures .0) in (
-      gives-none (c .enum-told2 .given .1) (fill-make (plain (a .args .t .now)) (a .args .k)
-          (joint (plain (a .args .t .now)) (a .args .o) (a .args .f) (a .args .n) (a .args .k) (a .args .t7)) (a .pre .1 .0 .holds) hk _ _ _ _ fl
-          (c .before .before .before .before .make-in .ensures .0)),
-      tt,
-    )
+    let hk = still-left (a .args .t .now) (a .pre .1 .0) (c29 .lowest .ensures) (c26 .wide .ensures .0 ∙ c27 .features-word .ensures) (c25 .if2 .left) in
+    let fl = filled _ _ _ _ _ _ (c7 .if5 .taken) (c12 .fill-branches .ensures .0) in
+    (gives-none (c .enum-told2 .given .1) (fill-make _ _ _ (a .pre .1 .0 .holds) hk _ _ _ _ fl (c .before .before .before .before .make-in .ensures .0)), tt)
 
 rest-result-part-remember-in-end : (t : ℕ) → rest-result-lts.Need-part-remember-in-end (rest-result-claims t) (rest-result-at t) rest-result.Post
 rest-result-part-remember-in-end t c =
@@ -325,11 +305,8 @@ rest-result-remember-in-requires t c κs =
     let c9 = c .before .before .before .before .before .before .before .before .before in let c12 = c9 .before .before .before in
     let c17 = c12 .before .before .before .before .before in let c27 = c17 .before .before .before .before .before .before .before .before .before .before in
     let a = c27 .before .before .before .before .before .before .before .before .before .before .before .before .before in
-    let fb = c17 .fill-branches in
-    let fl = filled (plain (a .args .t .now)) _ (a .args .k) (joint (plain (a .args .t .now)) (a .args .o) (a .args .f) (a .args .n) (a .args .k) (a .args .t7)) _ _
-    (c12 .if5 .taken) (fb .ensures .0) in (
-      noted-made _ _ (a .args .k) (fb .result .list) _ (c .before .before .before .before .before .x .given .0 .0) (a .args .o) (a .args .f) (a .args .n) _ (fl .filled .grown .well)
-          (c9 .make-in .ensures) (c .before .before .before .before .before .x .given .1) (still-if _ _ _ _ _ _ (c12 .if5 .taken) (fb .ensures .1)) .room,
+    let fb = c17 .fill-branches in (
+      grown-roomy _ _ (c9 .make-in .ensures .0 .grown .kept) (subst (StillIf _ _ _ _ _) (c12 .if5 .taken) (fb .ensures .1) .room),
       omega (arith, key-part (a .args .n) (a .args .k) (a .args .t7) (c27 .key-of .result) (a .pre .1 .0 .nine) (c27 .key-of .ensures) .feature),
     )
 
@@ -339,37 +316,24 @@ rest-result-returns-7 t c =
     let c17 = c14 .before .before .before in let c22 = c17 .before .before .before .before .before in
     let c32 = c22 .before .before .before .before .before .before .before .before .before .before in let c35 = c32 .before .before .before in let c36 = c35 .before in
     let c37 = c36 .before in let c39 = c37 .before .before in let a = c39 .before .before .before .before .before .before in
-    let hk = still-left (plain (a .args .t .now)) (a .args .f) (a .args .n) (a .args .k) (c39 .lowest .result) _ (a .args .t7) (a .pre .1 .0) (c39 .lowest .ensures)
-    (c36 .wide .ensures .0 ∙ c37 .features-word .ensures ∙ plain-features (a .args .t .now)) (c35 .if2 .left) in
+    let hk = still-left (a .args .t .now) (a .pre .1 .0) (c39 .lowest .ensures) (c36 .wide .ensures .0 ∙ c37 .features-word .ensures) (c35 .if2 .left) in
     let fb = c22 .fill-branches in
-    let w = plain (a .args .t .now) in
-    let fl = filled (plain (a .args .t .now)) _ (a .args .k) (joint (plain (a .args .t .now)) (a .args .o) (a .args .f) (a .args .n) (a .args .k) (a .args .t7)) _ _
-    (c17 .if5 .taken) (fb .ensures .0) in
-    let q = c10 .x .given .1 in
-    let re = gives-is q (fill-make (plain (a .args .t .now)) (a .args .k) (joint (plain (a .args .t .now)) (a .args .o) (a .args .f) (a .args .n) (a .args .k) (a .args .t7))
-    (a .pre .1 .0 .holds) hk _ _ _ _ fl (c14 .make-in .ensures .0)) in
-    let nm = noted-made _ _ (a .args .k) (fb .result .list) _ (c10 .x .given .0 .0) (a .args .o) (a .args .f) (a .args .n) _ (fl .filled .grown .well) (c14 .make-in .ensures) q
-    (still-if _ _ _ _ _ _ (c17 .if5 .taken) (fb .ensures .1)) in
+    let m = c14 .make-in .ensures in
+    let fl = filled _ _ _ _ _ _ (c17 .if5 .taken) (fb .ensures .0) in
+    let re = gives-is (c10 .x .given .1) (fill-make _ _ _ (a .pre .1 .0 .holds) hk _ _ _ _ fl (m .0)) in
     let y = key-part (a .args .n) (a .args .k) (a .args .t7) (c32 .key-of .result) (a .pre .1 .0 .nine) (c32 .key-of .ensures) in (
-      subst (λ (u : List ℕ). Result w u (a .args .k) (joint w (a .args .o) (a .args .f) (a .args .n) (a .args .k) (a .args .t7)) (Is (c10 .x .given .0 .0)))
-          (sym (c .before .before .before .before .remember-in .ensures .0)) re,
-      noted-stored _ _ _ _ _ _ _ (y .long) nm (c .before .before .before .before .remember-in .ensures)
-          (right-here _ (a .args .o) (a .args .f) (a .args .n) (a .args .k) (a .args .t7) _ y _ _
-          (result-recalled w _ (a .args .o) (a .args .f) (a .args .n) (a .args .k) _ (a .args .t7) (a .pre .1 .0) re)),
+      rw (c .before .before .before .before .remember-in .ensures .0) re,
+      noted-result ruleTable (right-more (a .args .o) (a .args .f) (a .args .n)) (fl .filled .grown .well) (m .0 .grown) (make-grows _ _ _) (m .1)
+          (subst (StillIf _ _ _ _ _) (c17 .if5 .taken) (fb .ensures .1)) (y .long) (c .before .before .before .before .remember-in .ensures)
+          (right-here _ _ _ _ (a .args .k) (a .args .t7) _ y _ _ (result-recalled _ _ _ _ _ (a .args .k) _ (a .args .t7) (a .pre .1 .0) re)),
     )
 
 rest-result-returns-8 : (t : ℕ) → rest-result-lts.Need-returns-8 (rest-result-claims t) (rest-result-at t) rest-result.Post
 rest-result-returns-8 t c =
     let c18 = c .before .before .before .before .before .before .before .before .before .before .before .before .before .before .before .before .before .before in
     let c19 = c18 .before in let c20 = c19 .before in let c22 = c20 .before .before in let a = c22 .before .before .before .before .before .before in
-    let hk = still-left (plain (a .args .t .now)) (a .args .f) (a .args .n) (a .args .k) (c22 .lowest .result) _ (a .args .t7) (a .pre .1 .0) (c22 .lowest .ensures)
-    (c19 .wide .ensures .0 ∙ c20 .features-word .ensures ∙ plain-features (a .args .t .now)) (c18 .if2 .left) in (
-      stop-result (plain (a .args .t .now)) (a .args .k) (joint (plain (a .args .t .now)) (a .args .o) (a .args .f) (a .args .n) (a .args .k) (a .args .t7))
-          (a .pre .1 .0 .holds) hk _ (not-filled (plain (a .args .t .now)) _ (a .args .k)
-          (joint (plain (a .args .t .now)) (a .args .o) (a .args .f) (a .args .n) (a .args .k) (a .args .t7)) _ _ (c .if5 .left)
-          (c .before .before .before .before .before .fill-branches .ensures .0)),
-      tt,
-    )
+    let hk = still-left (a .args .t .now) (a .pre .1 .0) (c22 .lowest .ensures) (c19 .wide .ensures .0 ∙ c20 .features-word .ensures) (c18 .if2 .left) in
+    (stop-result _ _ _ (a .pre .1 .0 .holds) hk _ (not-filled _ _ _ _ _ _ (c .if5 .left) (c .before .before .before .before .before .fill-branches .ensures .0)), tt)
 
 pub +fill-branches+rest-result-spec : {M : Type 1} → statement M
 +fill-branches+rest-result-spec = close μ-fill-branches μ-rest-result (λ t. fill-branches-lts.spec (fill-branches-claims t)
