@@ -11,13 +11,12 @@ use Rattle.settings.specs.declared.refusals.Outcome.the-variants.{Taken}
 use Rattle.theory_costs.specs.Integers.{wordFor}
 use Rattle.theory_costs.proofs.Integers.{fit-zero}
 use Rattle.table_words.proofs.Tab.{split, getD-tab}
-use Rattle.table_calls.specs.Opening.{Named}
+use Rattle.table_calls.specs.Opening.{Opens, Named}
 use Rattle.table_calls.proofs.Opened as C
 use Rattle.table_calls.proofs.Opened.{ends}
 use Rattle.cost_words.specs.Words.{targetWord}
 use Rattle.cost_words.specs.Table.{rootOf, costTable}
 use Rattle.cost_words.proofs.Showing.{root-shows, base-shows}
-use Rattle.cost_calls.specs.Opening.{Opens}
 use Rattle.promises.specs.Range.{costMost}
 use Rattle.promises.specs.TableDeeds.{Openable}
 
@@ -36,5 +35,5 @@ module _ {S : List ℕ} {cap : ℕ} {w w′ : List ℕ} (o : Openable S cap (len
           n .bases (32 + p) (omega arith) (omega arith)
           ∙ sym (ap (rootOf (ends 16)) (sym q) ∙ base-shows (ends 16) (p - 16) ∙ ap (λ (b : Branch costs). wordFor (b .adds)) (getD-tab (λ q. blank) 16 (p - 16) blank (omega arith)))
 
-  pub opened : Opens S cap w w′ Taken
+  pub opened : Opens costTable S cap w w′ Taken
   opened = C.opened costTable o n (λ j h. n .zero (20 + j) (omega (arith, o .list .few)) (omega arith)) roots (λ s. fit-zero costMost) tt
