@@ -1,4 +1,4 @@
--- `cost_calls::call_open::open` meets its contract: what can't be opened is refused, and what is laid out is a fresh table. Assumes nothing.
+-- `cost_calls::call_open::open` meets its contract: what cannot be opened is refused, and what is laid out is a fresh table. Assumes nothing.
 use Rattle.promises.specs.CostDeeds.{cost-looked}
 use Rattle.table_calls.proofs.Drawn.{not-opened, fresh-opened}
 use Rattle.cost_calls.proofs.Edge.{drawn}

@@ -1,4 +1,4 @@
--- `rule_calls::call_open::open` meets its contract: what can't be opened is refused, and what is laid out is a fresh table. Assumes nothing.
+-- `rule_calls::call_open::open` meets its contract: what cannot be opened is refused, and what is laid out is a fresh table. Assumes nothing.
 use Rattle.promises.specs.RuleDeeds.{looked}
 use Rattle.table_calls.proofs.Drawn.{not-opened, fresh-opened}
 use Rattle.rule_calls.proofs.Edge.{drawn}
