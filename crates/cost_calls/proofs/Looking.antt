@@ -18,7 +18,8 @@ use Rattle.theory_costs.proofs.Placing.{adds-fits}
 use Rattle.table_calls.proofs.Ways as C
 use Rattle.cost_words.specs.Table.{costTable}
 use Rattle.cost_words.proofs.Packing.{target-end, target-node}
-use Rattle.cost_words.proofs.Reading.{under-word}
+use Rattle.table_words.proofs.Reading.{goal-below}
+use Rattle.cost_words.proofs.Regular.{regular}
 use Rattle.cost_calls.proofs.Sounding.{sound-pos, sound-wf, sound-root}
 use Rattle.promises.specs.Integers.{Fit, int}
 use Rattle.promises.specs.Range.{Within, addMost, costMost}
@@ -88,7 +89,7 @@ module _ (w s : List ℕ) (p : ℕ) (ok : Sound w) (hp : p < 16) (valid : Valid 
         d = added (body w i) v
 
         pub read-less : g < x
-        read-less = omega (arith, under-word (nodes w) i (suc k) g (C.read-under costTable w (sound-wf ok) (costOf w p) s valid n (int a) i here k ek v ev))
+        read-less = omega (arith, goal-below regular (nodes w) i (suc k) g (C.read-under costTable w (sound-wf ok) (costOf w p) s valid n (int a) i here k ek v ev))
 
         way-step : OnWay w p s (n + 1) (up (int a) (branch g d))
         way-step = C.read-on costTable w (sound-wf ok) (costOf w p) s valid n (int a) i here k ek v ev

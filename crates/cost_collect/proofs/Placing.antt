@@ -1,74 +1,46 @@
--- A root word and a base set set their place; the table is untidy again. Assumes nothing.
-use mathlib.Core.Path.{_≡_, ap₂, subst, _∙_}
+-- A cost table is as the collector asks; a root word and a base set set their place. Assumes nothing.
+use mathlib.Core.Path.{refl, ap, ap₂, _∙_}
 use mathlib.Core.List.{List}
-use Prim.Native.Nat.{ℕ, suc, _+_, _≤_, _<_}
+use Prim.Native.Nat.{ℕ, _+_, _/_, _≤_, _<_}
 use native.Mathlib.Omega.{arith}
 use lib.ListN.{length, set, length-set}
 use lib.Seq.{getD-set-same, getD-set-other}
-use Rattle.theory.specs.Costs.{costs}
-use Rattle.theory.specs.Diagrams.{Branch, meaning}
-use Rattle.theory.specs.Settings.{Valid}
-use Rattle.theory.specs.WellFormed.{Ok}
+use Rattle.table_words.proofs.Halves.{half-zero}
 use Rattle.cost_words.specs.Table.{costTable}
-use Rattle.cost_words.proofs.Regular.{regular}
-use Rattle.table_sweep.specs.Collecting.{Loose, Moved}
-use Rattle.table_sweep.proofs.Finishing.{placed-untidy, placed-range}
-use Rattle.table_sweep.proofs.Placing.{Placed, Replaced, Rooting, rooting-more}
-use Rattle.cost_collect.specs.Tidy.{Untidy}
-use Rattle.promises.specs.Integers.{Fit}
-use Rattle.promises.specs.Range.{Within, costMost}
-use Rattle.promises.specs.Words.{head, sizes}
-use Rattle.promises.specs.CostWords.{target, costBranch as branch, costNodes as nodes, costRoot as root, costBase as base, costOf}
+use Rattle.table_sweep.proofs.Placing.{Placed, Replaced, replaced-set}
+use Rattle.table_collect.specs.Laying.{Laying}
+use Rattle.promises.specs.Words.{head}
+use Rattle.promises.specs.CostWords.{costBranch as branch, half}
 
-pub in-range : {w : List ℕ} → Untidy w → (p : ℕ) → p < 16 → (s : List ℕ) → Valid (sizes w) s → Fit costMost (costOf w p s .off)
-in-range u p h s x = u .range p h .fits s x
-
--- ---- a root word set, and a base after it
-replaced : (w : List ℕ) (j x : ℕ) → 32 ≤ j → j < 64 → Replaced w (set w j x)
+pub laying : Laying costTable
 unfolding head
-replaced w j x lo hi =
-    record { long = length-set w j x; low = λ i h. getD-set-other w j i x 0 (omega arith); rest = λ i h. getD-set-other w j i x 0 (omega arith) }
-
-pub root-placed : (w : List ℕ) (p x : ℕ) → p < 16 → 64 ≤ length w → Placed costTable w (set w (32 + p) x) p (branch x (base w p))
-unfolding head
-root-placed w p x h l =
+laying =
     record {
-      replaced = replaced w (32 + p) x (omega arith) (omega arith);
-      here = ap₂ branch (getD-set-same w (32 + p) x 0 (omega arith)) (getD-set-other w (32 + p) (48 + p) x 0 (omega arith));
-      others = λ q g n. ap₂ branch (getD-set-other w (32 + p) (32 + q) x 0 (omega (arith, n))) (getD-set-other w (32 + p) (48 + q) x 0 (omega arith));
+      least = omega arith;
+      many = omega arith;
+      ways = λ f v. refl;
+      here = λ s. ap₂ branch (s .halves refl .here) (s .adds refl .here);
+      others = λ s u h g. ap₂ branch (s .halves refl .others u (omega arith) (omega arith)) (s .adds refl .others u (omega arith) (omega arith));
+      none = λ g z. record { targets = λ v l h. ap (λ (y : ℕ). half y v) (z (v / 2) (omega arith)) ∙ half-zero v; addeds = λ v l h. z (4 + v) (omega arith) };
+      padded = λ s p. record {
+        targets = λ v l h. s .halves refl .others v h (omega arith) ∙ p .targets v (omega arith) h;
+        addeds = λ v l h. s .adds refl .others v h (omega arith) ∙ p .addeds v (omega arith) h;
+      };
+      root = λ w p r h l. ap₂ branch (getD-set-same w (32 + p) r 0 (omega arith)) (getD-set-other w (32 + p) (48 + p) r 0 (omega arith));
+      roots = λ w p q r h g n. ap₂ branch (getD-set-other w (32 + p) (32 + q) r 0 (omega (arith, n))) (getD-set-other w (32 + p) (48 + q) r 0 (omega arith));
     }
 
 pub both-placed : (w : List ℕ) (p x a : ℕ) → p < 16 → 64 ≤ length w → Placed costTable w (set (set w (32 + p) x) (48 + p) a) p (branch x a)
 unfolding head
 both-placed w p x a h l =
-    let t : Placed costTable w (set w (32 + p) x) p (branch x (base w p)) = root-placed w p x h l in
-    let u : Replaced (set w (32 + p) x) (set (set w (32 + p) x) (48 + p) a) = replaced (set w (32 + p) x) (48 + p) a (omega arith) (omega arith) in
+    let t : Replaced w (set w (32 + p) x) = replaced-set w (32 + p) x (omega arith) (omega arith) in
+    let u : Replaced (set w (32 + p) x) (set (set w (32 + p) x) (48 + p) a) = replaced-set (set w (32 + p) x) (48 + p) a (omega arith) (omega arith) in
     record {
-      replaced =
-          record {
-            long = u .long ∙ t .replaced .long;
-            low = λ j g. u .low j g ∙ t .replaced .low j g;
-            rest = λ j g. u .rest j g ∙ t .replaced .rest j g;
-          };
+      replaced = record { long = u .long ∙ t .long; low = λ j g. u .low j g ∙ t .low j g; rest = λ j g. u .rest j g ∙ t .rest j g };
       here =
           ap₂ branch (getD-set-other (set w (32 + p) x) (48 + p) (32 + p) a 0 (omega arith) ∙ getD-set-same w (32 + p) x 0 (omega arith))
           (getD-set-same (set w (32 + p) x) (48 + p) a 0 (omega (arith, length-set w (32 + p) x)));
       others = λ q g n.
           ap₂ branch (getD-set-other (set w (32 + p) x) (48 + p) (32 + q) a 0 (omega arith)) (getD-set-other (set w (32 + p) x) (48 + p) (48 + q) a 0 (omega (arith, n)))
-          ∙ t .others q g n;
-    }
-
--- one root more copied and set
-pub rooting-next : {w t t′ : List ℕ} {p : ℕ} (r x : ℕ) → Loose costTable w → Rooting costTable w t p → p < 16 → x ≡ root t p → Moved costTable t t′ (target x) (target r)
-    → Rooting costTable w (set t′ (32 + p) r) (suc p)
-rooting-next {w} {t} {t′} {p} r x l m hp e c =
-    rooting-more regular (target r) l m hp (subst (λ (y : ℕ). Moved costTable t t′ (target y) (target r)) e c)
-    (root-placed t′ p r hp (omega (arith, c .still .ready .framed .room)))
-
--- ---- a place set: the table is untidy again
-pub placed-again : {w w′ : List ℕ} {p : ℕ} {b : Branch costs} → Untidy w → p < 16 → Placed costTable w w′ p b → Ok (nodes w) 0 b → Within costMost (sizes w) (meaning (nodes w) b) → Untidy w′
-placed-again u hp s ok f =
-    record {
-      untidy = placed-untidy regular (u .untidy) hp s ok;
-      range = λ q h. record { fits = placed-range regular (u .untidy) hp s (f .fits) (in-range u) q h };
+          ∙ laying .roots w p q x h g n;
     }

@@ -1,4 +1,4 @@
--- Contract between layers: what a cost table is after a place was changed, and what tidying makes of it. Assumes nothing.
+-- Contract between layers: what a cost table is after a place was changed. Assumes nothing.
 use mathlib.Core.List.{List}
 use Prim.Native.Nat.{ℕ, _<_}
 use Rattle.cost_words.specs.Table.{costTable}
@@ -11,6 +11,3 @@ use Rattle.promises.specs.CostWords.{costOf}
 pub record Untidy (w : List ℕ) : Type 0 where
   pub untidy : T.Untidy costTable w
   pub range : (p : ℕ) → p < 16 → Within costMost (sizes w) (costOf w p)
-
-abbrev pub Tidied : List ℕ → List ℕ → Type 0
-Tidied w w′ = T.Tidied costTable w w′

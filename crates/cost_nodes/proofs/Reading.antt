@@ -16,7 +16,9 @@ use Rattle.table_words.proofs.Words.{length-sizes, at-sizes}
 use Rattle.table_records.proofs.Making as M
 use Rattle.cost_words.specs.Table.{costTable}
 use Rattle.cost_words.proofs.Pairing.{spared-pairs, pairs-passed}
-use Rattle.cost_words.proofs.Reading.{length-nodes, under-word}
+use Rattle.table_words.proofs.Reading.{goal-below}
+use Rattle.cost_words.proofs.Reading.{length-nodes}
+use Rattle.cost_words.proofs.Regular.{regular}
 use Rattle.cost_nodes.specs.Nodes.{layout, Holds}
 use Rattle.promises.specs.Range.{addMost}
 use Rattle.promises.specs.Words.{features, size, sizes, count}
@@ -35,7 +37,7 @@ sizes-from w k h = F.sizes-from lawful w k (omega (arith, length-sizes w)) ∙ a
 
 -- a target word of the table
 pub ok-small : (w : List ℕ) (k x a : ℕ) → Ok (nodes w) k (branch x a) → x ≤ count w
-ok-small w k x a g = omega (arith, under-word (nodes w) (length (nodes w)) k x g, length-nodes w)
+ok-small w k x a g = omega (arith, goal-below regular (nodes w) (length (nodes w)) k x g, length-nodes w)
 
 -- the table keeps each node's own, where its nodes are narrow
 pub holds-passed : (w : List ℕ) → Holds w → Narrow addMost (sizes w) (nodes w) → (up : Bool) → Passed (sideOf up) (nodes w) (length (nodes w)) (kept up w)

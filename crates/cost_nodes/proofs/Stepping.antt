@@ -14,7 +14,9 @@ use Rattle.theory_costs.proofs.Relative.{branch-here, branch-wait, branch-under
 use Rattle.table_words.specs.Words.{Kept}
 use Rattle.table_words.proofs.Words.{kept-features}
 use Rattle.cost_words.proofs.Packing.{target-node, int-zero}
-use Rattle.cost_words.proofs.Reading.{length-nodes, at-nodes, branch-at, under-word}
+use Rattle.table_words.proofs.Reading.{goal-below}
+use Rattle.cost_words.proofs.Reading.{length-nodes, at-nodes, branch-at}
+use Rattle.cost_words.proofs.Regular.{regular}
 use Rattle.cost_nodes.specs.Nodes.{Holds, Good, top, Place}
 use Rattle.promises.specs.CostSound.{bare}
 use Rattle.promises.specs.Words.{features, size, sizes, count, feature, body}
@@ -22,7 +24,7 @@ use Rattle.promises.specs.CostWords.{target, costBranch as branch, goes, added,
 
 -- a target word of the table is small
 pub good-small : (w : List ℕ) (k x : ℕ) → Good w k x → x ≤ count w
-good-small w k x g = omega (arith, under-word (nodes w) _ k x g, length-nodes w)
+good-small w k x g = omega (arith, goal-below regular (nodes w) _ k x g, length-nodes w)
 
 -- ---- tops
 pub top-end : (w : List ℕ) (x : ℕ) → x ≡ 0 → top w x ≡ features w

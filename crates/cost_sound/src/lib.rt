@@ -3,6 +3,7 @@ mod range; // range.rt: the pairs kept for the nodes, and the costs in their ran
 
 ghost use Prim.Native.Nat.{_≤_, _<_};
 ghost use Rattle.settings.specs.Tells.{Tells};
+use cost_words::FIRST;
 use cost_words::ZERO;
 use cost_words::adds_at;
 use cost_words::goes_to;
@@ -22,9 +23,6 @@ ghost use Rattle.promises.specs.Words.{features, count, feature, body};
 ghost use Rattle.promises.specs.CostWords.{Padded};
 ghost use Rattle.promises.specs.Sound.{Header};
 ghost use Rattle.promises.specs.CostSound.{CostAdds as Adds, CostAlike as Alike, CostNodeOk as NodeOk, CostNodesOk as Nodes, CostSound as Sound};
-
-// Target words from this on say nodes.
-const FIRST: u32 = 1;
 
 // Whether branch 0 of node i adds 0, and each adds an integer within ±2,000,000,000.
 fn adds_ok(t: &[u32], i: usize) -> bool

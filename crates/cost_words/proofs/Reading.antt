@@ -1,19 +1,16 @@
 -- The node list and the costs by index. Assumes nothing.
 use mathlib.Core.Path.{_≡_}
 use mathlib.Core.List.{List}
-use Prim.Native.Nat.{ℕ, zero, suc, _≤_, _<_}
-use native.Mathlib.Omega.{arith}
+use Prim.Native.Nat.{ℕ, _<_}
 use lib.ListN.{length, getD}
-use Rattle.theory.specs.Costs.{costs}
-use Rattle.theory.specs.Diagrams.{Node, at, blank}
+use Rattle.theory.specs.Diagrams.{at, blank}
 use Rattle.theory.specs.Functions.{zero-fun}
-use Rattle.theory.specs.WellFormed.{Under}
 use Rattle.table_words.specs.Table.{nodeAt}
 use Rattle.table_words.proofs.Reading as R
 use Rattle.table_words.proofs.Tab.{length-tab, getD-tab}
 use Rattle.cost_words.specs.Table.{costTable}
 use Rattle.promises.specs.Words.{count, size, feature, body}
-use Rattle.promises.specs.CostWords.{target, costBranch as branch, goes, added, costNodes as nodes, costOf, costsOf}
+use Rattle.promises.specs.CostWords.{costBranch as branch, goes, added, costNodes as nodes, costOf, costsOf}
 
 pub length-nodes : (w : List ℕ) → length (nodes w) ≡ count w
 length-nodes w = R.length-nodes costTable w
@@ -24,12 +21,6 @@ at-nodes w i h = R.at-nodes costTable w i h
 -- branch v of node i
 pub branch-at : (w : List ℕ) (i v : ℕ) → i < count w → v < size w (feature w i) → getD (at (nodes w) i .branches) v blank ≡ branch (goes (body w i) v) (added (body w i) v)
 branch-at w i v h hv = R.branch-at costTable w i v h hv
-
--- a word whose target lies below node m is at most m
-pub under-word : (N : List (Node costs)) (m k x : ℕ) → Under N m k (target x) → x ≤ m
-unfolding target
-under-word N m k zero u = omega arith
-under-word N m k (suc i) u = u .0
 
 -- the costs
 pub length-costs : (w : List ℕ) → length (costsOf w) ≡ 16

@@ -8,6 +8,7 @@ pub use sides::sides_of;
 pub use sums::difference_or_lost;
 pub use sums::further;
 pub use sums::sum_or_lost;
+use table_words::HALF;
 use table_words::half_of;
 use table_words::head_word;
 use table_words::record_word;
@@ -27,8 +28,8 @@ pub const ZERO: u32 = 2147483648;
 
 const WIDE_ZERO: u64 = 2147483648;
 
-// A half word is below this.
-const HALF: u32 = 65536;
+// Target words from this on say nodes: FIRST + i is node i.
+pub const FIRST: u32 = 1;
 
 // Where a branch goes: to the end or to a node.
 pub enum Target {

@@ -10,7 +10,9 @@ use Rattle.theory.specs.Questions.{asked}
 use Rattle.theory.proofs.Ways as W
 use Rattle.table_calls.proofs.Ways as C
 use Rattle.rule_words.specs.Table.{ruleTable}
-use Rattle.rule_words.proofs.Reading.{decode-phrase, decode-node, under-word}
+use Rattle.table_words.proofs.Reading.{goal-below}
+use Rattle.rule_words.proofs.Reading.{decode-phrase, decode-node}
+use Rattle.rule_words.proofs.Regular.{regular}
 use Rattle.rule_calls.proofs.Sounding.{sound-wf, sound-root}
 use Rattle.promises.specs.Words.{features, count, sizes, feature, body}
 use Rattle.promises.specs.RuleWords.{decode, ruleNodes as nodes, ruleRoot as root, ruleOf}
@@ -64,4 +66,4 @@ module _ (w s : List ℕ) (p : ℕ) (ok : Sound w) (hp : p < 32) (valid : Valid 
           read-on = rw ec (C.read-on ruleTable w (sound-wf ok) (ruleOf w p) s valid n tt i here k ek v ev)
 
           pub read-less : c < b
-          read-less = omega (arith, under-word (nodes w) i (suc k) (body w i v) (C.read-under ruleTable w (sound-wf ok) (ruleOf w p) s valid n tt i here k ek v ev))
+          read-less = omega (arith, goal-below regular (nodes w) i (suc k) (body w i v) (C.read-under ruleTable w (sound-wf ok) (ruleOf w p) s valid n tt i here k ek v ev))

@@ -1,40 +1,24 @@
--- A root word set sets its place, and the rules are in range. Assumes nothing.
-use mathlib.Core.Path.{_≡_, ap, subst}
-use mathlib.Core.List.{List}
-use Prim.Native.Nat.{ℕ, suc, _+_, _<_}
+-- A rule table is as the collector asks. Assumes nothing.
+use mathlib.Core.Path.{refl, ap, _∙_}
+use Prim.Native.Nat.{_+_}
 use native.Mathlib.Omega.{arith}
-use lib.ListN.{length, set, length-set}
 use lib.Seq.{getD-set-same, getD-set-other}
-use Rattle.theory.specs.Settings.{Valid}
 use Rattle.rule_words.specs.Table.{ruleTable}
-use Rattle.rule_words.proofs.Regular.{regular}
-use Rattle.rule_words.proofs.Bounding.{rule-small}
-use Rattle.table_sweep.specs.Collecting.{Loose, Moved}
-use Rattle.table_sweep.proofs.Placing.{Placed, Rooting, rooting-more}
-use Rattle.promises.specs.Words.{head, sizes}
-use Rattle.promises.specs.RuleWords.{decode, ruleRoot as root, ruleOf}
+use Rattle.table_collect.specs.Laying.{Laying}
+use Rattle.promises.specs.Words.{head}
+use Rattle.promises.specs.RuleWords.{decode}
 
--- whatever the words are, the rules are in range
-pub in-range : (w : List ℕ) (p : ℕ) → p < 32 → (s : List ℕ) → Valid (sizes w) s → ruleOf w p s .end < 65536
-in-range w p h s x = rule-small w p s
-
-pub placed : (w : List ℕ) (p x : ℕ) → p < 32 → 32 + p < length w → Placed ruleTable w (set w (32 + p) x) p (decode x)
+pub laying : Laying ruleTable
 unfolding head
-placed w p x h l =
+laying =
     record {
-      replaced =
-          record {
-            long = length-set w (32 + p) x;
-            low = λ j g. getD-set-other w (32 + p) j x 0 (omega arith);
-            rest = λ j g. getD-set-other w (32 + p) j x 0 (omega arith);
-          };
-      here = ap decode (getD-set-same w (32 + p) x 0 l);
-      others = λ q g n. ap decode (getD-set-other w (32 + p) (32 + q) x 0 (omega (arith, n)));
+      least = omega arith;
+      many = omega arith;
+      ways = λ f v. refl;
+      here = λ s. ap decode (s .whole (omega arith) .here);
+      others = λ s u h g. ap decode (s .whole (omega arith) .others u (omega arith) (omega arith));
+      none = λ g z v l h. z v h;
+      padded = λ s p v l h. s .whole (omega arith) .others v h (omega arith) ∙ p v (omega arith) h;
+      root = λ w p r h l. ap decode (getD-set-same w (32 + p) r 0 (omega arith));
+      roots = λ w p q r h g n. ap decode (getD-set-other w (32 + p) (32 + q) r 0 (omega (arith, n)));
     }
-
--- one root more copied and set
-pub rooting-next : {w t t′ : List ℕ} {p : ℕ} (r b : ℕ) → Loose ruleTable w → Rooting ruleTable w t p → p < 32 → b ≡ root t p → Moved ruleTable t t′ (decode b .to) (decode r .to)
-    → Rooting ruleTable w (set t′ (32 + p) r) (suc p)
-rooting-next {w} {t} {t′} {p} r b l m hp eb c =
-    rooting-more regular (decode r .to) l m hp (subst (λ (x : ℕ). Moved ruleTable t t′ (decode x .to) (decode r .to)) eb c)
-    (placed t′ p r hp (omega (arith, c .still .ready .framed .room)))

@@ -6,7 +6,9 @@ use lib.ListN.{length}
 use Rattle.table_words.specs.Holding.{Lawful}
 use Rattle.table_records.proofs.Making as M
 use Rattle.rule_words.specs.Table.{ruleTable}
-use Rattle.rule_words.proofs.Reading.{under-word, length-nodes}
+use Rattle.table_words.proofs.Reading.{goal-below}
+use Rattle.rule_words.proofs.Reading.{length-nodes}
+use Rattle.rule_words.proofs.Regular.{regular}
 use Rattle.rule_nodes.specs.Nodes.{layout, Good}
 use Rattle.promises.specs.Words.{count}
 use Rattle.promises.specs.RuleWords.{ruleNodes as nodes}
@@ -16,4 +18,4 @@ lawful = M.lawful ruleTable
 
 -- a branch word of the table
 pub good-small : (w : List ℕ) (k x : ℕ) → Good w k x → x < 65536 + count w
-good-small w k x g = omega (arith, under-word (nodes w) (length (nodes w)) k x g, length-nodes w)
+good-small w k x g = omega (arith, goal-below regular (nodes w) (length (nodes w)) k x g, length-nodes w)

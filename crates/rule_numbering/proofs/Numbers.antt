@@ -19,7 +19,9 @@ use Rattle.theory.proofs.WellFormed.{under-weaken}
 use Rattle.table_words.proofs.Tab.{split, tab-none, tab-snoc, tab-ext, length-tab}
 use Rattle.table_words.proofs.Words.{length-sizes, at-sizes}
 use Rattle.rule_words.specs.Words.{branches}
-use Rattle.rule_words.proofs.Reading.{decode-phrase, decode-index, under-word, length-nodes, at-nodes, branch-at}
+use Rattle.table_words.proofs.Reading.{goal-below}
+use Rattle.rule_words.proofs.Reading.{decode-phrase, decode-index, length-nodes, at-nodes, branch-at}
+use Rattle.rule_words.proofs.Regular.{regular}
 use Rattle.rule_numbering.specs.Walkable.{Walkable, Stands}
 use Rattle.rule_numbering.specs.Numbering.{mark, member, renumbered, Has, nodeIn, numbered, Noted, Numbers, Numbering}
 use Rattle.rule_numbering.specs.Running.{Blank}
@@ -72,7 +74,7 @@ module _ {w : List ℕ} (s : Walkable w) where
 
   -- a word that says a branch of the table is below the words past its nodes
   pub stands-below : (b : ℕ) → Stands w b → b < 65536 + count w
-  stands-below b o = omega (arith, under-word (nodes w) (length (nodes w)) 0 b o, length-nodes w)
+  stands-below b o = omega (arith, goal-below regular (nodes w) (length (nodes w)) 0 b o, length-nodes w)
 
   branch-under : (i v : ℕ) → i < count w → v < size w (feature w i) → Under (nodes w) i (suc (at (nodes w) i .feature)) (decode (body w i v) .to)
   branch-under i v h hv =
@@ -80,7 +82,7 @@ module _ {w : List ℕ} (s : Walkable w) where
 
   -- branch v of node i says a node before i
   pub branch-below : (i v : ℕ) → i < count w → v < size w (feature w i) → body w i v < 65536 + i
-  branch-below i v h hv = under-word (nodes w) i (suc (at (nodes w) i .feature)) (body w i v) (branch-under i v h hv)
+  branch-below i v h hv = goal-below regular (nodes w) i (suc (at (nodes w) i .feature)) (body w i v) (branch-under i v h hv)
 
   pub branch-stands : (i v : ℕ) → i < count w → v < size w (feature w i) → Stands w (body w i v)
   branch-stands i v h hv =

@@ -6,7 +6,7 @@ use Prim.Native.Nat.{ℕ, _+_, _≤_, _<_}
 use native.Mathlib.Omega.{arith}
 use lib.ListN.{getD, List·getD-eq-default}
 use Rattle.theory.specs.Diagrams as D
-use Rattle.theory.specs.Diagrams.{Target, at, blank, empty}
+use Rattle.theory.specs.Diagrams.{Target, at, blank, empty, meaning}
 use Rattle.theory.specs.Functions.{zero-fun}
 use Rattle.theory.specs.Rules.{rules, Branch, Node, Rule}
 use Rattle.theory.proofs.Bounded.{Bounded, Bounds, value-bounded}
@@ -44,9 +44,12 @@ nodes-bounded w = record { node = λ i. record { branch = λ v. ⊎-elim (near i
         let e : at (nodes w) i ≡ empty = List·getD-eq-default (nodes w) empty (omega (arith, length-nodes w)) in
         subst (λ (x : Node). Bounded 65536 (getD (x .branches) v blank .to)) (sym e) (let q : 0 < 65536 = omega arith in q)
 
--- whatever the words are, each rule gives every setting a phrase below 65,536
+-- whatever the words are, each branch word and each rule give every setting a phrase below 65,536
+pub branch-small : (w : List ℕ) (x : ℕ) (s : List ℕ) → meaning (nodes w) (decode x) s .end < 65536
+branch-small w x s = value-bounded 65536 (omega arith) (nodes w) (nodes-bounded w) 0 (decode x) s (decode-bounded x)
+
 pub rule-small : (w : List ℕ) (p : ℕ) (s : List ℕ) → ruleOf w p s .end < 65536
-rule-small w p s = value-bounded 65536 (omega arith) (nodes w) (nodes-bounded w) 0 (decode (root w p)) s (decode-bounded (root w p))
+rule-small w p s = branch-small w (root w p) s
 
 pub rules-small : (w : List ℕ) (p : ℕ) → p < 32 → (s : List ℕ) → getD (rulesOf w) p zero-fun s .end < 65536
 rules-small w p h s = subst (λ (g : Rule). g s .end < 65536) (sym (at-rules w p h)) (rule-small w p s)

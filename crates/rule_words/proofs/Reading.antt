@@ -8,8 +8,7 @@ use borrow.Author.Tests.{lt-ltb, le-ltb}
 use lib.ListN.{length, getD}
 use Rattle.theory.specs.Diagrams.{at, blank, leaf, node as to-node}
 use Rattle.theory.specs.Functions.{zero-fun}
-use Rattle.theory.specs.WellFormed.{Under}
-use Rattle.theory.specs.Rules.{Branch, Node, phrase, node}
+use Rattle.theory.specs.Rules.{Branch, phrase, node}
 use Rattle.table_words.specs.Table.{nodeAt}
 use Rattle.table_words.proofs.Reading as R
 use Rattle.table_words.proofs.Tab.{split, length-tab, getD-tab}
@@ -39,13 +38,6 @@ encode-decode x = ⊎-elim
 
 pub decode-inj : (x y : ℕ) → decode x ≡ decode y → x ≡ y
 decode-inj x y e = sym (encode-decode x) ∙ ap encode e ∙ encode-decode y
-
--- a word whose branch lies below node m is below 65,536 + m
-pub under-word : (N : List Node) (m k x : ℕ) → Under N m k (decode x .to) → x < 65536 + m
-under-word N m k x u = ⊎-elim
-    (λ h. omega (arith, h))
-    (λ h. let q : Under N m k (node (x - 65536) .to) = subst (λ (b : Branch). Under N m k (b .to)) (decode-node x h) u in omega (arith, q .0, h))
-    (split x 65536)
 
 -- ---- the code's branches
 -- a phrase is its own word, a node's word is 65,536 + its index

@@ -11,9 +11,10 @@ use Rattle.theory.specs.Rules.{rules}
 use Rattle.theory.specs.Walk.{scan, scans}
 use Rattle.theory.proofs.Shapes.{SameTo, SameTos, SameShape, scan-shape, scans-shape}
 use Rattle.table_words.specs.Table.{Table, Regular, nodes, rootsOf}
+use Rattle.table_words.specs.Words.{wayOf}
 use Rattle.table_words.proofs.Reading.{length-nodesBy, at-nodesBy}
 use Rattle.table_words.proofs.Tab.{split, tab-none, tab-snoc}
-use Rattle.table_checks.specs.Walk.{goalOf, goingTo, shape, shapeArm, shapeRoots, wayOf}
+use Rattle.table_checks.specs.Walk.{goalOf, goingTo, shape, shapeArm, shapeRoots}
 use Rattle.table_checks.proofs.Walking.{goal-end, goal-node}
 use Rattle.promises.specs.Tab.{tab}
 use Rattle.promises.specs.Words.{head, size, count, sizes, feature, body}

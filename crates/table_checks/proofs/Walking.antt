@@ -6,7 +6,7 @@ use Prim.Native.Nat.{ℕ, zero, suc, _+_, _-_, _≤_, _<_}
 use native.Mathlib.Nat.{le-refl}
 use native.Mathlib.Omega.{arith}
 use native.Mathlib.Numerals.{add-one}
-use borrow.Author.Tests.{eq-eqb, ne-eqb, lt-ltb, le-ltb}
+use borrow.Author.Tests.{lt-ltb, le-ltb}
 use lib.Dec.{eqb}
 use lib.ListN.{length, drop}
 use Rattle.theory.specs.Kind.{Kind}
@@ -17,25 +17,19 @@ use Rattle.theory.specs.Walk.{scan, scans, close}
 use Rattle.theory.proofs.Ordering.{close-same}
 use Rattle.theory.proofs.Scanning.{scan-leaf, scan-known, scan-done, scan-close, close-none, close-other, scans-step, scans-lost, scans-nil}
 use Rattle.theory.proofs.WellFormed.{under-weaken}
+use Rattle.table_words.specs.Words.{wayOf}
 use Rattle.table_words.proofs.Reading.{length-nodesBy, at-nodesBy}
 use Rattle.table_words.proofs.Tab.{tab-none, tab-snoc}
 use Rattle.table_words.proofs.Words.{length-sizes}
 use Rattle.settings.specs.Tells.{Tells}
 use Rattle.settings.proofs.Answers.{tells-eqb}
-use Rattle.table_checks.specs.Walk.{Formed, Rooted, Good, Says, Visits, VisitsAll, goalOf, scan-below, shape, shapeArm, wayOf}
+use Rattle.table_checks.specs.Walk.{Formed, Rooted, Good, Says, Visits, VisitsAll, goalOf, scan-below, shape, shapeArm}
 use Rattle.table_checks.proofs.Sitting.{sits-goes, sits-more}
 use Rattle.promises.specs.Tab.{tab}
 use Rattle.promises.specs.Words.{head, size, count, sizes, feature, body}
-use Rattle.promises.specs.CostWords.{goes}
 use Rattle.promises.specs.Sound.{Sits}
 
--- ---- the branch word of a body, and where it goes
-pub way-half : (first : ℕ) (f : ℕ → ℕ) (v : ℕ) → first ≡ 1 → wayOf first f v ≡ goes f v
-way-half first f v e = rw (eq-eqb first 1 e)
-
-pub way-whole : (first : ℕ) (f : ℕ → ℕ) (v : ℕ) → (first ≡ 1 → ⊥) → wayOf first f v ≡ f v
-way-whole first f v e = rw (ne-eqb first 1 e)
-
+-- ---- where a branch word goes
 pub goal-end : (first x : ℕ) → x < first → goalOf first x ≡ leaf 0
 unfolding goalOf
 goal-end first x h = rw (lt-ltb x first h)

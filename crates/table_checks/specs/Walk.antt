@@ -10,17 +10,14 @@ use Rattle.theory.specs.Diagrams.{Branch, Node, Target, at, leaf, node}
 use Rattle.theory.specs.Rules.{rules}
 use Rattle.theory.specs.WellFormed.{Under}
 use Rattle.theory.specs.Walk.{scan, scans}
+use Rattle.table_words.specs.Words.{wayOf}
 use Rattle.promises.specs.Tab.{tab}
 use Rattle.promises.specs.Words.{head, features, size, count, sizes, feature, body, nodesBy, pick}
-use Rattle.promises.specs.CostWords.{goes}
 use Rattle.promises.specs.Sound.{Header, Sits}
 
--- ---- by the kind: the kind word, and the branch word of value v of a body (1: half words, else whole ones)
+-- the kind word
 abbrev pub kindOf : ℕ → ℕ
 kindOf first = pick (eqb first 1) 2 1
-
-abbrev pub wayOf : ℕ → (ℕ → ℕ) → ℕ → ℕ
-wayOf first f v = pick (eqb first 1) (goes f v) (f v)
 
 -- ---- what is tested
 -- each branch of node i ends or goes to an earlier node of a higher feature

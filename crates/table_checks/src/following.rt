@@ -3,35 +3,19 @@
 use crate::sits;
 use table_words::NODES;
 use table_words::count_word;
-use table_words::half_of;
 use table_words::head_word;
 use table_words::record_word;
 use table_words::size_word;
+use table_words::way_word;
 use table_words::wide;
-ghost use mathlib.Core.Path.{_≡_};
-ghost use Prim.Native.Nat.{_+_, _*_, _≤_, _<_};
-ghost use lib.ListN.{length};
+ghost use Prim.Native.Nat.{_≤_, _<_};
 ghost use Rattle.settings.specs.Tells.{Tells};
-ghost use Rattle.table_checks.specs.Walk.{kindOf, wayOf, Lower, Rooted, Formed, InOrder, Visits, VisitsAll};
-ghost use Rattle.promises.specs.Words.{features, count, feature, body};
+ghost use Rattle.table_checks.specs.Walk.{kindOf, Lower, Rooted, Formed, InOrder, Visits, VisitsAll};
+ghost use Rattle.promises.specs.Words.{features, count, feature};
 ghost use Rattle.promises.specs.Sound.{Header, Sits};
-
-// Where words from 1 on say nodes, two branches lie in a word.
-const HALVES: u32 = 1;
 
 // A walk that met a node out of its turn; more than any count of nodes.
 const LOST: usize = 8192;
-
-// The word of branch v of node i.
-fn way_word(t: &[u32], first: u32, i: usize, v: usize) -> u32
-    requires { ⌜ (8192 + 16 * i + 16 ≤ length (now t)) × (i < 8192) × (v < 8) ⌝ }
-    ensures { λ r. ⌜ r ≡ wayOf first (body (now (t .entry)) i) v ⌝ }
-{
-    if first == HALVES {
-        return half_of(record_word(t, i, 1 + v / 2), v);
-    }
-    record_word(t, i, 1 + v)
-}
 
 // Whether each branch of node i ends or goes to an earlier node of a higher feature.
 pub fn lower(t: &[u32], first: u32, i: usize) -> bool

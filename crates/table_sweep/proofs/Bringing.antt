@@ -8,7 +8,7 @@ use lib.ListN.{length, getD, set, length-set}
 use lib.Seq.{getD-set-same, getD-set-other}
 use Rattle.table_words.proofs.Tab.{same, split}
 use Rattle.table_sweep.specs.Marks.{done}
-use Rattle.table_sweep.specs.Sweeping.{Cleared, Full, Brought}
+use Rattle.table_sweep.specs.Sweeping.{Cleared, Full, Brought, Bare}
 use Rattle.promises.specs.Words.{word, head, capacity, count, Zeros}
 
 -- the first j words are back
@@ -110,3 +110,14 @@ module _ {w w′ : List ℕ} (f : Full w) (b : Brought w w′) where
 
       past : (j : ℕ) → j < 8192 + 32 * capacity w → 8192 + 16 * (capacity w + count w) ≤ j → getD w′ j 0 ≡ 0
       past j g p = b .past j p ∙ zf .zeros j (omega (arith, f .fewer)) g
+
+-- what is back can be chained
+pub bare-back : {w w′ : List ℕ} → Full w → Brought w w′ → Bare w′
+bare-back f b =
+    let c = b .header 1 (omega arith) in
+    record {
+      room = omega (arith, f .room, b .long);
+      most = omega (arith, f .most);
+      within = omega (arith, f .within, f .fewer, b .fewer);
+      bare = λ h g. b .heads (4096 + h) (omega arith) (omega arith);
+    }

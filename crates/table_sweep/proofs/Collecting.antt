@@ -26,25 +26,25 @@ untidy-framed u = record { room = u .room; most = u .most; within = u .within; l
 pub full-of : {K : Kind} {T : Table K} {w : List ℕ} → Ready T w → Full w
 full-of r = record { room = r .framed .room; most = r .framed .most; within = r .framed .within; fewer = done-small r }
 
-module _ {K : Kind} {T : Table K} (L : Regular T) where
-  -- ---- the chain heads cleared
-  module _ {w w′ : List ℕ} (u : Untidy T w) (c : Cleared w w′) where
-    cleared-steady : Steady w w′
-    unfolding word
-    cleared-steady =
-        record {
-          long = c .long;
-          low = λ j h. c .front j (omega arith);
-          middle = λ j h g. c .front j g;
-          near = λ i j h g. c .after (8192 + 16 * i + j) (omega arith);
-          past = λ j h. c .after j (omega arith);
-        }
+-- ---- the chain heads cleared
+pub cleared-steady : {w w′ : List ℕ} → Cleared w w′ → Steady w w′
+unfolding word
+cleared-steady c =
+    record {
+      long = c .long;
+      low = λ j h. c .front j (omega arith);
+      middle = λ j h g. c .front j g;
+      near = λ i j h g. c .after (8192 + 16 * i + j) (omega arith);
+      past = λ j h. c .after j (omega arith);
+    }
 
+module _ {K : Kind} {T : Table K} (L : Regular T) where
+  module _ {w w′ : List ℕ} (u : Untidy T w) (c : Cleared w w′) where
     abbrev framed : Framed T w
     framed = untidy-framed u
 
     cleared-nodes : nodes T w′ ≡ nodes T w
-    cleared-nodes = same-nodes L framed cleared-steady
+    cleared-nodes = same-nodes L framed (cleared-steady c)
 
     cleared-root : (p : ℕ) → p < T .places → T .rootAt w′ p ≡ T .rootAt w p
     cleared-root = L .places w w′ (λ p h. c .front (32 + p) (omega arith))
@@ -52,10 +52,10 @@ module _ {K : Kind} {T : Table K} (L : Regular T) where
     pub cleared-loose : Loose T w′
     unfolding head
     cleared-loose =
-        let e1 = same-capacity cleared-steady in
-        let e19 = same-count cleared-steady in
+        let e1 = same-capacity (cleared-steady c) in
+        let e19 = same-count (cleared-steady c) in
         record {
-          framed = steady-framed L framed cleared-steady;
+          framed = steady-framed L framed (cleared-steady c);
           rooted = λ p h. rw (cleared-root p h, cleared-nodes) (u .rooted p h);
           nothing = c .front 31 (omega arith) ∙ u .unused .zeros 31 (omega arith) (omega arith);
           unmarked = λ i h. c .heads (4096 + i) (omega arith) (omega (arith, u .within, u .most));
@@ -70,9 +70,9 @@ module _ {K : Kind} {T : Table K} (L : Regular T) where
     pub rooted-from : {t : List ℕ} → Rooted T w′ t → Rooted T w t
     rooted-from a =
         record {
-          steady = steady-trans cleared-steady (a .steady);
+          steady = steady-trans (cleared-steady c) (a .steady);
           ready = a .ready;
-          holds = ap₂ (λ (S : List ℕ) (gs : List (Fun K)). table S gs) (sym (same-sizes L framed cleared-steady)) (sym cleared-funs) ∙ a .holds;
+          holds = ap₂ (λ (S : List ℕ) (gs : List (Fun K)). table S gs) (sym (same-sizes L framed (cleared-steady c))) (sym cleared-funs) ∙ a .holds;
         }
 
   -- ---- the way back

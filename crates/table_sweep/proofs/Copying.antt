@@ -2,7 +2,7 @@
 use mathlib.Core.Path.{_≡_, refl, sym, ap, ap₂, subst, _∙_}
 use mathlib.Core.Logic.{⊎-elim}
 use mathlib.Core.List.{List, [], _∷_, _++_}
-use Prim.Native.Nat.{ℕ, zero, suc, _+_, _≤_, _<_}
+use Prim.Native.Nat.{ℕ, suc, _+_, _≤_, _<_}
 use native.Mathlib.Omega.{arith}
 use lib.ListN.{length, getD}
 use Rattle.theory.specs.Copying.{Copies, Half, Lists, Twin, marked}
@@ -18,7 +18,7 @@ use Rattle.table_words.proofs.Tab.{split, tab-snoc, tab-ext, length-tab}
 use Rattle.table_sweep.specs.Marks.{done, mark}
 use Rattle.table_sweep.specs.Sweeping.{Spare, Put}
 use Rattle.table_sweep.specs.Collecting.{copies, Ready, Steady, Still, Moved, Turning, Moving}
-use Rattle.table_sweep.proofs.Writing.{put-marks}
+use Rattle.table_sweep.proofs.Writing.{put-marks, put-steady}
 use Rattle.table_sweep.proofs.Framing.{length-copies, known, known-copy, size-most, size-small, positive, steady-refl, steady-trans, same-count, node-same, padded-same}
 use Rattle.table_sweep.proofs.Framing.{same-size, same-sizes, steady-framed, arm-kept, still-before, half-back, half-on, copies-back}
 use Rattle.promises.specs.Tab.{tab}
@@ -38,12 +38,6 @@ module _ {K : Kind} {T : Table K} where
   -- no more copies than nodes
   pub done-small : {w : List ℕ} → Ready T w → done w ≤ count w
   done-small {w} r = omega (arith, r .tallied, marked-le (mark w) (count w))
-
-  pub marked-small : {w : List ℕ} → Ready T w → (i c : ℕ) → i < count w → c ≡ mark w i → c ≤ done w
-  marked-small {w} r i zero h e = omega arith
-  marked-small {w} r i (suc c) h e =
-      let t : Twin (sizes w) (nodes T w) (copies T w) i c = r .half .twin i c (omega (arith, length-nodes T w)) (sym e) in
-      omega (arith, t .mean .ok .0, length-copies T w)
 
   pub moved-marked : {w : List ℕ} (i j : ℕ) → Ready T w → i < count w → mark w i ≡ suc j → Moved T w w (node i) (node j)
   moved-marked {w} i j r h e =
@@ -73,16 +67,6 @@ module _ {K : Kind} {T : Table K} (L : Regular T) where
         }
 
   -- ---- a new copy
-  put-steady : {w w′ : List ℕ} {i : ℕ} {l : List ℕ} → Spare w i → Put w w′ i l → Steady w w′
-  put-steady s p =
-      record {
-        long = p .long;
-        low = λ j hj. p .low j (omega arith) (omega arith) (omega arith);
-        middle = λ j hj g. p .low j (omega arith) (omega arith) (omega arith);
-        near = p .near;
-        past = λ j hj. p .after j (omega (arith, s .free));
-      }
-
   module _ {w t : List ℕ} {i : ℕ} {l : List ℕ} (ready : Ready T w) (h : i < count w) (none : mark w i ≡ 0) (m : Moving T w t i (size w (feature w i)) l) where
     abbrev then : Ready T t
     then = m .turning .still .ready
@@ -96,7 +80,7 @@ module _ {K : Kind} {T : Table K} (L : Regular T) where
     here : i < count t
     here = omega (arith, same-count so-far)
 
-    pub spare-for : Spare t i
+    spare-for : Spare t i
     spare-for =
         record {
           room = then .framed .room;

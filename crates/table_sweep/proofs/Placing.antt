@@ -3,7 +3,8 @@ use mathlib.Core.Path.{_≡_, refl, sym, ap, ap₂, subst, _∙_}
 use mathlib.Core.List.{List, [], _∷_, _++_}
 use Prim.Native.Nat.{ℕ, suc, _+_, _*_, _≤_, _<_}
 use native.Mathlib.Omega.{arith}
-use lib.ListN.{length, getD}
+use lib.ListN.{length, getD, set, length-set}
+use lib.Seq.{getD-set-other}
 use Rattle.theory.specs.Build.{build, each}
 use Rattle.theory.specs.Copying.{Copies, Half, marked}
 use Rattle.theory.specs.Diagrams.{Branch, Node, Target}
@@ -33,6 +34,11 @@ pub record Placed {K : Kind} (T : Table K) (w w′ : List ℕ) (p : ℕ) (b : Br
   pub here : T .rootAt w′ p ≡ b
   pub others : (q : ℕ) → q < T .places → (q ≡ p → ⊥) → T .rootAt w′ q ≡ T .rootAt w q
 
+pub replaced-set : (w : List ℕ) (j x : ℕ) → 32 ≤ j → j < 64 → Replaced w (set w j x)
+unfolding head
+replaced-set w j x lo hi =
+    record { long = length-set w j x; low = λ i h. getD-set-other w j i x 0 (omega arith); rest = λ i h. getD-set-other w j i x 0 (omega arith) }
+
 -- ---- what stays
 module _ {w w′ : List ℕ} (c : Replaced w w′) where
   words : (i j : ℕ) → word w′ i j ≡ word w i j
@@ -48,7 +54,7 @@ module _ {w w′ : List ℕ} (c : Replaced w w′) where
   far-word : (x j : ℕ) → word w′ (capacity w′ + x) j ≡ word w (capacity w + x) j
   far-word x j = ap (λ (n : ℕ). word w′ (n + x) j) (c .low 1 (omega arith)) ∙ words (capacity w + x) j
 
-  marks : mark w′ ≡ mark w
+  pub marks : mark w′ ≡ mark w
   unfolding head
   marks = λ k i. c .rest (4096 + i) (omega arith) k
 

@@ -15,21 +15,10 @@ use Rattle.table_words.proofs.Chains.{last-ext}
 use Rattle.table_words.proofs.Reading.{length-nodes, at-nodes, length-said, at-said}
 use Rattle.table_words.proofs.Picture.{hash-shown}
 use Rattle.table_words.proofs.Words.{length-sizes, sizes-show}
-use Rattle.table_sweep.specs.Sweeping.{Bare, Relinked}
+use Rattle.table_sweep.specs.Sweeping.{Relinked}
 use Rattle.table_sweep.specs.Collecting.{Collected}
 use Rattle.table_sweep.specs.Tidy.{Untidy, Tidied}
 use Rattle.promises.specs.Words.{head, capacity, count, sizes, hashAt, lastOf}
-
-module _ {K : Kind} {T : Table K} {w t : List ℕ} (u : Untidy T w) (c : Collected T w t) where
-  pub bare-now : Bare t
-  bare-now =
-      let e : capacity t ≡ capacity w = c .low 1 (omega arith) (omega arith) in
-      record {
-        room = omega (arith, u .room, c .long);
-        most = omega (arith, u .most);
-        within = omega (arith, u .within, c .fewer);
-        bare = λ h g. c .heads (4096 + h) (omega arith) (omega arith);
-      }
 
 module _ {K : Kind} {T : Table K} (L : Regular T) where
   -- in range at every setting, and as the shares ask

@@ -9,6 +9,7 @@ use lib.Seq.{getD-set-same, getD-set-other}
 use Rattle.table_words.proofs.Tab.{same}
 use Rattle.table_sweep.specs.Marks.{done, mark}
 use Rattle.table_sweep.specs.Sweeping.{Spare, Put}
+use Rattle.table_sweep.specs.Collecting.{Steady}
 use Rattle.promises.specs.Words.{word, head, capacity}
 
 -- one more of a run of stores
@@ -92,3 +93,14 @@ module _ (w t l : List ℕ) (base i k x y a b : ℕ) (eb : base ≡ 8192 + 16 * 
 -- one copy keeps the other marks
 pub put-marks : {w w′ : List ℕ} {i : ℕ} {l : List ℕ} → Put w w′ i l → (n : ℕ) → n < 4096 → (n ≡ i → ⊥) → mark w′ n ≡ mark w n
 put-marks p n h q = p .low (4096 + n) (omega arith) (omega arith) (omega (arith, q))
+
+-- .. and the near records and the header
+pub put-steady : {w w′ : List ℕ} {i : ℕ} {l : List ℕ} → Spare w i → Put w w′ i l → Steady w w′
+put-steady s p =
+    record {
+      long = p .long;
+      low = λ j hj. p .low j (omega arith) (omega arith) (omega arith);
+      middle = λ j hj g. p .low j (omega arith) (omega arith) (omega arith);
+      near = p .near;
+      past = λ j hj. p .after j (omega (arith, s .free));
+    }

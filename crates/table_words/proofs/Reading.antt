@@ -1,14 +1,16 @@
 -- The nodes, the roots and the functions of a table by index, and the nodes of records that have the same words. Assumes nothing.
-use mathlib.Core.Path.{_≡_, sym, ap, _∙_}
+use mathlib.Core.Path.{_≡_, sym, ap, subst, _∙_}
+use mathlib.Core.Logic.{⊎-elim}
 use mathlib.Core.List.{List}
-use Prim.Native.Nat.{ℕ, _≤_, _<_}
+use Prim.Native.Nat.{ℕ, _+_, _-_, _≤_, _<_}
 use native.Mathlib.Omega.{arith}
 use lib.ListN.{length, getD, List·getD-eq-default}
 use Rattle.theory.specs.Kind.{Kind}
-use Rattle.theory.specs.Diagrams.{Branch, Node, at, blank, empty}
+use Rattle.theory.specs.Diagrams.{Branch, Node, at, blank, empty, node}
 use Rattle.theory.specs.Functions.{Fun, zero-fun}
+use Rattle.theory.specs.WellFormed.{Under}
 use Rattle.table_words.specs.Table.{Table, Regular, branches, nodeAt, nodes, rootsOf, funAt}
-use Rattle.table_words.proofs.Tab.{tab-ext, length-tab, getD-tab}
+use Rattle.table_words.proofs.Tab.{split, tab-ext, length-tab, getD-tab}
 use Rattle.promises.specs.Tab.{tab}
 use Rattle.promises.specs.Words as W
 use Rattle.promises.specs.Words.{nodesBy, count, size, feature, body}
@@ -75,3 +77,12 @@ module _ {K : Kind} {T : Table K} (L : Regular T) where
       let q : branches T (size w (feature w i)) (body w i) ≡ branches T m f =
       ap (λ (j : ℕ). branches T (size w j) (body w i)) ek ∙ ap (λ (n : ℕ). branches T n (body w i)) em ∙ branches-same m (body w i) f l e in
       λ j. record { feature = ek j; branches = q j }
+
+-- a word that goes to a node below m is below the word of node m
+pub goal-below : {K : Kind} {T : Table K} → Regular T → (N : List (Node K)) (m k x : ℕ) → Under N m k (T .goal x) → x < T .first + m
+goal-below {K} {T} L N m k x u = ⊎-elim
+    (λ h. omega arith)
+    (λ h.
+    let q : T .first + (x - T .first) ≡ x = omega arith in
+    let b : Under N m k (node (x - T .first)) = subst (Under N m k) (ap (T .goal) (sym q) ∙ L .indices (x - T .first)) u in omega (arith, b .0))
+    (split x (T .first))

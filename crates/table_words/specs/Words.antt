@@ -2,14 +2,20 @@
 use mathlib.Core.Path.{_≡_}
 use mathlib.Core.List.{List}
 use Prim.Native.Nat.{ℕ, _+_, _*_, _≤_, _<_}
+use lib.Dec.{eqb}
 use lib.ListN.{length, getD}
-use Rattle.promises.specs.Words.{head, capacity}
+use Rattle.promises.specs.Words.{head, capacity, pick}
+use Rattle.promises.specs.CostWords.{goes}
 
 abbrev pub kind : List ℕ → ℕ
 kind w = head w 0
 
 abbrev pub listed : List ℕ → ℕ → ℕ
 listed l v = getD l v 0
+
+-- the word of branch v of a body, where branch words below `first` end and the others say nodes (1: half words, else whole ones)
+abbrev pub wayOf : ℕ → (ℕ → ℕ) → ℕ → ℕ
+wayOf first f v = pick (eqb first 1) (goes f v) (f v)
 
 -- ---- frames
 -- w′ is w but for its near records, their chains and their count

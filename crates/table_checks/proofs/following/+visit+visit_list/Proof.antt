@@ -13,9 +13,9 @@ use Rattle.table_checks.proofs.following.+visit+visit_list.Lts-visit as
 use Rattle.table_checks.proofs.following.visit_list.Reads as visit-list
 use Rattle.table_checks.proofs.following.visit_list.Kinds as visit-list-kinds
 use Rattle.table_checks.proofs.following.+visit+visit_list.Lts-visit_list as visit-list-lts
-use Rattle.table_checks.proofs.following.way_word.Reads as way-word-reads
 use Rattle.table_words.proofs.size_word.Reads as size-word-reads
 use Rattle.table_words.proofs.record_word.Reads as record-word-reads
+use Rattle.table_words.proofs.way_word.Reads as way-word-reads
 use Rattle.table_words.proofs.wide.Reads as wide-reads
 use Rattle.table_checks.proofs.following.+visit+visit_list.{statement}
 use Rattle.table_checks.proofs.following.+visit+visit_list.Tie.{close}

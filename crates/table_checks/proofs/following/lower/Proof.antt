@@ -1,5 +1,5 @@
 -- `table_checks::following::lower` meets its contract: each branch passed sits below the node. Assumes nothing.
-use Rattle.table_checks.specs.Walk.{wayOf}
+use Rattle.table_words.specs.Words.{wayOf}
 use Rattle.settings.proofs.Answers.{granted, denied}
 use borrow.Author.Count.{below-more}
 use native.Mathlib.Omega.{arith}

@@ -1,10 +1,10 @@
--- `table_checks::following::way_word` meets its contract: a half of a body word, or a whole one. Assumes nothing.
-use Rattle.table_checks.proofs.Walking.{way-half, way-whole}
+-- `table_words::way_word` meets its contract: a half of a body word, or a whole one. Assumes nothing.
+use Rattle.table_words.proofs.Halves.{way-half, way-whole}
 use Prim.Native.Nat.{ℕ}
 use mathlib.Core.Path.{sym, ap, _∙_}
 use borrow.Author.Needs.{needs}
-use Rattle.table_checks.proofs.following.way_word.Statement.{statement}
-use Rattle.table_checks.proofs.following.way_word.Tie as tie
+use Rattle.table_words.proofs.way_word.Statement.{statement}
+use Rattle.table_words.proofs.way_word.Tie as tie
 use Rattle.promises.specs.CostWords.{half}
 use Rattle.promises.specs.Words.{body}
 

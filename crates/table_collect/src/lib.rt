@@ -1,0 +1,76 @@
+// The collector for every kind: only the nodes that the roots reach stay, numbered as building the functions of the places in turn numbers them.
+// `first` tells the kind: branch words below it end, the others say nodes.
+use table_sweep::add_copy;
+use table_sweep::bring_back;
+use table_sweep::clear_heads;
+use table_sweep::relink;
+use table_words::HALVES;
+use table_words::bucket_word;
+use table_words::head_word;
+use table_words::narrow;
+use table_words::record_word;
+use table_words::way_word;
+use table_words::wide;
+use table_words::width;
+use table_words::with_half;
+ghost use mathlib.Core.Path.{_≡_};
+ghost use Prim.Native.Nat.{_+_, _*_, _≤_, _<_};
+ghost use lib.ListN.{length};
+ghost use Rattle.table_words.specs.Words.{listed};
+ghost use Rattle.table_collect.specs.Walk.{Laid, Open, Lawful, Done, Moves, Swept};
+ghost use Rattle.promises.specs.Words.{count, body};
+
+// Branch v laid into a body: it has the word r, and adds what branch v of node i adds.
+fn lay_branch(t: &[u32], first: u32, i: usize, v: usize, r: u32, list: &mut [u32; 12])
+    requires { ⌜ (8192 + 16 * i + 16 ≤ length (now t)) × (i < 8192) × (v < 8) × (first ≡ 1 → r < 65536) × (length (now list) ≡ 12) ⌝ }
+    ensures { λ _. ⌜ (Laid first (body (now (t .entry)) i) (listed (now (list .entry))) (listed (now (list .exit))) v r) × (length (now (list .exit)) ≡ 12) ⌝ }
+{
+    if first == HALVES {
+        list[v / 2] = with_half(list[v / 2], v, r);
+        list[4 + v] = record_word(t, i, 5 + v);
+        return;
+    }
+    list[v] = r;
+}
+
+// The copy of what a branch word goes to, made where there is none: with the copies of its branches in turn, 0 past them.
+fn copy_branch(t: &mut [u32], first: u32, b: u32) -> u32
+    requires { ⌜ (Open first (now t)) × (b < first + count (now t)) ⌝ }
+    ensures { λ r. ⌜ Done first (now (t .entry)) (now (t .exit)) (Moves b r) ⌝ }
+{
+    if b < first {
+        return b;
+    }
+    let i = wide(b - first);
+    let c = bucket_word(t, i);
+    if 0 < c {
+        return first + (c - 1);
+    }
+    let m = width(t, i);
+    let mut list = [0u32; 12];
+    let mut v: usize = 0;
+    while v < m {
+        let x = way_word(t, first, i, v);
+        let r = copy_branch(t, first, x);
+        lay_branch(t, first, i, v, r, &mut list);
+        v += 1;
+    }
+    first + narrow(add_copy(t, i, list))
+}
+
+// Only the nodes that the first n roots reach stay, in the order of the functions built in turn, and they are chained anew.
+pub fn tidy(t: &mut [u32], first: u32, n: usize)
+    requires { ⌜ Lawful first n (now t) ⌝ }
+    ensures { λ _. ⌜ Swept first n (now (t .entry)) (now (t .exit)) ⌝ }
+{
+    clear_heads(t);
+    let mut p: usize = 0;
+    while p < n {
+        let b = head_word(t, 32 + p);
+        let r = copy_branch(t, first, b);
+        t[32 + p] = r;
+        p += 1;
+    }
+    bring_back(t);
+    relink(t);
+}
