@@ -46,7 +46,7 @@ module _ {first : ℕ} {w w′ : List ℕ} (f : Walkable first w) (k : Steady w 
 
 -- ---- the marks: one more, a place set, none
 module _ {first : ℕ} {t : List ℕ} {i : ℕ} (o : Open first t) (h : i < count t) (z : mark t i ≡ 0) where
-  pub spare-of : Spare t i
+  spare-of : Spare t i
   spare-of =
       let f = o .walkable in
       record { room = f .room; most = f .most; there = omega (arith, f .within); free = omega (arith, o .tallied, marked-lt (mark t) (count t) i h z, f .within) }

@@ -23,7 +23,7 @@ use Rattle.promises.specs.Words.{nodesBy, head, word, capacity, size, count, fe
 pub untidy-framed : {K : Kind} {T : Table K} {w : List ℕ} → Untidy T w → Framed T w
 untidy-framed u = record { room = u .room; most = u .most; within = u .within; list = u .list; wf = u .wf; spared = u .spared }
 
-pub full-of : {K : Kind} {T : Table K} {w : List ℕ} → Ready T w → Full w
+full-of : {K : Kind} {T : Table K} {w : List ℕ} → Ready T w → Full w
 full-of r = record { room = r .framed .room; most = r .framed .most; within = r .framed .within; fewer = done-small r }
 
 -- ---- the chain heads cleared

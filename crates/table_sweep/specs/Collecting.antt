@@ -1,4 +1,4 @@
--- Contract between layers: what the collector's functions ask and leave while nodes are copied, for every kind. Assumes nothing.
+-- Contract between layers: what a table of any kind is while its nodes are copied, and what copying makes of it, up to the whole collection. Assumes nothing.
 use mathlib.Core.Path.{_≡_}
 use mathlib.Core.List.{List}
 use Prim.Native.Nat.{ℕ, _+_, _*_, _≤_, _<_}
