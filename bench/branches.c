@@ -1,5 +1,6 @@
 /* CASE over more and more branches, of which a feature chooses all or two: the branches are sums of the values with random weights,
-   modulo 3, so that no two have to do with each other. Only the chosen branch matters below that feature. */
+   modulo 3, so that no two have to do with each other. Only the chosen branch matters below that feature. With any argument a line for
+   each CASE, for bench/beside. */
 #include "check.h"
 #include "filling.h"
 #include "lampgrotto.h"
@@ -49,6 +50,7 @@ static void weighted_sum(uint32_t place, uint32_t *seed) {
 static uint32_t places[BRANCHES];
 static branch roots[BRANCHES];
 static size_t count; /* of branches */
+static int alone;    /* nothing beside the library is timed */
 
 static void library(void) { choose(RESULT, CHOICE, places, count); }
 static void plain(void) { sink += plain_case(plain_root(CHOICE), roots, count); }
@@ -61,20 +63,25 @@ static void measure(size_t feature, uint32_t chosen) {
     plain_load(words);
     for (uint32_t j = 0; j < BRANCHES; j++) roots[j] = plain_root(j);
     if (plain_case(plain_root(CHOICE), roots, count) != plain_root(RESULT)) exit(1);
-    double l = best(library) / 1000, p = best(plain) / 1000, t = best(checking) / 1000;
-    printf("| %zu | %zu | %u | %zu | %u | %.0f | %.0f | %.1f |\n", feature, count, chosen, lent_length, nodes_in_use(), l, p, l / (p + t));
+    double l = best(library) / 1000, p = alone ? 0 : best(plain) / 1000, t = alone ? 0 : best(checking) / 1000;
+    if (alone) printf("CASE\t%zu: %u of %zu, %zu\t%.1f\n", feature, chosen, count, lent_length, l * 1000);
+    else printf("| %zu | %zu | %u | %zu | %u | %.0f | %.0f | %.1f |\n", feature, count, chosen, lent_length, nodes_in_use(), l, p, l / (p + t));
     fflush(stdout);
     taken(lampgrotto_constant(words, length, RESULT, 0));
 }
 
-int main(void) {
+int main(int words_given, char **given) {
     uint32_t seed = 7;
+    (void)given;
+    alone = words_given > 1;
     length = LAMPGROTTO_WORDS(CAPACITY);
     memset(features, 8, sizeof features);
     taken(lampgrotto_open(words, length, features, 16, CAPACITY));
     for (uint32_t j = 0; j < BRANCHES; j++) weighted_sum(places[j] = j, &seed);
-    printf("| feature | branches | chosen | scratch words | nodes in use | CASE us | plain C us | times plain C with the table's test |\n");
-    printf("|---|---|---|---|---|---|---|---|\n");
+    if (!alone) {
+        printf("| feature | branches | chosen | scratch words | nodes in use | CASE us | plain C us | times plain C with the table's test |\n");
+        printf("|---|---|---|---|---|---|---|---|\n");
+    }
     for (count = 2; count <= 8; count += 2) measure(0, (uint32_t)count);
     for (count = 2; count <= 5; count++) measure(15, (uint32_t)count);
     for (count = 3; count <= 6; count++) measure(15, 2);

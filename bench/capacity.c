@@ -1,4 +1,5 @@
-/* Look up and constant of a rule table, empty and full, against a loop that sums the same words. */
+/* Look up and constant of a rule table, empty and full, against a loop that sums the same words. With any argument a line for each call
+   and table, for bench/beside. */
 #include "filling.h"
 #include "lampgrotto.h"
 #include "timing.h"
@@ -16,15 +17,18 @@ static void looking(void) {
 
 static void writing(void) { sink += lampgrotto_constant(words, length, 31, turn++ % 65536); }
 
-int main(void) {
+int main(int words_given, char **given) {
     static const size_t capacities[] = {16, 256, 4096};
-    printf("| capacity | nodes | words | sum ns | look up ns | ratio | constant ns | ratio |\n|---|---|---|---|---|---|---|---|\n");
+    int alone = words_given > 1;
+    (void)given;
+    if (!alone) printf("| capacity | nodes | words | sum ns | look up ns | ratio | constant ns | ratio |\n|---|---|---|---|---|---|---|---|\n");
     for (int c = 0; c < 3; c++)
         for (int full = 0; full < 2; full++) {
             uint32_t nodes = fill_up(8, capacities[c]);
             if (!full && lampgrotto_open(words, length, features, 16, capacities[c])) return 1;
             double s = best(summing), l = best(looking), k = best(writing);
-            printf("| %zu | %u | %zu | %.0f | %.0f | %.1f | %.0f | %.1f |\n", capacities[c], full ? nodes : 0, length, s, l, l / s, k, k / s);
+            if (alone) printf("look up\t%zu, %s\t%.1f\nconstant\t%zu, %s\t%.1f\n", capacities[c], full ? "full" : "empty", l, capacities[c], full ? "full" : "empty", k);
+            else printf("| %zu | %u | %zu | %.0f | %.0f | %.1f | %.0f | %.1f |\n", capacities[c], full ? nodes : 0, length, s, l, l / s, k, k / s);
             fflush(stdout);
         }
     return 0;

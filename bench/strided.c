@@ -1,6 +1,7 @@
 /* Apply on rules whose nodes are numbered in strides: how often it works a pair out, by how the entry of a remembered result is chosen.
    The walk is made again here over the table's words, in the way before and in the library's; that its entries are those that the library
-   leaves in its scratch is compared, so that its steps are the library's. Before that, how evenly operands in strides choose their entries. */
+   leaves in its scratch is compared, so that its steps are the library's. Before that, how evenly operands in strides choose their entries.
+   With any argument the library is timed alone, a line for each row, for bench/beside. */
 #include "filling.h"
 #include "lampgrotto.h"
 #include "laying.h"
@@ -153,7 +154,10 @@ static void compare(void) {
         if (memcmp(entries[i], scratch + ENTRY * i, sizeof *entries)) exit(1);
 }
 
-static void row(size_t capacity, uint32_t first, uint32_t second, uint32_t a, uint32_t b) {
+static int alone;
+
+/* the two rules, and their smaller */
+static void lay(size_t capacity, uint32_t first, uint32_t second, uint32_t a, uint32_t b) {
     length = LAMPGROTTO_WORDS(capacity);
     scratch_length = 16 * capacity;
     slots = (uint32_t)(scratch_length / ENTRY);
@@ -163,6 +167,14 @@ static void row(size_t capacity, uint32_t first, uint32_t second, uint32_t a, ui
     read_counter(0, first, a, 0);
     read_counter(1, second, b, 7);
     applying();
+}
+
+static void row(size_t capacity, uint32_t first, uint32_t second, uint32_t a, uint32_t b) {
+    lay(capacity, first, second, a, b);
+    if (alone) {
+        printf("apply\t%u and %u, %u and %u, %zu\t%.1f\n", a, b, first, second, capacity, best(applying));
+        return;
+    }
     uint64_t earlier = steps_by(&before), steps_now = steps_by(&library);
     applying();
     compare();
@@ -172,11 +184,17 @@ static void row(size_t capacity, uint32_t first, uint32_t second, uint32_t a, ui
     fflush(stdout);
 }
 
-int main(void) {
+static void spreads(void) {
     printf("| entries | 512 | 1489 | 2978 | 5957 |\n|---|---|---|---|---|\n");
     spread("before", &before);
     spread("now", &library);
     printf("\n| strides | counts | nodes in use | entries | pairs | steps before | steps | apply us |\n|---|---|---|---|---|---|---|---|\n");
+}
+
+int main(int words_given, char **given) {
+    (void)given;
+    alone = words_given > 1;
+    if (!alone) spreads();
     row(4096, 20, 17, 1, 1);
     row(4096, 20, 17, 7, 13);
     row(4096, 20, 17, 11, 11);

@@ -1,4 +1,4 @@
-pub mod Summing
+pub mod Gathering
 pub mod Framing
 pub mod Chaining
 pub mod Sitting

@@ -26,18 +26,18 @@ use table_words::wide;
 ghost use Rattle.promises.specs.Words.{features, count, Zeros};
 ghost use Rattle.promises.specs.Sound.{Sizes, Header, Same, Alone, Linked, Chained, Sits};
 
-// Whether the words from a to b are 0: they are exactly if their sum is. No early exit, so that the loop can be vectorised.
+// Whether the words from a to b are 0: they are exactly if no bit is set in any. No early exit, so that the loop can be vectorised.
 pub fn zeros(t: &[u32], a: usize, b: usize) -> bool
-    requires { ⌜ (b ≤ length (now t)) × (b ≤ 4294967296) ⌝ }
+    requires { ⌜ b ≤ length (now t) ⌝ }
     ensures { λ r. ⌜ Tells r (Zeros (now (t .entry)) a b) ⌝ }
 {
-    let mut sum: u64 = 0;
+    let mut bits: u32 = 0;
     let mut j = a;
     while j < b {
-        sum += t[j] as u64;
+        bits |= t[j];
         j += 1;
     }
-    sum == 0
+    bits == 0
 }
 
 // Whether each size is from 2 to 8.

@@ -6,13 +6,13 @@ use Rattle.rule_sound.proofs.rest_zero.Statement.{statement}
 use Rattle.rule_sound.proofs.rest_zero.Tie as tie
 
 zeros-requires : tie.Need-zeros-requires
-zeros-requires c κs = let p = c .before .pre in (omega (arith, p .0 .room, p .0 .within), omega (arith, p .0 .most, p .0 .within))
+zeros-requires c κs = let p = c .before .pre in omega (arith, p .0 .room, p .0 .within)
 
 returns : tie.Need-returns
 returns c = λ z. denied (c .before .zeros .result) (c .if1 .taken) (c .before .zeros .ensures) (z .0)
 
 zeros-requires-2 : tie.Need-zeros-requires-2
-zeros-requires-2 c κs = let p = c .before .before .before .pre in (omega (arith, p .0 .room, p .0 .within), omega (arith, p .0 .most, p .0 .within))
+zeros-requires-2 c κs = let p = c .before .before .before .pre in omega (arith, p .0 .room, p .0 .within)
 
 returns-2 : tie.Need-returns-2
 returns-2 c = retell (c .zeros2 .result) (λ q. (granted (c .before .before .zeros .result) (c .before .if1 .left) (c .before .before .zeros .ensures), q)) (λ z. z .1) (c .zeros2 .ensures)

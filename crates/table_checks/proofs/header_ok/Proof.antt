@@ -22,7 +22,7 @@ features-word-requires c κs =
 zeros-requires : tie.Need-zeros-requires
 zeros-requires c κs =
     let f = granted (c .before .before .before .before .before .front-ok .result) (c .before .before .before .before .if1 .left)
-    (c .before .before .before .before .before .front-ok .ensures) in (omega (arith, f .room), omega arith)
+    (c .before .before .before .before .before .front-ok .ensures) in omega (arith, f .room)
 
 returns-3 : tie.Need-returns-3
 returns-3 c = λ z. denied ((c .before .zeros) .result) ((c .if3) .taken) ((c .before .zeros) .ensures) (record { zeros = λ j h g. z .past .zeros j (omega arith) g })
@@ -30,7 +30,7 @@ returns-3 c = λ z. denied ((c .before .zeros) .result) ((c .if3) .taken) ((c .b
 zeros-requires-2 : tie.Need-zeros-requires-2
 zeros-requires-2 c κs =
     let c6 = c .before .before .before .before .before .before in let c7 = c6 .before in
-    let f = granted (c7 .front-ok .result) (c6 .if1 .left) (c7 .front-ok .ensures) in (omega (arith, f .room), omega arith)
+    let f = granted (c7 .front-ok .result) (c6 .if1 .left) (c7 .front-ok .ensures) in omega (arith, f .room)
 
 returns-4 : tie.Need-returns-4
 returns-4 c = λ z. denied ((c .before .zeros2) .result) ((c .if4) .taken) ((c .before .zeros2) .ensures) (z .shares)
@@ -38,7 +38,7 @@ returns-4 c = λ z. denied ((c .before .zeros2) .result) ((c .if4) .taken) ((c .
 zeros-requires-3 : tie.Need-zeros-requires-3
 zeros-requires-3 c κs =
     let c8 = c .before .before .before .before .before .before .before .before in let c9 = c8 .before in
-    let f = granted (c9 .front-ok .result) (c8 .if1 .left) (c9 .front-ok .ensures) in (omega (arith, f .room), omega arith)
+    let f = granted (c9 .front-ok .result) (c8 .if1 .left) (c9 .front-ok .ensures) in omega (arith, f .room)
 
 returns-5 : tie.Need-returns-5
 returns-5 c = λ z. denied ((c .before .zeros3) .result) ((c .if5) .taken) ((c .before .zeros3) .ensures) (z .middle)
@@ -56,7 +56,7 @@ capacity-word-requires c κs =
 zeros-requires-4 : tie.Need-zeros-requires-4
 zeros-requires-4 c κs =
     let c14 = c .before .before .before .before .before .before .before .before .before .before .before .before .before .before in let c15 = c14 .before in
-    let f = granted (c15 .front-ok .result) (c14 .if1 .left) (c15 .front-ok .ensures) in (omega (arith, f .room), omega (arith, f .most))
+    let f = granted (c15 .front-ok .result) (c14 .if1 .left) (c15 .front-ok .ensures) in omega (arith, f .room)
 
 returns-6 : tie.Need-returns-6
 returns-6 c = let f =
