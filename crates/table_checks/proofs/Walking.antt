@@ -1,5 +1,6 @@
 -- The soundness test's walk, step by step, over the shape of a table: a branch, the branches of a node, the roots. Assumes nothing.
 use mathlib.Core.Path.{_≡_, refl, sym, ap, subst, _∙_}
+use mathlib.Core.Logic.{⊎-elim}
 use mathlib.Core.List.{List}
 use mathlib.Core.Option.{Option, none, some}
 use Prim.Native.Nat.{ℕ, zero, suc, _+_, _-_, _≤_, _<_}
@@ -19,7 +20,7 @@ use Rattle.theory.proofs.Scanning.{scan-leaf, scan-known, scan-done, scan-close
 use Rattle.theory.proofs.WellFormed.{under-weaken}
 use Rattle.table_words.specs.Words.{wayOf}
 use Rattle.table_words.proofs.Reading.{length-nodesBy, at-nodesBy}
-use Rattle.table_words.proofs.Tab.{tab-none, tab-snoc}
+use Rattle.table_words.proofs.Tab.{split, tab-none, tab-snoc}
 use Rattle.table_words.proofs.Words.{length-sizes}
 use Rattle.settings.specs.Tells.{Tells}
 use Rattle.settings.proofs.Answers.{tells-eqb}
@@ -119,6 +120,11 @@ module _ (first : ℕ) (w : List ℕ) where
         (s .visits (suc (at N i .feature)) (subst (λ (k : ℕ). Good first w k b)
         (add-one (feature w i) ∙ ap suc (sym (ap (λ (x : Node rules). x .feature) (at-nodesBy (shapeArm first) w i h))))
         (sits-good i (feature w i + 1) b (omega arith) sits-there)))
+
+  -- a branch word below the nodes done ends, or its node is among them
+  pub visits-passed : (f : Formed first w) {b c : ℕ} → b < first + c → c ≤ count w → Visits first w b c c
+  visits-passed f {b} {c} l hc =
+      ⊎-elim (λ h. visits-end h hc) (λ h. visits-done f b c (b - first) (omega (arith, h)) (omega (arith, h)) (omega (arith, h)) hc) (split b first)
 
 -- ---- branches in turn: the first v are walked from c, and d nodes are done
 module _ {K : Kind} where

@@ -69,7 +69,8 @@ fn visit(t: &[u32], first: u32, b: u32, c: usize) -> usize
     LOST
 }
 
-// The same over the branches of node i in turn. A lost walk stops at once, so each node's branches are walked once.
+// The same over the branches of node i in turn; one that ends or whose node is done needs no call. A lost walk stops at once, so each node's
+// branches are walked once.
 fn visit_list(t: &[u32], first: u32, i: usize, c: usize) -> usize
     requires { ⌜ (Formed first (now t)) × (i < count (now t)) × (c ≤ count (now t)) ⌝ }
     ensures { λ r. ⌜ VisitsAll first (now (t .entry)) i c r ⌝ }
@@ -78,9 +79,12 @@ fn visit_list(t: &[u32], first: u32, i: usize, c: usize) -> usize
     let mut d = c;
     let mut v: usize = 0;
     while v < s {
-        d = visit(t, first, way_word(t, first, i, v), d);
-        if NODES < d {
-            return LOST;
+        let b = way_word(t, first, i, v);
+        if wide(first) + d <= wide(b) {
+            d = visit(t, first, b, d);
+            if NODES < d {
+                return LOST;
+            }
         }
         v += 1;
     }

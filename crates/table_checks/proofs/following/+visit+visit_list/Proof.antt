@@ -1,9 +1,10 @@
 -- `visit` and `visit_list` of `table_checks::following` meet their contracts: the branches passed are walked; a branch word is smaller than that of the node which has it. Assumes nothing.
-use Rattle.table_checks.specs.Walk.{scan-below, shapeArm}
-use Rattle.table_checks.proofs.Walking.{visits-end, visits-done, visits-close, visits-lost, Walk, walk-none, walk-more, walk-lost, visits-all, visits-none, sits-branch, says-branch}
+use Rattle.table_checks.specs.Walk.{Visits, scan-below, shapeArm}
+use Rattle.table_checks.proofs.Walking.{visits-end, visits-done, visits-close, visits-lost, Walk, walk-none, walk-more, walk-lost, visits-all, visits-none, visits-passed, sits-branch, says-branch}
 use native.Mathlib.Omega.{arith}
 use Prim.Native.Nat.{ℕ, _+_, _-_, _*_, _≤_, _<_}
-use mathlib.Core.Path.{_≡_, ap, _∙_}
+use mathlib.Core.Path.{_≡_, ap, subst, sym, _∙_}
+use mathlib.Core.Logic.{⊎-elim}
 use borrow.Author.Needs.{needs}
 use borrow.Fn.Kinds.{In}
 use borrow.Fn.PlainCycle.{Measures, is, falls, and}
@@ -109,25 +110,31 @@ visit-list-way-word-requires t c κs = let p = (c .before .before .before .befor
     (omega (arith, h .room, h .within, h .fit .large _ k .1), omega (arith, h .most, h .within), omega (arith, h .fit .large _ k .1))
 
 visit-list-visit-requires : (t : ℕ) → visit-list-lts.Need-visit-requires (visit-list-claims t) (visit-list-at t) visit-list.Post visit-list-Inv-loop visit-list-μ-loop
-visit-list-visit-requires t c κs = let p = (c .before .before .before .before .before .before .before .before) .pre .1 in let l = (c .before .before .loop) in
-    let s = sits-branch _ _ (p .0) _ (l .v) (p .1) (omega arith) ((c .way-word) .ensures) in
+visit-list-visit-requires t c κs =
+    let c4 = c .before .before .before .before in let p = c4 .before .before .before .before .before .before .before .pre .1 in let l = c4 .before .loop in
+    let s = sits-branch _ _ (p .0) _ (l .v) (p .1) (omega arith) (c .before .before .before .way-word .ensures) in
     (omega (arith, s .1), (p .0, s .0, l .inv .2 .top))
 
 visit-list-returns : (t : ℕ) → visit-list-lts.Need-returns (visit-list-claims t) (visit-list-at t) visit-list.Post visit-list-Inv-loop visit-list-μ-loop
 visit-list-returns t c =
-    let c10 = c .before .before .before .before .before .before .before .before .before .before in
-    let p = c10 .pre .1 in let l = c .before .before .before .before .loop in
+    let c6 = c .before .before .before .before .before .before in
+    let p = c6 .before .before .before .before .before .before .before .pre .1 in let l = c6 .before .loop in
     visits-none (walk-lost (c .before .visit .result) (l .inv .2) (says-branch _ _ (p .0) _ (l .v) (p .1) (omega arith)
-    (c .before .before .way-word .ensures) (c .before .visit .ensures)) (omega (arith, p .0 .header .within, p .0 .header .most)) _ (omega arith) (c .if1 .taken))
+    (c .before .before .before .before .before .way-word .ensures) (c .before .visit .ensures)) (omega (arith, p .0 .header .within, p .0 .header .most)) _ (omega arith) (c .if2 .taken))
 
 visit-list-loop-again : (t : ℕ) → visit-list-lts.Need-loop-again (visit-list-claims t) (visit-list-at t) visit-list.Post visit-list-Inv-loop visit-list-μ-loop
 visit-list-loop-again t c =
-    let c10 = c .before .before .before .before .before .before .before .before .before .before in
-    let p = c10 .pre .1 in let l = c .before .before .before .before .loop in (
+    let c4 = c .before .before .before .before in let p = c4 .before .before .before .before .before .before .before .pre .1 in let l = c4 .before .loop in
+    let b = c .before .before .before .way-word .result in let w = c4 .before .before .before .before .before .before .before .args .t .now in
+    let first = c4 .before .before .before .before .before .before .before .args .first in
+    let went : (Visits first w b (l .d) (c .if1 .d)) × (c .if1 .d ≤ 4096) =
+    ⊎-elim (λ q. (subst (Visits first w b (l .d)) (sym (q .3)) (q .1 .ensures), omega (arith, q .3, q .2 .left)))
+    (λ q. (subst (Visits first w b (l .d)) (sym (q .1)) (visits-passed _ _ (p .0) (omega (arith, q .0 .left)) (l .inv .2 .top)), omega (arith, q .1, l .inv .2 .top, p .0 .header .within, p .0 .header .most)))
+    (c .if1 .came) in (
       l .inv .0,
       omega arith,
-      walk-more (c .before .visit .result) (l .inv .2) (says-branch _ _ (p .0) _ (l .v) (p .1) (omega arith)
-          (c .before .before .way-word .ensures) (c .before .visit .ensures)) (omega (arith, p .0 .header .within, p .0 .header .most)) (omega arith),
+      walk-more (c .if1 .d) (l .inv .2) (says-branch _ _ (p .0) _ (l .v) (p .1) (omega arith) (c .before .before .before .way-word .ensures) (went .0))
+          (omega (arith, p .0 .header .within, p .0 .header .most)) (went .1),
     )
 
 visit-list-returns-2 : (t : ℕ) → visit-list-lts.Need-returns-2 (visit-list-claims t) (visit-list-at t) visit-list.Post visit-list-Inv-loop visit-list-μ-loop
@@ -155,6 +162,9 @@ pub +visit+visit-list-spec : {M : Type 1} → statement M
     (λ c κs. search needs)
     (visit-list-loop-holds t)
     (visit-list-way-word-requires t)
+    (λ c κs. search needs)
+    (λ c. search needs)
+    (λ c κs. search needs)
     (visit-list-visit-requires t)
     (visit-list-returns t)
     (λ c. search needs)
