@@ -1,6 +1,7 @@
 -- `visit` and `visit_list` of `table_checks::following` meet their contracts: the branches passed are walked; a branch word is smaller than that of the node which has it. Assumes nothing.
 use Rattle.table_checks.specs.Walk.{Visits, scan-below, shapeArm}
-use Rattle.table_checks.proofs.Walking.{visits-end, visits-done, visits-close, visits-lost, Walk, walk-none, walk-more, walk-lost, visits-all, visits-none, visits-passed, sits-branch, says-branch}
+use Rattle.table_checks.proofs.Walking.{visits-end, visits-done, visits-close, visits-lost, visits-passed, visits-all, visits-none}
+use Rattle.table_checks.proofs.Walking.{Walk, walk-none, walk-more, walk-lost, sits-branch, says-branch}
 use native.Mathlib.Omega.{arith}
 use Prim.Native.Nat.{ℕ, _+_, _-_, _*_, _≤_, _<_}
 use mathlib.Core.Path.{_≡_, ap, subst, sym, _∙_}
@@ -129,7 +130,10 @@ visit-list-loop-again t c =
     let first = c4 .before .before .before .before .before .before .before .args .first in
     let went : (Visits first w b (l .d) (c .if1 .d)) × (c .if1 .d ≤ 4096) =
     ⊎-elim (λ q. (subst (Visits first w b (l .d)) (sym (q .3)) (q .1 .ensures), omega (arith, q .3, q .2 .left)))
-    (λ q. (subst (Visits first w b (l .d)) (sym (q .1)) (visits-passed _ _ (p .0) (omega (arith, q .0 .left)) (l .inv .2 .top)), omega (arith, q .1, l .inv .2 .top, p .0 .header .within, p .0 .header .most)))
+    (λ q. (
+      subst (Visits first w b (l .d)) (sym (q .1)) (visits-passed _ _ (p .0) (omega (arith, q .0 .left)) (l .inv .2 .top)),
+      omega (arith, q .1, l .inv .2 .top, p .0 .header .within, p .0 .header .most),
+    ))
     (c .if1 .came) in (
       l .inv .0,
       omega arith,
