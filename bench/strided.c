@@ -66,7 +66,7 @@ static uint32_t mix(uint32_t h, uint32_t x) {
     return (h ^ h >> 16) * 2654435761u;
 }
 static uint32_t mixed(uint32_t k, uint32_t x, uint32_t y) {
-    return (uint32_t)((uint64_t)mix(mix(mix(SMALLER, k + 1), x), y) * slots >> 32);
+    return (uint32_t)((uint64_t)mix(mix(mix(SMALLER, y), x), k + 1) * slots >> 32);
 }
 
 static struct way {

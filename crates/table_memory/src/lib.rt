@@ -21,16 +21,16 @@ pub enum Memo {
     Unknown,
 }
 
-// The entry to begin at, by the operator and all words of the key.
+// The entry to begin at, by the operator and all words of the key, from the last to the first: a walk knows its operands before the feature that it begins with.
 fn slot_of(slots: usize, o: u32, key: &[u32]) -> usize
     requires { ⌜ 0 < slots ⌝ }
     ensures { λ r. ⌜ r < slots ⌝ }
 {
     let mut h = o;
-    let mut j: usize = 0;
-    while j < key.len() {
+    let mut j = key.len();
+    while 0 < j {
+        j -= 1;
         h = mixed(h, key[j]);
-        j += 1;
     }
     slot_at(h, slots)
 }
