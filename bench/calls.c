@@ -2,12 +2,11 @@
    that program and the call's tests before each call (of the table, for read of the sheet too), and, for yes/no features, with BuDDy.
    With any argument the library is timed alone, a line for each call and size, for bench/beside. */
 #include "check.h"
-#include "filling.h"
-#include "lampgrotto.h"
+#include "columns.h"
 #include "plain.h"
+#include "rule_jobs.h"
 #include "timing.h"
 #include <stdio.h>
-#include <stdlib.h>
 #include <string.h>
 #ifndef SIZE
 #define SIZE 8 /* of each of the sixteen features; BUDDY asks for 2 */
@@ -17,37 +16,10 @@
 extern void bdd_operator_reset(void); /* forgets remembered results, which a library call does not keep either */
 #endif
 
-static struct calls at;
-static uint32_t out[17];
-static uint8_t setting[16];
-static uint8_t sheet[102428], plain_sheet[102428]; /* of the largest rule, as each writes it */
-static size_t sheet_length;
-
-static void expect(int holds, const char *what) {
-    if (holds) return;
-    printf("%s: wrong\n", what);
-    exit(1);
-}
-
-/* ---- the library */
-static void library_look_up(void) { sink += lampgrotto_rule_look_up(words, length, at.largest, setting, 16, out, 2); }
-static void library_constant(void) { sink += lampgrotto_constant(words, length, CONSTANT, 7); }
-static void library_apply(void) { sink += lampgrotto_apply(words, length, scratch, scratch_length, APPLIED, DIFFER, at.apply_a, at.apply_b); }
-static void library_case(void) {
-    uint32_t branches[2] = {(uint32_t)at.case_a, (uint32_t)at.case_b};
-    sink += lampgrotto_case(words, length, scratch, scratch_length, CHOSEN, SELECTOR, branches, 2);
-}
-static void library_forget(void) { sink += lampgrotto_forget(words, length, scratch, scratch_length, FORGOTTEN, at.forget, at.forget_f); }
-static void library_restrict(void) { sink += lampgrotto_restrict(words, length, RESTRICTED, at.restrict_, at.restrict_f, 1); }
-static void library_count(void) { sink += lampgrotto_count(words, length, at.largest, 1, out, 2); }
-static void library_next(void) { sink += lampgrotto_next(words, length, at.largest, 1, setting, 16, out, 16); }
-static void library_write(void) { sink += lampgrotto_write(words, length, at.largest, sheet, sizeof sheet, out, 1); }
-static void library_read(void) { sink += lampgrotto_read(words, length, READ, sheet, sheet_length); }
-
 /* ---- the plain program */
 static branch result;
 static uint64_t number;
-static uint8_t found[16];
+static uint8_t found[16], plain_sheet[102428]; /* as the plain program writes it */
 
 static void plain_looking(void) { sink += number = plain_look_up(plain_root(at.largest), setting); }
 static void plain_constant(void) { sink += result = 2 * 7 + 1; }
@@ -142,7 +114,7 @@ static const struct job jobs[] = {
     {"write", library_write, plain_writing, NULL, 0},
     {"read", library_read, plain_reading, NULL, READ},
 };
-enum { JOBS = sizeof jobs / sizeof *jobs, SIZES = 5 };
+enum { JOBS = sizeof jobs / sizeof *jobs };
 
 /* the number that the library has just laid: the setting of next is compared by itself */
 static uint64_t laid(const struct job *j) { return j->library == library_count ? out[0] + ((uint64_t)out[1] << 32) : out[0]; }
@@ -171,24 +143,14 @@ static double times[JOBS][SIZES], plains[JOBS][SIZES], tested[JOBS][SIZES], chec
 #ifdef BUDDY
 static double buddies[JOBS][SIZES];
 #endif
-static uint32_t in_use[SIZES], in_sheet[SIZES];
+static uint32_t in_sheet[SIZES];
 static int alone; /* nothing beside the library is timed */
 
 static void summing(void) { sum_words(words, length); }
 
-/* the largest rule has its sheet, and READ what is read of that: no call adds a node from here on */
-static void write_and_read(int column) {
-    expect(!lampgrotto_write(words, length, at.largest, sheet, sizeof sheet, out, 1), "write");
-    sheet_length = out[0];
-    expect(!lampgrotto_read(words, length, READ, sheet, sheet_length), "read");
-    in_sheet[column] = sheet[21] * 256u + sheet[22];
-}
-
 static void measure(uint8_t size, size_t capacity, int column) {
-    in_use[column] = fill(size, capacity, &at);
-    expect(!lampgrotto_constant(words, length, CONSTANT, 7), "constant");
-    for (int k = 0; k < 16; k++) setting[k] = (5 * k + 3) % size;
-    write_and_read(column);
+    in_use[column] = prepare(size, capacity);
+    in_sheet[column] = sheet[21] * 256u + sheet[22];
     expect(table_is_sound(words, length) && sheet_is_good(sheet, sheet_length), "the plain tests");
     plain_load(words);
     for (int j = 0; alone && j < JOBS; j++) times[j][column] = best(jobs[j].library);
@@ -214,22 +176,6 @@ static void measure(uint8_t size, size_t capacity, int column) {
 #endif
 }
 
-static void heading(const char *what) {
-    printf("\n%s\n\n| nodes in use |", what);
-    for (int c = 0; c < SIZES; c++) printf(" %u |", in_use[c]);
-    printf("\n|---|---|---|---|---|---|\n");
-}
-
-/* a row of times over those of the unit, or in microseconds where that is null */
-static void row(const char *name, const double *time, const double *unit) {
-    printf("| %s |", name);
-    for (int c = 0; c < SIZES; c++) {
-        double x = time[c] / (unit ? unit[c] : 1000);
-        printf(x < 100 ? " %.1f |" : " %.0f |", x);
-    }
-    printf("\n");
-}
-
 static void tables(void) {
     heading("Microseconds for one call:");
     for (int j = 0; j < JOBS; j++) row(jobs[j].name, times[j], NULL);
@@ -251,18 +197,11 @@ static void tables(void) {
 #endif
 }
 
-/* a line for each call and size: the call, the nodes in use, nanoseconds */
-static void lines(void) {
-    for (int j = 0; j < JOBS; j++)
-        for (int c = 0; c < SIZES; c++) printf("%s\t%u\t%.1f\n", jobs[j].name, in_use[c], times[j][c]);
-}
-
 int main(int words_given, char **given) {
-    static const size_t capacities[SIZES] = {16, 64, 256, 1024, 4096};
     (void)given;
     alone = words_given > 1;
     for (int c = 0; c < SIZES; c++) measure(SIZE, capacities[c], c);
-    if (alone) lines();
-    else tables();
+    for (int j = 0; alone && j < JOBS; j++) lines(jobs[j].name, times[j]);
+    if (!alone) tables();
     return 0;
 }

@@ -3,17 +3,18 @@
 
 /* ---- a table */
 static int zeros(const uint32_t *t, size_t from, size_t to) {
-    uint64_t sum = 0;
-    for (size_t j = from; j < to; j++) sum += t[j];
-    return sum == 0;
+    uint32_t bits = 0;
+    for (size_t j = from; j < to; j++) bits |= t[j];
+    return bits == 0;
 }
 
-static int header_is_good(const uint32_t *t, size_t length) {
-    if (length < 8192 || t[0] != 1 || t[1] < 1 || t[1] > 4096 || length < 8192 + 32 * (size_t)t[1]) return 0;
+static int header_is_good(const uint32_t *t, size_t length, uint32_t kind) {
+    if (length < 8192 || t[0] != kind || t[1] < 1 || t[1] > 4096 || length < 8192 + 32 * (size_t)t[1]) return 0;
     if (t[2] < 1 || t[2] > 16 || t[19] > t[1]) return 0;
     for (uint32_t k = 0; k < t[2]; k++)
         if (t[3 + k] < 2 || t[3 + k] > 8) return 0;
-    return zeros(t, 3 + t[2], 19) && zeros(t, 20, 32) && zeros(t, 64, 4096) && zeros(t, 8192 + 16 * (size_t)t[19], 8192 + 32 * (size_t)t[1]);
+    return zeros(t, 3 + t[2], 19) && zeros(t, 20, 32) && zeros(t, 64, 4096) &&
+           zeros(t, 8192 + 16 * (size_t)t[19], 8192 + 32 * (size_t)t[1]);
 }
 
 static const uint32_t *record(const uint32_t *t, uint32_t i) { return t + 8192 + 16 * (size_t)i; }
@@ -58,13 +59,61 @@ static int walk(const uint32_t *t, uint32_t b, uint32_t *met) {
 }
 
 int table_is_sound(const uint32_t *t, size_t length) {
-    if (!header_is_good(t, length)) return 0;
+    if (!header_is_good(t, length, 1)) return 0;
     for (uint32_t i = 0; i < t[19]; i++)
         if (!node_is_good(t, i)) return 0;
     if (!chains_are_good(t)) return 0;
     uint32_t met = 0;
     for (int p = 0; p < 32; p++)
         if (t[32 + p] >= 65536 + t[19] || !walk(t, t[32 + p], &met)) return 0;
+    return met == t[19];
+}
+
+/* ---- a cost table: target words are halves of words, 0 for the end; a word stands for the integer that is ZERO less */
+static const uint32_t ZERO = 2147483648u;
+
+static uint32_t target(const uint32_t *r, uint32_t v) { return r[1 + v / 2] >> 16 * (v % 2) & 65535; }
+static uint64_t low_of(const uint32_t *t, uint32_t x) { return x ? record(t, x - 1)[14] : ZERO; }
+static uint64_t high_of(const uint32_t *t, uint32_t x) { return x ? record(t, x - 1)[15] : ZERO; }
+
+/* the lowest and the highest sum of a node's branches are those that it keeps, within ±2,000,000,000 */
+static int cost_node_is_good(const uint32_t *t, uint32_t i) {
+    const uint32_t *r = record(t, i);
+    if (r[0] >= t[2] || r[5] != ZERO) return 0;
+    uint32_t size = t[3 + r[0]], first = target(r, 0), differ = 0;
+    uint64_t low = UINT64_MAX, high = 0;
+    for (uint32_t v = 0; v < size; v++) {
+        uint32_t x = target(r, v), adds = r[5 + v];
+        if (x > i || (x && record(t, x - 1)[0] <= r[0]) || adds - 147483648 > 4000000000) return 0;
+        differ |= (x ^ first) | (adds ^ ZERO);
+        uint64_t l = adds + low_of(t, x), h = adds + high_of(t, x);
+        if (l < low) low = l;
+        if (h > high) high = h;
+    }
+    for (uint32_t v = size; v < 8; v++)
+        if (target(r, v) || r[5 + v]) return 0;
+    return differ && low >= 2294967296 && high <= 6294967296 && r[14] == low - ZERO && r[15] == high - ZERO;
+}
+
+static int cost_walk(const uint32_t *t, uint32_t x, uint32_t *met) {
+    if (x <= *met) return 1;
+    const uint32_t *r = record(t, x - 1);
+    for (uint32_t v = 0; v < t[3 + r[0]]; v++)
+        if (!cost_walk(t, target(r, v), met)) return 0;
+    return x == ++*met;
+}
+
+int cost_table_is_sound(const uint32_t *t, size_t length) {
+    if (!header_is_good(t, length, 2)) return 0;
+    for (uint32_t i = 0; i < t[19]; i++)
+        if (!cost_node_is_good(t, i)) return 0;
+    if (!chains_are_good(t)) return 0;
+    uint32_t met = 0;
+    for (int p = 0; p < 16; p++) {
+        uint32_t x = t[32 + p];
+        if (x > t[19] || !cost_walk(t, x, &met)) return 0;
+        if (t[48 + p] + low_of(t, x) < 3294967296 || t[48 + p] + high_of(t, x) > 5294967296) return 0;
+    }
     return met == t[19];
 }
 

@@ -1,5 +1,5 @@
-/* C's memset as a plain loop, linked into every program of the benchmark: the library, the plain C and BuDDy clear by it alike. Under the emulator that
-   of the C library goes byte by byte, so that clearing would be most of what a call on a small table takes. */
+/* C's memset as a plain loop, linked into every program of the benchmark: the library, the plain C and BuDDy clear by it alike. Under the
+   emulator that of the C library goes byte by byte, so that clearing would be most of what a call on a small table takes. */
 #include <stddef.h>
 #include <stdint.h>
 #include <string.h>

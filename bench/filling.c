@@ -10,7 +10,7 @@ uint8_t features[16];
 static uint32_t before[139264];
 static uint32_t seed;
 
-static uint32_t chance(uint32_t n) {
+uint32_t chance(uint32_t n) {
     seed ^= seed << 13;
     seed ^= seed >> 17;
     seed ^= seed << 5;
@@ -23,8 +23,8 @@ uint32_t nodes_in_use(void) {
     return out[0];
 }
 
-static void save(void) { memcpy(before, words, length * sizeof *words); }
-static void restore(void) { memcpy(words, before, length * sizeof *words); }
+static void save(const uint32_t *t) { memcpy(before, t, length * sizeof *t); }
+static void restore(uint32_t *t) { memcpy(t, before, length * sizeof *t); }
 
 /* a place joined with a literal, and with another place */
 static void random_call(size_t first, size_t count) {
@@ -35,13 +35,27 @@ static void random_call(size_t first, size_t count) {
     lampgrotto_apply(words, length, scratch, scratch_length, place, DIFFER, place, chance(2) ? 30 : first + chance(count));
 }
 
-/* random rules in some places until the nodes in use are between two numbers, or the turns are over */
-static void grow(size_t first, size_t count, uint32_t least, uint32_t most) {
-    for (int turn = 0; turn < 3000 && nodes_in_use() < least; turn++) {
-        save();
-        random_call(first, count);
-        if (nodes_in_use() > most) restore();
+void grow(const struct filled *f, size_t first, size_t count, uint32_t least, uint32_t most) {
+    for (int turn = 0; turn < 3000 && f->in_use() < least; turn++) {
+        save(f->words);
+        f->random_call(first, count);
+        if (f->in_use() > most) restore(f->words);
     }
+}
+
+void largest_call(const struct filled *f, int which, size_t firsts, size_t seconds, size_t most, size_t *a, size_t *b) {
+    uint32_t found = 0;
+    save(f->words);
+    for (size_t x = 0; x < firsts; x++)
+        for (size_t y = 0; y < seconds; y++) {
+            if (!f->call(which, x, y) && f->in_use() <= most && f->worth((size_t)which) >= found) {
+                found = f->worth((size_t)which);
+                *a = x;
+                *b = y;
+            }
+            restore(f->words);
+        }
+    if (f->call(which, *a, *b)) abort();
 }
 
 static void open_table(uint8_t size, size_t capacity) {
@@ -50,12 +64,6 @@ static void open_table(uint8_t size, size_t capacity) {
     scratch_length = 16 * capacity < SCRATCH ? 16 * capacity : SCRATCH;
     memset(features, size, sizeof features);
     if (lampgrotto_open(words, length, features, 16, capacity)) abort();
-}
-
-uint32_t fill_up(uint8_t size, size_t capacity) {
-    open_table(size, capacity);
-    grow(0, 30, capacity - capacity / 64, capacity);
-    return nodes_in_use();
 }
 
 /* how many nodes the rule of a place has: those below the root word b, with marks */
@@ -68,7 +76,7 @@ static uint32_t below(uint32_t b, uint8_t *seen) {
     return n;
 }
 
-static uint32_t nodes_of(size_t place) {
+uint32_t nodes_of(size_t place) {
     static uint8_t seen[4096];
     memset(seen, 0, sizeof seen);
     return below(words[32 + place], seen);
@@ -76,42 +84,39 @@ static uint32_t nodes_of(size_t place) {
 
 static uint32_t call(int which, size_t a, size_t b) {
     uint32_t branches[2] = {(uint32_t)a, (uint32_t)b};
-    if (which == APPLIED) return lampgrotto_apply(words, length, scratch, scratch_length, APPLIED, DIFFER, a, b);
-    if (which == CHOSEN) return lampgrotto_case(words, length, scratch, scratch_length, CHOSEN, SELECTOR, branches, 2);
     if (which == FORGOTTEN) return lampgrotto_forget(words, length, scratch, scratch_length, FORGOTTEN, a, b);
-    return lampgrotto_restrict(words, length, RESTRICTED, a, b, 1);
+    if (which == RESTRICTED) return lampgrotto_restrict(words, length, RESTRICTED, a, b, 1);
+    if (a == b) return 1;
+    if (which == APPLIED) return lampgrotto_apply(words, length, scratch, scratch_length, APPLIED, DIFFER, a, b);
+    return lampgrotto_case(words, length, scratch, scratch_length, CHOSEN, SELECTOR, branches, 2);
 }
 
-/* makes the call whose result has the most nodes, of those that there is room for */
-static void largest_call(int which, size_t *a, size_t *b) {
-    size_t others = which == FORGOTTEN || which == RESTRICTED ? 16 : 10;
-    uint32_t most = 0;
-    save();
-    for (size_t x = 0; x < 10; x++)
-        for (size_t y = 0; y < others; y++) {
-            if (others == 10 && x == y) continue;
-            if (!call(which, x, y) && nodes_of(which) >= most) {
-                most = nodes_of(which);
-                *a = x;
-                *b = y;
-            }
-            restore();
-        }
-    if (call(which, *a, *b)) abort();
-}
+static const struct filled rules = {words, nodes_in_use, random_call, call, nodes_of};
 
-uint32_t fill(uint8_t size, size_t capacity, struct calls *c) {
+void fill_third(uint8_t size, size_t capacity) {
     uint32_t out[1];
     open_table(size, capacity);
-    memset(c, 0, sizeof *c);
     lampgrotto_literal(words, length, SELECTOR, 7, 2, out, 1);
-    grow(0, 10, capacity / 4, capacity / 3);
-    largest_call(RESTRICTED, &c->restrict_, &c->restrict_f);
-    largest_call(FORGOTTEN, &c->forget, &c->forget_f);
-    largest_call(CHOSEN, &c->case_a, &c->case_b);
-    largest_call(APPLIED, &c->apply_a, &c->apply_b);
-    grow(10, 13, capacity - capacity / 32, capacity);
+    grow(&rules, 0, 10, capacity / 4, capacity / 3);
+}
+
+void fill_rest(size_t capacity) { grow(&rules, 10, 13, capacity - capacity / 32, capacity); }
+
+uint32_t fill(uint8_t size, size_t capacity, struct calls *c) {
+    memset(c, 0, sizeof *c);
+    fill_third(size, capacity);
+    largest_call(&rules, RESTRICTED, 10, 16, capacity, &c->restrict_, &c->restrict_f);
+    largest_call(&rules, FORGOTTEN, 10, 16, capacity, &c->forget, &c->forget_f);
+    largest_call(&rules, CHOSEN, 10, 10, capacity, &c->case_a, &c->case_b);
+    largest_call(&rules, APPLIED, 10, 10, capacity, &c->apply_a, &c->apply_b);
+    fill_rest(capacity);
     for (size_t p = 0; p < 28; p++)
         if (nodes_of(p) > nodes_of(c->largest)) c->largest = p;
+    return nodes_in_use();
+}
+
+uint32_t fill_up(uint8_t size, size_t capacity) {
+    open_table(size, capacity);
+    grow(&rules, 0, 30, capacity - capacity / 64, capacity);
     return nodes_in_use();
 }
