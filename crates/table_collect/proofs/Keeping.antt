@@ -2,7 +2,7 @@
 use mathlib.Core.Path.{_≡_, refl, sym, ap, subst, _∙_}
 use mathlib.Core.Logic.{⊎-elim}
 use mathlib.Core.List.{List}
-use Prim.Native.Nat.{ℕ, suc, _+_, _*_, _≤_, _<_}
+use Prim.Native.Nat.{ℕ, suc, _+_, _-_, _*_, _≤_, _<_}
 use native.Mathlib.Nat.{le-refl}
 use native.Mathlib.Omega.{arith}
 use lib.ListN.{length, set}
@@ -19,7 +19,7 @@ use Rattle.table_sweep.proofs.Collecting.{cleared-steady}
 use Rattle.table_sweep.proofs.Framing.{steady-refl, steady-trans, same-capacity, same-count}
 use Rattle.table_sweep.proofs.Placing.{Replaced, marks, replaced-set, replaced-steady}
 use Rattle.table_sweep.proofs.Writing.{put-marks, put-steady}
-use Rattle.table_collect.specs.Walk.{Laid, Walkable, Open, Rooted, Lawful, Step, Moves, Turns, Roots, Done, ends, found, copied, empty, laid, rootless, rooted}
+use Rattle.table_collect.specs.Walk.{Laid, Walkable, Open, Rooted, Lawful, Step, Moves, Turns, Roots, Done, ends, found, copied, empty, laid, rootless, rooted, Here}
 use Rattle.promises.specs.Words.{head, size, count, feature, body}
 
 -- ---- the nodes stay as they are
@@ -162,6 +162,19 @@ module _ {first : ℕ} where
   moves-small (found w b r i j eb er h m) o = omega (arith, o .marks i h, full-open o .fewer, o .walkable .within, o .walkable .most)
   moves-small (copied b r i eb er h z d p) o = let k = keeps d o in let f = room-for h z k in let s = spare-of (k .open-still) (f .0) (f .1) in omega (arith, s .free, s .most)
 
+  -- a copy that is there, and none
+  pub here-copy : {w : List ℕ} {b r : ℕ} → Open first w → Done first w w (Moves b r) → Here first w b r
+  here-copy o d = record { copy = λ n. d; none = λ e. absurd (omega (arith, moves-small d o, o .walkable .least)) }
+
+  pub here-none : {w : List ℕ} {b : ℕ} (i : ℕ) → b ≡ first + i → mark w i ≡ 0 → Here first w b 4294967295
+  here-none {w} {b} i e z =
+      record { copy = λ n. absurd (n refl); none = λ q. (omega arith, λ j g. let x : j ≡ i = omega arith in ap (mark w) x ∙ z) }
+
+  -- the node that a word without a copy says, copied
+  pub copy-at : {w w′ : List ℕ} {b r j s : ℕ} → Here first w b r → r ≡ 4294967295 → j ≡ b - first → Done first w w′ (Moves (first + j) s) → Done first w w′ (Moves b s)
+  copy-at {w} {w′} {b} {r} {j} {s} h z e d =
+      let g = h .none z in let q : first + j ≡ b = omega (arith, g .0) in subst (λ (y : ℕ). Done first w w′ (Moves y s)) q d
+
   -- the next root ends or goes to a node
   pub root-below : {n p : ℕ} {w t : List ℕ} → Open first w → Rooted first n w → p < n → Done first w t (Roots p) → (Open first t) × (head t (32 + p) < first + count t) × (length t ≡ length w)
   root-below {n} {p} {w} {t} o a h d =
@@ -196,6 +209,12 @@ module _ {first i m v : ℕ} {w t l : List ℕ} (x : Filling first w t i m v l) 
       pub asks : (Open first t) × (b < first + count t)
       asks = (kept .open-still, omega (arith, below, same-count (kept .steady), x .there))
 
+      -- which has no copy: then it is a node that can be copied
+      pub goes : {r : ℕ} → Here first t b r → r ≡ 4294967295 → {j : ℕ} → j ≡ b - first → (j < i) × (Open first t) × (j < count t) × (mark t j ≡ 0)
+      goes q z {j} g =
+          let n = q .none z in
+          (omega (arith, below, n .0), asks .0, omega (arith, asks .1, n .0), n .1 j (omega (arith, n .0)))
+
       module _ {t′ : List ℕ} {r : ℕ} (d : Done first t t′ (Moves b r)) where
         pub lays : (8192 + 16 * i + 16 ≤ length t′) × (i < 8192) × (v < 8) × (first ≡ 1 → r < 65536) × (length l ≡ 12)
         lays = (omega (arith, near .0, keeps d (asks .0) .steady .long), near .1, near .2, λ q. omega (arith, moves-small d (asks .0)), x .long)
@@ -210,5 +229,5 @@ module _ {first i m v : ℕ} {w t l : List ℕ} (x : Filling first w t i m v l) 
   pub spare : Spare t i
   spare = let f = room-for (x .there) (x .none) kept in spare-of (kept .open-still) (f .0) (f .1)
 
-  pub copies : {t′ : List ℕ} {b r : ℕ} → m ≤ v → b ≡ first + i → r ≡ first + done t → Put t t′ i l → Done first w t′ (Moves b r)
-  copies {t′} {b} {r} h eb er p = copied b r i eb er (x .there) (x .none) (subst (λ (n : ℕ). Done first w t (Turns i n l)) (omega (arith, x .upto, x .many)) (x .turns)) p
+  pub copies : {t′ : List ℕ} {r : ℕ} → m ≤ v → r ≡ first + done t → Put t t′ i l → Done first w t′ (Moves (first + i) r)
+  copies {t′} {r} h er p = copied (first + i) r i refl er (x .there) (x .none) (subst (λ (n : ℕ). Done first w t (Turns i n l)) (omega (arith, x .upto, x .many)) (x .turns)) p

@@ -74,6 +74,11 @@ pub data Done (first : ℕ) : List ℕ → List ℕ → Step → Type 0 where
   rootless : (w : List ℕ) → Done first w w (Roots 0)
   rooted : {w t t′ : List ℕ} {p : ℕ} (r : ℕ) → Done first w t (Roots p) → p < 32 → Done first t t′ (Moves (head t (32 + p)) r) → Done first w (set t′ (32 + p) r) (Roots (suc p))
 
+-- the word r of a copy that is there already; no copy has the last word that there is, which says a node without one
+pub record Here (first : ℕ) (w : List ℕ) (b r : ℕ) : Type 0 where
+  pub copy : (r ≡ 4294967295 → ⊥) → Done first w w (Moves b r)
+  pub none : r ≡ 4294967295 → (first ≤ b) × ((i : ℕ) → b ≡ first + i → mark w i ≡ 0)
+
 -- the whole: marks cleared, n roots copied, the copies brought back, chained anew
 pub record Swept (first n : ℕ) (w w′ : List ℕ) : Type 0 where
   pub bare : List ℕ

@@ -17,7 +17,8 @@ ghost use mathlib.Core.Path.{_≡_};
 ghost use Prim.Native.Nat.{_+_, _*_, _≤_, _<_};
 ghost use lib.ListN.{length};
 ghost use Rattle.table_words.specs.Words.{listed};
-ghost use Rattle.table_collect.specs.Walk.{Laid, Open, Lawful, Done, Moves, Swept};
+ghost use Rattle.table_sweep.specs.Marks.{mark};
+ghost use Rattle.table_collect.specs.Walk.{Laid, Open, Lawful, Done, Moves, Here, Swept};
 ghost use Rattle.promises.specs.Words.{count, body};
 
 // Branch v laid into a body: it has the word r, and adds what branch v of node i adds.
@@ -33,29 +34,54 @@ fn lay_branch(t: &[u32], first: u32, i: usize, v: usize, r: u32, list: &mut [u32
     list[v] = r;
 }
 
-// The copy of what a branch word goes to, made where there is none: with the copies of its branches in turn, 0 past them.
-fn copy_branch(t: &mut [u32], first: u32, b: u32) -> u32
+// No branch word: there is no copy yet.
+const LOST: u32 = 4294967295;
+
+// The copy of what a branch word goes to, LOST where a node has none yet.
+fn here(t: &[u32], first: u32, b: u32) -> u32
     requires { ⌜ (Open first (now t)) × (b < first + count (now t)) ⌝ }
-    ensures { λ r. ⌜ Done first (now (t .entry)) (now (t .exit)) (Moves b r) ⌝ }
+    ensures { λ r. ⌜ Here first (now (t .entry)) b r ⌝ }
 {
     if b < first {
         return b;
     }
-    let i = wide(b - first);
-    let c = bucket_word(t, i);
+    let c = bucket_word(t, wide(b - first));
     if 0 < c {
         return first + (c - 1);
     }
+    LOST
+}
+
+// The copy of node i, which has none: with the copies of its branches in turn, 0 past them.
+fn copy_node(t: &mut [u32], first: u32, i: usize) -> u32
+    requires { ⌜ (Open first (now t)) × (i < count (now t)) × (mark (now t) i ≡ 0) ⌝ }
+    ensures { λ r. ⌜ Done first (now (t .entry)) (now (t .exit)) (Moves (first + i) r) ⌝ }
+{
     let m = width(t, i);
     let mut list = [0u32; 12];
     let mut v: usize = 0;
     while v < m {
         let x = way_word(t, first, i, v);
-        let r = copy_branch(t, first, x);
+        let mut r = here(t, first, x);
+        if r == LOST {
+            r = copy_node(t, first, wide(x - first));
+        }
         lay_branch(t, first, i, v, r, &mut list);
         v += 1;
     }
-    first + narrow(add_copy(t, i, list))
+    first + narrow(add_copy(t, i, &list))
+}
+
+// The copy of what a branch word goes to, made where there is none.
+fn copy_branch(t: &mut [u32], first: u32, b: u32) -> u32
+    requires { ⌜ (Open first (now t)) × (b < first + count (now t)) ⌝ }
+    ensures { λ r. ⌜ Done first (now (t .entry)) (now (t .exit)) (Moves b r) ⌝ }
+{
+    let r = here(t, first, b);
+    if r == LOST {
+        return copy_node(t, first, wide(b - first));
+    }
+    r
 }
 
 // Only the nodes that the first n roots reach stay, in the order of the functions built in turn, and they are chained anew.

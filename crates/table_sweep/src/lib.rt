@@ -27,9 +27,9 @@ pub fn clear_heads(t: &mut [u32])
 }
 
 // Writes the next far record: the feature and the spare words of node i, with the list as its body. Answers its number, and marks node i with 1 more.
-pub fn add_copy(t: &mut [u32], i: usize, list: [u32; 12]) -> usize
+pub fn add_copy(t: &mut [u32], i: usize, list: &[u32; 12]) -> usize
     requires { ⌜ Spare (now t) i ⌝ }
-    ensures { λ r. ⌜ (r ≡ done (now (t .entry))) × (Put (now (t .entry)) (now (t .exit)) i list) ⌝ }
+    ensures { λ r. ⌜ (r ≡ done (now (t .entry))) × (Put (now (t .entry)) (now (t .exit)) i (now (list .entry))) ⌝ }
 {
     let m = wide(head_word(t, 31));
     let base = RECORDS + 16 * (wide(capacity_word(t)) + m);

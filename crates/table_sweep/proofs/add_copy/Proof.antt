@@ -19,16 +19,16 @@ abbrev μ-loop : tie.MeasureT-loop
 μ-loop t₀ i list m base x y v₀ t v = 12 - v
 
 slice-write-t-2 : tie.Need-slice-write-t-2 Inv-loop μ-loop
-slice-write-t-2 c = omega (arith, simp length-set at ((c .before .loop) .inv .0))
+slice-write-t-2 c = omega (arith, simp length-set at ((c .before .before .loop) .inv .0))
 
 loop-again : tie.Need-loop-again Inv-loop μ-loop
 loop-again c =
-    let c15 = c .before .before .before .before .before .before .before .before .before .before .before .before .before .before .before in
-    let l = c .before .loop in (
+    let c16 = c .before .before .before .before .before .before .before .before .before .before .before .before .before .before .before .before in
+    let l = c .before .before .loop in (
       simp length-set (simp length-set at (l .inv .0)),
       search needs,
       (λ j h. getD-set-other (l .t) _ j _ 0 (omega arith) ∙ l .inv .2 j h),
-      run-more (l .t) (c15 .args .t3) _ (l .v) (omega (arith, simp length-set at (l .inv .0))) (l .inv .3),
+      run-more (l .t) (c16 .args .list .now) _ (l .v) (omega (arith, simp length-set at (l .inv .0))) (l .inv .3),
       (λ j h. getD-set-other (l .t) _ j _ 0 (omega arith) ∙ l .inv .4 j (omega arith)),
     )
 
@@ -53,7 +53,7 @@ returns c =
     let c17 = c8 .before .before .before .before .before .before .before .before .before in
     let l = c .before .before .before .loop in (
       search needs,
-      put (c17 .args .t .now) (l .t) (c17 .args .t3) _ _ _ _ _ _ _ (omega arith) (c .before .before .before .before .record-word3 .ensures) (c8 .record-word .ensures)
+      put (c17 .args .t .now) (l .t) (c17 .args .list .now) _ _ _ _ _ _ _ (omega arith) (c .before .before .before .before .record-word3 .ensures) (c8 .record-word .ensures)
           (c6 .record-word2 .ensures) (omega arith) (omega arith) (c17 .pre)
           (l .inv .0) (l .inv .2) (λ u h. l .inv .3 u (omega arith)) (λ j h. l .inv .4 j (omega arith)),
     )
