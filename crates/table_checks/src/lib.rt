@@ -163,19 +163,18 @@ pub fn alone(t: &[u32], i: usize) -> bool
     true
 }
 
-// Whether the chain heads are those of the list.
+// Whether the chain heads are those of the list: no bit of any differs. No early exit, so that the loop can be vectorised.
 pub fn heads_ok(t: &[u32], last: &[u32]) -> bool
     requires { ⌜ (8192 ≤ length (now t)) × (length (now last) ≡ 4096) ⌝ }
     ensures { λ r. ⌜ Tells r (Headed (now (t .entry)) (now (last .entry))) ⌝ }
 {
+    let mut bits: u32 = 0;
     let mut h: usize = 0;
     while h < 4096 {
-        if bucket_word(t, h) != last[h] {
-            return false;
-        }
+        bits |= bucket_word(t, h) ^ last[h];
         h += 1;
     }
-    true
+    bits == 0
 }
 
 // Whether the chains are those of the nodes, and no node has a twin.
