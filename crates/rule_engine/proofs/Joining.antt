@@ -1,8 +1,8 @@
--- The walk over several operands: one step, a feature that no operand tests, the forgotten feature, all operands phrases, a shortcut. Assumes nothing.
-use mathlib.Core.Path.{_≡_, refl, sym, ap, _∙_}
+-- The walk over several operands: one step, features that no operand tests, the forgotten feature, all operands phrases, a shortcut. Assumes nothing.
+use mathlib.Core.Path.{_≡_, refl, sym, ap, subst, _∙_}
 use mathlib.Core.Logic.{⊎-elim}
 use mathlib.Core.List.{List, _∷_}
-use Prim.Native.Nat.{ℕ, suc, _+_, _-_, _≤_, _<_}
+use Prim.Native.Nat.{ℕ, zero, suc, _+_, _-_, _≤_, _<_}
 use native.Mathlib.Numerals.{add-one}
 use native.Mathlib.Omega.{arith}
 use lib.ListN.{drop, length-drop}
@@ -26,7 +26,7 @@ use Rattle.rule_nodes.specs.Nodes.{Result, Good, Place, Filling}
 use Rattle.rule_nodes.specs.declared.Answer.{Answer}
 use Rattle.rule_nodes.specs.declared.Answer.the-variants.{Is}
 use Rattle.rule_nodes.proofs.Reading.{good-small}
-use Rattle.rule_nodes.proofs.Stepping.{top-node, top-good, child-skip}
+use Rattle.rule_nodes.proofs.Stepping.{top-node, top-good, good-top, child-skip}
 use Rattle.rule_nodes.proofs.Filling.{gives-eq, result-there, built-skip, built-there, mean-result, filling-ext}
 use Rattle.rule_operators.specs.Operators.{opOf}
 use Rattle.rule_engine.specs.Shortcuts.{Standing, Short}
@@ -93,7 +93,7 @@ operands-next t f n k v l r p h q = record {
 }
 
 -- operands that do not test feature k wait
-pub operands-skip : (w : List ℕ) (f n k m : ℕ) (l : List ℕ) → Operands w f n k l → Lowest w n l m → k < m → Operands w f n (k + 1) l
+operands-skip : (w : List ℕ) (f n k m : ℕ) (l : List ℕ) → Operands w f n k l → Lowest w n l m → k < m → Operands w f n (k + 1) l
 operands-skip w f n k m l p q h = record {
   holds = p .holds;
   two = p .two;
@@ -101,6 +101,20 @@ operands-skip w f n k m l p q h = record {
   upTo = omega (arith, q .most);
   forget = p .forget;
   each = λ j a. top-good w (k + 1) (listed l j) (good-small w k (listed l j) (p .each j a)) (omega (arith, q .each j a));
+}
+
+-- the lowest feature that they test is none below k; they wait for it
+pub lowest-from : (w : List ℕ) (f n k m : ℕ) (l : List ℕ) → Operands w f n k l → Lowest w n l m → k ≤ m
+lowest-from w f n k m l p q = q .above k (p .upTo) (λ j a. good-top w k (listed l j) (p .each j a) (p .upTo))
+
+pub operands-jump : (w : List ℕ) (f n k m : ℕ) (l : List ℕ) → Operands w f n k l → Lowest w n l m → Operands w f n m l
+operands-jump w f n k m l p q = record {
+  holds = p .holds;
+  two = p .two;
+  nine = p .nine;
+  upTo = q .most;
+  forget = p .forget;
+  each = λ j a. top-good w m (listed l j) (good-small w k (listed l j) (p .each j a)) (q .each j a);
 }
 
 -- the operands of w, while the branches of a result are filled
@@ -125,13 +139,24 @@ turn-small w f n k l j v p hk hv hj = ⊎-elim
 
 -- ---- results
 -- no operand tests feature k
-pub joint-skip : (w t : List ℕ) (o f n k m : ℕ) (l : List ℕ) (a : Answer) → Operands w f n k l → Lowest w n l m → k < m →
+joint-skip : (w t : List ℕ) (o f n k m : ℕ) (l : List ℕ) (a : Answer) → Operands w f n k l → Lowest w n l m → k < m →
     Result w t (k + 1) (joint w o f n (k + 1) l) a → Result w t k (joint w o f n k l) a
 joint-skip w t o f n k m l a p q h r =
     let hk : k < features w = omega (arith, q .most) in
     gives-eq (built-skip w k (joint w o f n k l) (joint w o f n (k + 1) l) (p .holds) hk
     (λ v lt s. joint-held w w o f n k v l l p (ext-refl (nodes w))
     (record { each = λ j b. child-skip w k (listed l j) (turn f k j v) (operand-place w f n k l j p b) (λ e. let z = q .each j b in omega arith) }) s)) r
+
+-- no operand tests a feature below m: from there on, it is the result
+jump-by : (w t : List ℕ) (o f n k m : ℕ) (l : List ℕ) (a : Answer) → Operands w f n k l → Lowest w n l m → (d : ℕ) → k + d ≡ m →
+    Result w t m (joint w o f n m l) a → Result w t k (joint w o f n k l) a
+jump-by w t o f n k m l a p q zero e r = subst (λ (j : ℕ). Result w t j (joint w o f n j l) a) (let z : m ≡ k = omega arith in z) r
+jump-by w t o f n k m l a p q (suc d) e r =
+    let h : k < m = omega arith in
+    joint-skip w t o f n k m l a p q h (jump-by w t o f n (k + 1) m l a (operands-skip w f n k m l p q h) q d (omega arith) r)
+
+pub joint-jump : (w t : List ℕ) (o f n k m : ℕ) (l : List ℕ) (a : Answer) → Operands w f n k l → Lowest w n l m → Result w t m (joint w o f n m l) a → Result w t k (joint w o f n k l) a
+joint-jump w t o f n k m l a p q r = let h = lowest-from w f n k m l p q in jump-by w t o f n k m l a p q (m - k) (omega arith) r
 
 -- feature k is forgotten: each operand goes its own way, whatever the value
 pub joint-forget : (w t : List ℕ) (o f n k : ℕ) (l r : List ℕ) (a : Answer) → Operands w f n k l → f ≡ k → k < features w → Next w f n k 0 l r →

@@ -1,25 +1,51 @@
--- The words with notes: the features that are left, where the walk starts from, and what it ends with. Assumes nothing.
-use mathlib.Core.Path.{_≡_, sym, subst}
+-- The words with notes: what the word of a walk tells, where the walk starts from, and what it ends with. Assumes nothing.
+use mathlib.Core.Path.{_≡_, refl, sym, subst}
 use mathlib.Core.List.{List}
-use Prim.Native.Nat.{ℕ, _<_}
+use Prim.Native.Nat.{ℕ, _≤_, _<_}
 use native.Mathlib.Omega.{arith}
-use Rattle.table_words.specs.Words.{listed}
+use borrow.Author.Tests.{lt-ltb, le-ltb}
+use Rattle.theory.specs.Rules.{Rule}
 use Rattle.table_notes.specs.Plain.{Resting, plain}
 use Rattle.table_notes.proofs.Plain.{plain-of}
 use Rattle.rule_notes.proofs.Reading.{plain-head}
-use Rattle.rule_nodes.specs.Nodes.{Result}
+use Rattle.rule_nodes.specs.Nodes.{Holds, Result}
 use Rattle.rule_nodes.specs.declared.Answer.{Answer}
-use Rattle.rule_nodes.proofs.Stepping.{good-top}
-use Rattle.rule_engine.specs.Joint.{joint, Operands, Lowest}
+use Rattle.rule_nodes.specs.declared.Answer.the-variants.{Is, NoRoom}
+use Rattle.rule_nodes.proofs.Filling.{result-mean}
+use Rattle.rule_nodes.proofs.Reading.{good-small}
+use Rattle.rule_engine.specs.Joint.{joint, Operands}
+use Rattle.rule_engine.specs.Memory.{answerOf, Noted, Still}
 use Rattle.promises.specs.Words.{features}
 
 -- the features are those of the words without notes
 pub plain-features : (w : List ℕ) → features w ≡ features (plain w)
 plain-features w = sym (plain-head w 2 (omega arith))
 
--- an operand tests a feature: it is none of those below k
-pub still-left : (w : List ℕ) {f n k m x : ℕ} {l : List ℕ} → Operands (plain w) f n k l → Lowest (plain w) n l m → x ≡ features w → m < x → k < features (plain w)
-still-left w {f} {n} {k} {m} {x} {l} p q e h = omega (arith, q .above k (p .upTo) (λ j a. good-top (plain w) k (listed l j) (p .each j a) (p .upTo)), plain-features w)
+-- ---- a walk's word
+pub told-is : (r : ℕ) → r < 131072 → answerOf r ≡ Is r
+unfolding answerOf
+told-is r h = rw (lt-ltb r 131072 h) refl
+
+pub told-none : (r : ℕ) → 131072 ≤ r → answerOf r ≡ NoRoom
+unfolding answerOf
+told-none r h = rw (le-ltb r 131072 h) refl
+
+-- a branch word tells itself: the table has fewer nodes
+word-told : (w t : List ℕ) (k : ℕ) (g : Rule) (x : ℕ) → Holds w → Result w t k g (Is x) → answerOf x ≡ Is x
+word-told w t k g x ok r =
+    told-is x (omega (arith, good-small t k x (result-mean w t k g x ok r .ok), r .grown .well .laid .laid .within, r .grown .well .laid .laid .most))
+
+-- what a call that had room leaves, and one that had none
+pub word-left : (w t : List ℕ) (k : ℕ) (g : Rule) (x : ℕ) {u s : List ℕ} {o f n : ℕ} → Holds w → Result w t k g (Is x) → Noted u o f n s
+    → (Result w t k g (answerOf x)) × (Still u o f n s (answerOf x))
+word-left w t k g x {u} {s} {o} {f} {n} ok r m =
+    let e = sym (word-told w t k g x ok r) in
+    (subst (Result w t k g) e r, subst (Still u o f n s) e m)
+
+pub none-left : (w t : List ℕ) (k : ℕ) (g : Rule) (u s : List ℕ) (o f n : ℕ) → Result w t k g NoRoom → (Result w t k g (answerOf 131072)) × (Still u o f n s (answerOf 131072))
+none-left w t k g u s o f n r =
+    let e = sym (told-none 131072 (omega arith)) in
+    (subst (Result w t k g) e r, subst (Still u o f n s) e tt)
 
 -- ---- at rest the walk starts from the words without notes ..
 pub operands-plain : (w : List ℕ) (f n k : ℕ) (l : List ℕ) → Operands w f n k l → Resting w → Operands (plain w) f n k l

@@ -3,7 +3,7 @@ use mathlib.Core.Path.{_≡_, sym, ap, subst, _∙_}
 use mathlib.Core.List.{List}
 use Prim.Native.Nat.{ℕ, _+_, _-_, _≤_, _<_}
 use native.Mathlib.Omega.{arith}
-use lib.ListN.{take, drop}
+use lib.ListN.{length, take, drop}
 use lib.Seq.{length-take-le, getD-take, getD-drop}
 use Rattle.theory.specs.Build.{Ext}
 use Rattle.theory.specs.Rules.{says, number}
@@ -67,13 +67,17 @@ result-recalled w t o f n k x l p r =
     (result-mean w t k (joint w o f n k l) x (p .holds) r)
 
 -- ---- the memory
--- the part of the longest key that is lent
-pub key-part : (n k : ℕ) (l key : List ℕ) → n ≤ 9 → Keyed 9 k l key → Keyed n k l (take (n + 1 - 0) key)
-key-part n k l key h q = record {
-  long = omega (arith, length-take-le (n + 1 - 0) key (omega (arith, q .long)));
-  feature = getD-take (n + 1 - 0) key 0 0 (omega arith) ∙ q .feature;
-  operand = λ j b. getD-take (n + 1 - 0) key (1 + j) 0 (omega arith) ∙ q .operand j (omega arith);
+-- the words that are laid first are the key
+pub key-laid : (n k : ℕ) (l key : List ℕ) → n ≤ 9 → length key ≡ 10 → listed key 0 ≡ k + 1 → ((j : ℕ) → j < n → listed key (1 + j) ≡ listed l j) → Keyed n k l (take (n + 1) key)
+key-laid n k l key h long feature operand = record {
+  long = length-take-le (n + 1) key (omega (arith, long));
+  feature = getD-take (n + 1) key 0 0 (omega arith) ∙ feature;
+  operand = λ j b. getD-take (n + 1) key (1 + j) 0 (omega arith) ∙ operand j b;
 }
+
+-- and the part that is lent
+pub key-part : (n k : ℕ) (l key : List ℕ) → Keyed n k l (take (n + 1) key) → Keyed n k l (take (n + 1 - 0) key)
+key-part n k l key q = let e : n + 1 ≡ n + 1 - 0 = omega arith in subst (λ (m : ℕ). Keyed n k l (take m key)) e q
 
 module _ (w : List ℕ) (o f n k : ℕ) (l key : List ℕ) (q : Keyed n k l key) where
   -- an entry says one result

@@ -3,6 +3,7 @@ use mathlib.Core.Bool.{Bool, true, false}
 use mathlib.Core.Path.{_≡_}
 use mathlib.Core.List.{List}
 use Prim.Native.Nat.{ℕ, _+_, _<_}
+use lib.Dec.{ltb}
 use lib.ListN.{length, drop}
 use Rattle.theory.specs.Diagrams.{value}
 use Rattle.theory.specs.Settings.{Valid}
@@ -12,7 +13,7 @@ use Rattle.rule_nodes.specs.Nodes.{Good}
 use Rattle.rule_nodes.specs.declared.Answer.{Answer}
 use Rattle.rule_nodes.specs.declared.Answer.the-variants.{Is, NoRoom}
 use Rattle.rule_engine.specs.Joint.{joint}
-use Rattle.promises.specs.Words.{sizes}
+use Rattle.promises.specs.Words.{sizes, pick}
 use Rattle.promises.specs.RuleWords.{decode, ruleNodes as nodes}
 
 -- x is the result for the operands l from feature k on
@@ -34,6 +35,10 @@ pub record Right (o f n : ℕ) (w key : List ℕ) (x y : ℕ) : Type 0 where
 -- so is what a walk over the table w remembers, there or in the scratch s
 abbrev pub Noted : List ℕ → ℕ → ℕ → ℕ → List ℕ → Type 0
 Noted w o f n s = M.Noted (n + 1) (Right o f n) w s
+
+-- the answer that a walk's word tells: a branch word, or that there was no room
+unfoldable pub answerOf : ℕ → Answer
+answerOf r = pick (ltb r 131072) (Is r) NoRoom
 
 -- as it is after a call that had room
 abbrev pub Still : List ℕ → ℕ → ℕ → ℕ → List ℕ → Answer → Type 0

@@ -23,6 +23,6 @@ pub fn put_joint(
     ensures { λ r. ⌜ Puts place (joint (now (t .entry)) o f n 0 ops) (now (t .entry)) (now (t .exit)) r ⌝ }
 {
     let used = wide(count_word(t));
-    let r = join(t, scratch, o, f, n, ops);
+    let r = join(t, scratch, o, f, n, &ops);
     settle(t, place, used, r)
 }

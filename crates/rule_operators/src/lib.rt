@@ -46,9 +46,9 @@ fn pair_op(o: u32, x: u32, y: u32) -> u32
 }
 
 // CASE: the first number chooses among the others.
-fn chosen(vals: [u32; 9], n: usize) -> u32
+fn chosen(vals: &[u32; 9], n: usize) -> u32
     requires { ⌜ (1 ≤ n) × (n ≤ 9) ⌝ }
-    ensures { λ r. ⌜ r ≡ caseOf (listed vals 0) (drop 1 (tab (listed vals) n)) ⌝ }
+    ensures { λ r. ⌜ r ≡ caseOf (listed (now (vals .entry)) 0) (drop 1 (tab (listed (now (vals .entry))) n)) ⌝ }
 {
     let i = 1 + wide(vals[0]);
     if i < n { vals[i] } else { 0 }
@@ -71,9 +71,9 @@ fn merged(x: u32, y: u32) -> u32
 }
 
 // FORGET's rule: the number that stands for those over the values of the forgotten feature.
-fn forgotten(vals: [u32; 9], n: usize) -> u32
+fn forgotten(vals: &[u32; 9], n: usize) -> u32
     requires { ⌜ n ≤ 9 ⌝ }
-    ensures { λ r. ⌜ r ≡ forgottenOf (tab (listed vals) n) ⌝ }
+    ensures { λ r. ⌜ r ≡ forgottenOf (tab (listed (now (vals .entry))) n) ⌝ }
 {
     let mut left: u32 = 0;
     let mut j = n;
@@ -85,9 +85,9 @@ fn forgotten(vals: [u32; 9], n: usize) -> u32
 }
 
 // The operator o on the first n numbers.
-pub fn combine(o: u32, vals: [u32; 9], n: usize) -> u32
+pub fn combine(o: u32, vals: &[u32; 9], n: usize) -> u32
     requires { ⌜ (2 ≤ n) × (n ≤ 9) ⌝ }
-    ensures { λ r. ⌜ r ≡ opOf o (tab (listed vals) n) ⌝ }
+    ensures { λ r. ⌜ r ≡ opOf o (tab (listed (now (vals .entry))) n) ⌝ }
 {
     if o < 6 {
         return pair_op(o, vals[0], vals[1]);

@@ -2,14 +2,16 @@
 use Rattle.table_notes.proofs.Alike.{grown-roomy}
 use Rattle.table_memory.proofs.Remembering.{noted-none}
 use Rattle.rule_engine.proofs.Noting.{operands-plain, joint-cleared}
+use mathlib.Core.Path.{sym, subst}
 use borrow.Author.Needs.{needs}
 use Rattle.rule_engine.proofs.join_in.Statement.{statement}
 use Rattle.rule_engine.proofs.join_in.Tie as tie
+use Rattle.rule_nodes.specs.Nodes.{Result}
 
 rest-result-requires : tie.Need-rest-result-requires
 rest-result-requires c κs =
     let a = c .before .before .before .before .before .before .before .before in (
-      operands-plain (a .args .t .now) (a .args .f) (a .args .n) 0 (a .args .ops) (a .pre .0) (a .pre .1),
+      operands-plain (a .args .t .now) (a .args .f) (a .args .n) 0 (a .args .ops .now) (a .pre .0) (a .pre .1),
       noted-none (a .args .t .now) _ (a .pre .1) (c .before .before .before .before .clear .ensures),
     )
 
@@ -19,9 +21,10 @@ clear-far-requires c κs =
     grown-roomy _ _ (c .before .before .before .before .before .rest-result .ensures .0 .grown .kept) (c14 .pre .1 .roomy)
 
 returns : tie.Need-returns
-returns c = let a = (c .before .before .before .before .before .before .before .before .before .before .before .before .before .before .before .before .before) in
-    let w = (c .before .before .before .before .before .before .before .before .rest-result) in
-    joint-cleared (a .args .t .now) _ _ (a .args .o) (a .args .f) (a .args .n) 0 (a .args .ops) (w .result) (a .pre .1) ((c .before .before .clear-far) .ensures) (w .ensures .0)
+returns c =
+    let c9 = c .before .before .before .before .before .before .before .before .before in let a = c9 .before .before .before .before .before .before .before .before .before in
+    subst (Result _ _ 0 _) (sym (c .answer-of .ensures))
+    (joint-cleared (a .args .t .now) _ _ (a .args .o) (a .args .f) (a .args .n) 0 (a .args .ops .now) _ (a .pre .1) (c .before .before .before .clear-far .ensures) (c9 .rest-result .ensures .0))
 
 pub join-in-spec : {M : Type 1} → statement M
 join-in-spec =
@@ -30,6 +33,7 @@ join-in-spec =
     (λ c κs. search needs)
     rest-result-requires
     clear-far-requires
+    (λ c κs. search needs)
     (λ c. search needs)
     (λ c. search needs)
     returns)

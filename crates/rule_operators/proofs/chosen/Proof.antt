@@ -9,12 +9,13 @@ use Rattle.rule_operators.proofs.chosen.Statement.{statement}
 use Rattle.rule_operators.proofs.chosen.Tie as tie
 
 returns : tie.Need-returns
-returns c = let a = (c .before .before) in
-    let d : 1 + (c .before .wide) .result ≡ 1 + listed (a .args .t1) 0 = ap (λ i. 1 + i) ((c .before .wide) .ensures .0) in
-    ap (listed (a .args .t1)) d ∙ case-at (listed (a .args .t1)) (a .args .n) (listed (a .args .t1) 0) (omega (arith, (c .before .wide) .ensures .0, (c .if1) .taken))
+returns c = let a = (c .before .before .before .before) in let l = a .args .vals .now in
+    let d : 1 + (c .before .before .wide) .result ≡ 1 + listed l 0 = ap (λ i. 1 + i) ((c .before .before .wide) .ensures .0) in
+    ap (listed l) d ∙ case-at (listed l) (a .args .n) (listed l 0) (omega (arith, (c .before .before .wide) .ensures .0, (c .before .if1) .taken))
 
 returns-2 : tie.Need-returns-2
-returns-2 c = let a = (c .before .before) in case-past (listed (a .args .t1)) (a .args .n) (listed (a .args .t1) 0) (omega (arith, (c .before .wide) .ensures .0, (c .if1) .left))
+returns-2 c = let a = (c .before .before .before) in let l = a .args .vals .now in
+    case-past (listed l) (a .args .n) (listed l 0) (omega (arith, (c .before .wide) .ensures .0, (c .if1) .left))
 
 pub chosen-spec : {M : Type 1} → statement M
 chosen-spec =

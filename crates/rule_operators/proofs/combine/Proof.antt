@@ -8,16 +8,16 @@ use Rattle.rule_operators.proofs.combine.Statement.{statement}
 use Rattle.rule_operators.proofs.combine.Tie as tie
 
 returns : tie.Need-returns
-returns c = let a = (c .before .before) in
-    (c .pair-op) .ensures ∙ sym (op-pair (a .args .o) (a .args .n) (listed (a .args .t2)) (a .pre .0) ((c .before .if1) .taken))
+returns c = let a = (c .before .before .before .before) in
+    (c .pair-op) .ensures ∙ sym (op-pair (a .args .o) (a .args .n) (listed (a .args .vals .now)) (a .pre .0) ((c .before .before .before .if1) .taken))
 
 returns-2 : tie.Need-returns-2
 returns-2 c = let a = (c .before .before .before) in
-    (c .chosen) .ensures ∙ sym (op-case (a .args .o) (a .args .n) (listed (a .args .t2)) (omega arith) ((c .before .if2) .taken))
+    (c .chosen) .ensures ∙ sym (op-case (a .args .o) (a .args .n) (listed (a .args .vals .now)) (omega arith) ((c .before .if2) .taken))
 
 returns-3 : tie.Need-returns-3
 returns-3 c = let a = (c .before .before .before) in
-    (c .forgotten) .ensures ∙ sym (op-forget (a .args .o) (a .args .n) (listed (a .args .t2)) (omega (arith, (c .before .before .if1), (c .before .if2))))
+    (c .forgotten) .ensures ∙ sym (op-forget (a .args .o) (a .args .n) (listed (a .args .vals .now)) (omega (arith, (c .before .before .if1), (c .before .if2))))
 
 pub combine-spec : {M : Type 1} → statement M
 combine-spec =

@@ -12,26 +12,26 @@ use Rattle.promises.specs.Operators.{forgottenOf}
 use Rattle.promises.specs.Tab.{tab}
 
 abbrev Inv-loop : tie.InvT-loop
-Inv-loop n vals left₀ j₀ left j = (j ≤ n) × (left ≡ forgottenOf (drop j (tab (listed vals) n)))
+Inv-loop vals n left₀ j₀ left j = (j ≤ n) × (left ≡ forgottenOf (drop j (tab (listed vals) n)))
 
 abbrev μ-loop : tie.MeasureT-loop
-μ-loop n vals left₀ j₀ left j = j
+μ-loop vals n left₀ j₀ left j = j
 
 loop-holds : tie.Need-loop-holds Inv-loop μ-loop
-loop-holds c = (omega arith, forgotten-none (listed ((c) .args .t1)) ((c) .args .n))
+loop-holds c = (omega arith, forgotten-none (listed ((c) .args .vals .now)) ((c) .args .n))
 
 loop-again : tie.Need-loop-again Inv-loop μ-loop
 loop-again c =
-    let l = c .before .before .loop in (
+    let l = c .before .before .before .loop in (
       omega arith,
-      c .merged .ensures ∙ forgotten-more (listed (c .before .before .before .args .t1)) (c .before .before .before .args .n)
+      c .merged .ensures ∙ forgotten-more (listed (c .before .before .before .before .args .vals .now)) (c .before .before .before .before .args .n)
           (l .j - 1) (l .j) (l .left) (omega arith) (omega arith) (l .inv .1),
     )
 
 returns : tie.Need-returns Inv-loop μ-loop
 returns c = let l = (c .before .loop) in
     let e : l .j ≡ 0 = omega arith in
-    l .inv .1 ∙ ap (λ (m : ℕ). forgottenOf (drop m (tab (listed ((c .before .before) .args .t1)) ((c .before .before) .args .n)))) e
+    l .inv .1 ∙ ap (λ (m : ℕ). forgottenOf (drop m (tab (listed ((c .before .before) .args .vals .now)) ((c .before .before) .args .n)))) e
 
 pub forgotten-spec : {M : Type 1} → statement M
 forgotten-spec =

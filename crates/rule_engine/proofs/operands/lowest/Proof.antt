@@ -14,11 +14,11 @@ use Rattle.rule_engine.proofs.operands.lowest.Tie as tie
 use Rattle.promises.specs.Words.{features}
 
 abbrev Inv-loop : tie.InvT-loop
-Inv-loop t n ops m₀ j₀ m j = (m ≤ features (plain t)) × (j ≤ n) × ((i : ℕ) → i < j → m ≤ top (plain t) (listed ops i)) ×
+Inv-loop t ops n m₀ j₀ m j = (m ≤ features (plain t)) × (j ≤ n) × ((i : ℕ) → i < j → m ≤ top (plain t) (listed ops i)) ×
     ((z : ℕ) → z ≤ features (plain t) → ((i : ℕ) → i < j → z ≤ top (plain t) (listed ops i)) → z ≤ m)
 
 abbrev μ-loop : tie.MeasureT-loop
-μ-loop t n ops m₀ j₀ m j = n - j
+μ-loop t ops n m₀ j₀ m j = n - j
 
 features-word-requires : tie.Need-features-word-requires Inv-loop μ-loop
 features-word-requires c κs = let a = (c .before) in omega (arith, a .pre .0 .room, length-plain (a .args .t .now))
@@ -29,10 +29,10 @@ loop-holds c = let w = (c .before .before .before) .args .t .now in
     (omega arith, omega arith, (λ i h. absurd (omega arith)), λ z h k. omega arith)
 
 top-in-requires : tie.Need-top-in-requires Inv-loop μ-loop
-top-in-requires c κs = ((c .before .before .before .before .before) .pre .0, (c .before .before .before .before .before) .pre .2 ((c .before .loop) .j) (omega arith))
+top-in-requires c κs = let a = c .before .before .before .before .before .before in (a .pre .0, a .pre .2 (c .before .before .loop .j) (omega arith))
 
 loop-again : tie.Need-loop-again Inv-loop μ-loop
-loop-again c = let l = (c .before .before .before .loop) in (
+loop-again c = let l = (c .before .before .before .before .loop) in (
   omega (arith, (c .lower) .ensures .0, l .inv .0),
   omega arith,
   below-more _ _ (λ i h. omega (arith, l .inv .2 i h, (c .lower) .ensures .0)) (omega (arith, (c .lower) .ensures .1, (c .before .top-in) .ensures)),
