@@ -61,13 +61,15 @@ pub fn operands_at(
     }
 }
 
-// Lays the key of the first n operands from feature k on into the first n + 1 words of key.
+// Lays the key of the first n operands from feature k on into the first n + 1 words of key. Two are laid outside the loop, since apply has no more.
 pub fn key_of(n: usize, k: usize, ops: &[u32; 9], key: &mut [u32; 10])
-    requires { ⌜ (n ≤ 9) × (k < 16) × (length (now key) ≡ 10) ⌝ }
+    requires { ⌜ (2 ≤ n) × (n ≤ 9) × (k < 16) × (length (now key) ≡ 10) ⌝ }
     ensures { λ _. ⌜ (Keyed n k (now (ops .entry)) (take (n + 1) (now (key .exit)))) × (length (now (key .exit)) ≡ 10) ⌝ }
 {
     key[0] = narrow(k + 1);
-    let mut j: usize = 0;
+    key[1] = ops[0];
+    key[2] = ops[1];
+    let mut j: usize = 2;
     while j < n {
         key[1 + j] = ops[j];
         j += 1;

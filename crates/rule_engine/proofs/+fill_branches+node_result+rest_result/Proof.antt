@@ -230,7 +230,7 @@ node-result-returns t c =
 node-result-key-of-requires : (t : ℕ) → node-result-lts.Need-key-of-requires (node-result-claims t) (node-result-at t) node-result.Post
 node-result-key-of-requires t c κs =
     let a = c .before .before .before .before in
-    (a .pre .1 .0 .nine, omega (arith, a .pre .1 .0 .holds .laid .laid .few, a .pre .1 .2), refl)
+    (a .pre .1 .0 .two, a .pre .1 .0 .nine, omega (arith, a .pre .1 .0 .holds .laid .laid .few, a .pre .1 .2), refl)
 
 node-result-part-recall-in-end : (t : ℕ) → node-result-lts.Need-part-recall-in-end (node-result-claims t) (node-result-at t) node-result.Post
 node-result-part-recall-in-end t c =

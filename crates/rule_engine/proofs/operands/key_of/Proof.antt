@@ -2,7 +2,7 @@
 use Rattle.rule_engine.proofs.Recalling.{key-laid}
 use Rattle.table_records.proofs.Writing.{run-more}
 use lib.Seq.{getD-set-same, getD-set-other}
-use lib.ListN.{length, getD, length-set}
+use lib.ListN.{length, getD, set, length-set}
 use native.Mathlib.Omega.{arith}
 use Prim.Native.Nat.{ℕ, _+_, _-_, _≤_, _<_}
 use mathlib.Core.Path.{_≡_, _∙_}
@@ -18,24 +18,29 @@ abbrev μ-loop : tie.MeasureT-loop
 
 loop-holds : tie.Need-loop-holds Inv-loop μ-loop
 loop-holds c =
-    let a = c .before in
-    (simp length-set (a .pre .2), omega arith, getD-set-same (a .args .key .now) 0 _ 0 (omega (arith, a .pre .2)) ∙ c .narrow .ensures, λ u h. absurd (omega arith))
+    let a = c .before .before .before in let o = a .args .ops .now in
+    let k0 = set (a .args .key .now) 0 (c .before .before .narrow .result) in let k1 = set k0 1 (getD o 0 0) in
+    let l0 : length k0 ≡ 10 = simp length-set (a .pre .3) in let l1 : length k1 ≡ 10 = simp length-set (a .pre .3) in (
+      simp length-set (a .pre .3),
+      a .pre .0,
+      getD-set-other k1 2 0 _ 0 (omega arith) ∙ getD-set-other k0 1 0 _ 0 (omega arith) ∙ getD-set-same (a .args .key .now) 0 _ 0 (omega (arith, a .pre .3))
+          ∙ c .before .before .narrow .ensures,
+      run-more k1 o 1 1 (omega (arith, l1)) (run-more k0 o 1 0 (omega (arith, l0)) (λ u h. absurd (omega arith))),
+    )
 
 loop-again : tie.Need-loop-again Inv-loop μ-loop
 loop-again c =
-    let a = c .before .before .before .before in
-    let l = c .before .before .loop in (
+    let l = c .before .before .loop in let a = c .before .before .before .before .before .before in (
       simp length-set (l .inv .0),
       omega arith,
       getD-set-other (l .key) _ 0 _ 0 (omega arith) ∙ l .inv .2,
-      run-more (l .key) (a .args .ops .now) 1 (l .j) (omega (arith, a .pre .0, l .inv .0)) (l .inv .3),
+      run-more (l .key) (a .args .ops .now) 1 (l .j) (omega (arith, a .pre .1, l .inv .0)) (l .inv .3),
     )
 
 returns : tie.Need-returns Inv-loop μ-loop
 returns c =
-    let a = c .before .before .before in
-    let l = c .before .loop in
-    (key-laid _ _ (a .args .ops .now) (l .key) (a .pre .0) (l .inv .0) (l .inv .2) (λ j h. l .inv .3 j (omega arith)), l .inv .0)
+    let l = c .before .loop in let a = c .before .before .before .before .before in
+    (key-laid _ _ (a .args .ops .now) (l .key) (a .pre .1) (l .inv .0) (l .inv .2) (λ j h. l .inv .3 j (omega arith)), l .inv .0)
 
 pub key-of-spec : {M : Type 1} → statement M
 key-of-spec =
@@ -45,6 +50,10 @@ key-of-spec =
     μ-loop
     (λ c. search needs)
     (λ c κs. search needs)
+    (λ c. search needs)
+    (λ c. search needs)
+    (λ c. search needs)
+    (λ c. search needs)
     (λ c. search needs)
     loop-holds
     (λ c. search needs)
