@@ -148,6 +148,14 @@ static int alone; /* nothing beside the library is timed */
 
 static void summing(void) { sum_words(words, length); }
 
+#ifdef BUDDY
+static void time_buddy(int column) {
+    double reset = best(buddy_reset);
+    for (int j = 0; j < JOBS; j++)
+        if (jobs[j].buddy) buddies[j][column] = best(jobs[j].buddy) - (jobs[j].library == library_look_up ? 0 : reset);
+}
+#endif
+
 static void measure(uint8_t size, size_t capacity, int column) {
     in_use[column] = prepare(size, capacity);
     in_sheet[column] = sheet[21] * 256u + sheet[22];
@@ -155,23 +163,21 @@ static void measure(uint8_t size, size_t capacity, int column) {
     plain_load(words);
     for (int j = 0; alone && j < JOBS; j++) times[j][column] = best(jobs[j].library);
     if (alone) return;
-    sums[column] = best(summing);
-    checks[column] = best(checking);
     double sheet_check = best(checking_sheet);
 #ifdef BUDDY
     buddy_load();
-    double reset = best(buddy_reset);
 #endif
-    for (int j = 0; j < JOBS; j++) {
-        agree(&jobs[j]);
-        times[j][column] = best(jobs[j].library);
-        plains[j][column] = best(jobs[j].plain);
+    for (int j = 0; j < JOBS; j++) agree(&jobs[j]);
+    for (int turn = 0; turn < 2; turn++) { /* as others use the machine too */
+        better(&sums[column], summing);
+        better(&checks[column], checking);
+        for (int j = 0; j < JOBS; j++) better(&times[j][column], jobs[j].library);
+        for (int j = 0; j < JOBS; j++) better(&plains[j][column], jobs[j].plain);
+    }
+    for (int j = 0; j < JOBS; j++)
         tested[j][column] = plains[j][column] + checks[column] + (jobs[j].library == library_read ? sheet_check : 0);
 #ifdef BUDDY
-        if (jobs[j].buddy) buddies[j][column] = best(jobs[j].buddy) - (jobs[j].library == library_look_up ? 0 : reset);
-#endif
-    }
-#ifdef BUDDY
+    time_buddy(column);
     bdd_done();
 #endif
 }

@@ -16,9 +16,8 @@ typedef uint64_t __attribute__((may_alias)) word;
 AS_WRITTEN void *memset(void *to, int value, size_t n) {
     uint8_t *p = to, *end = p + n;
     while (p < end && (uintptr_t)p % sizeof(word)) *p++ = (uint8_t)value;
-    word *w = (word *)p;
-    size_t words = (size_t)(end - p) / sizeof(word);
-    for (size_t j = 0; j < words; j++) w[j] = 0x0101010101010101u * (uint8_t)value;
-    for (p = (uint8_t *)(w + words); p < end;) *p++ = (uint8_t)value;
+    for (; end - p >= 64; p += 64)
+        for (int j = 0; j < 8; j++) ((word *)p)[j] = 0x0101010101010101u * (uint8_t)value;
+    while (p < end) *p++ = (uint8_t)value;
     return to;
 }

@@ -73,7 +73,7 @@ static void calls_of(size_t capacity, struct cost_calls *c) {
     largest_call(&of_rules, BELOW, RANDOM, RANDOM, capacity, &c->less_a, &c->less_b);
 }
 
-uint32_t fill_costs(uint8_t size, size_t capacity, struct cost_calls *c) {
+void fill_costs(uint8_t size, size_t capacity, struct cost_calls *c) {
     memset(c, 0, sizeof *c);
     fill_third(size, capacity);
     for (int v = 0; v < size; v++) c->prices[v] = v;
@@ -85,5 +85,4 @@ uint32_t fill_costs(uint8_t size, size_t capacity, struct cost_calls *c) {
     grow(&of_costs, 10, 4, capacity - capacity / 32, capacity);
     for (size_t p = 0; p < 14; p++)
         if (cost_nodes_of(p) > cost_nodes_of(c->largest)) c->largest = p;
-    return cost_nodes_in_use();
 }

@@ -22,6 +22,6 @@ struct cost_calls {
 extern uint32_t costs[139264]; /* as many words as the rule table has are in use */
 
 uint32_t cost_nodes_in_use(void);
-/* Both tables of this capacity over 16 features of this size, nearly full; how many nodes of costs are in use is the answer. */
-uint32_t fill_costs(uint8_t size, size_t capacity, struct cost_calls *c);
+/* Both tables of this capacity over 16 features of this size, nearly full. */
+void fill_costs(uint8_t size, size_t capacity, struct cost_calls *c);
 #endif

@@ -8,10 +8,10 @@ uint32_t found[17];
 uint8_t at_setting[16];
 
 uint32_t prepare_costs(uint8_t size, size_t capacity) {
-    uint32_t nodes = fill_costs(size, capacity, &in);
+    fill_costs(size, capacity, &in);
     expect(!lampgrotto_cost_constant(costs, length, AMOUNT, 7), "cost constant");
     for (int k = 0; k < 16; k++) at_setting[k] = (5 * k + 3) % size;
-    return nodes;
+    return cost_nodes_in_use();
 }
 
 void library_cost_look_up(void) { sink += lampgrotto_cost_look_up(costs, length, in.largest, at_setting, 16, found, 2); }
