@@ -1,7 +1,7 @@
 -- The walk over the two tables: what is chosen from one feature on, one value on, in a later table; its results. Assumes nothing.
 use mathlib.Core.Path.{_≡_, refl, sym, ap, ap₂, subst, _∙_}
 use mathlib.Core.List.{List, _∷_}
-use Prim.Native.Nat.{ℕ, zero, suc, _+_, _-_, _≤_, _<_}
+use Prim.Native.Nat.{ℕ, zero, suc, _+_, _≤_, _<_}
 use native.Mathlib.Numerals.{add-one}
 use native.Mathlib.Omega.{arith}
 use lib.IntN.{ℤ, pos, _+ℤ_, _-ℤ_, +ℤ-idl}
@@ -38,7 +38,7 @@ use Rattle.cost_nodes.specs.Nodes.{Good, top, Place, built, Result, Filling}
 use Rattle.cost_nodes.specs.declared.Answer.{Answer}
 use Rattle.cost_nodes.specs.declared.Answer.the-variants.{Is, NoRoom}
 use Rattle.cost_nodes.proofs.Reading.{lawful, pos-from, sizes-from}
-use Rattle.cost_nodes.proofs.Stepping.{good-small, top-good, top-most}
+use Rattle.cost_nodes.proofs.Stepping.{good-small, top-good, top-most, skipped}
 use Rattle.cost_nodes.proofs.Filling.{filling-ext, filling-narrow}
 use Rattle.both_choose.specs.Choice.{by, Choosable, choice, choiceOf, endOf, Choices, Branches, Lowest}
 use Rattle.both_choose.proofs.Choices.{by-moves, choice-step, choice-wait, choice-ext, choice-first, choice-second, choice-spread, choice-adds}
@@ -62,7 +62,7 @@ module _ (v w : List ℕ) (b x y m : ℕ) (d : ℤ) (l : Lowest v w b x y m) whe
   abbrev C : ℕ → Cost
   C k = choice (lent v k b) (nodes w) k (target x) (target y) d
 
-  module _ (k : ℕ) (p : Choices v w k b x y d) (h : k < m) where
+  module _ (k : ℕ) (h : k < m) (p : Choices v w k b x y d) where
     left : k < features w
     left = omega (arith, top-most w k x (p .holds) (p .first), l .first)
 
@@ -92,24 +92,19 @@ module _ (v w : List ℕ) (b x y m : ℕ) (d : ℤ) (l : Lowest v w b x y m) whe
         (l .rule k (p .rule) h .means u s ∙ rw add-one refl))
         ∙ ap (λ (j : ℕ). built w j (C (suc k))) (add-one k)
 
-  -- all below m
-  skip : (n k : ℕ) → k + n ≡ m → Choices v w k b x y d → Choices v w m b x y d
-  skip zero k e p = let q : k ≡ m = omega arith in subst (λ (j : ℕ). Choices v w j b x y d) q p
-  skip (suc n) k e p = skip n (suc k) (omega arith) (one-skip k p (omega arith))
-
-  skip-built : (n k : ℕ) → k + n ≡ m → Choices v w k b x y d → built w k (C k) ≡ built w m (C m)
-  skip-built zero k e p = let q : k ≡ m = omega arith in ap (λ (j : ℕ). built w j (C j)) q
-  skip-built (suc n) k e p = one-built k p (omega arith) ∙ skip-built n (suc k) (omega arith) (one-skip k p (omega arith))
-
   module _ (k : ℕ) (p : Choices v w k b x y d) (h : k < m) where
     pub skip-most : m ≤ features w
     skip-most = omega (arith, top-most w k x (p .holds) (p .first), l .first)
 
+    -- all below m
+    passed : Choices v w m b x y d × (built w k (C k) ≡ built w m (C m))
+    passed = skipped (λ (j : ℕ). Choices v w j b x y d) (λ (j : ℕ). built w j (C j)) m one-skip one-built k h p
+
     pub choices-skip : Choices v w m b x y d
-    choices-skip = skip (m - k) k (omega arith) p
+    choices-skip = passed .0
 
     pub choice-skip : (t : List ℕ) (a : Answer) → Result w t m (C m) a → Result w t k (C k) a
-    choice-skip t a r = F.gives-eq lawful (skip-built (m - k) k (omega arith) p) r
+    choice-skip t a r = F.gives-eq lawful (passed .1) r
 
 -- ---- where the rule has ended
 pub end-second : (n x y d : ℕ) → n ≡ 0 → Is y d ≡ endOf n x y d

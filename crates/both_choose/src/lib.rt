@@ -96,7 +96,10 @@ fn rest_result(
     }
     let m = lowest_of(r, t, b, x, y);
     if k < m {
-        return rest_result(r, t, s, m, b, x, y, d);
+        let Answer::Is(z, e) = rest_result(r, t, s, m, b, x, y, d) else {
+            return Answer::NoRoom;
+        };
+        return Answer::Is(z, e);
     }
     let tag = tag_of(k, b);
     let memo = recall_in(t, s, CHOOSE, tag, x, y, d);

@@ -29,7 +29,7 @@ use Rattle.cost_nodes.specs.Nodes.{Holds, Good, top, Place, built, Result, Fill
 use Rattle.cost_nodes.specs.declared.Answer.{Answer}
 use Rattle.cost_nodes.specs.declared.Answer.the-variants.{Is, NoRoom}
 use Rattle.cost_nodes.proofs.Reading.{lawful, pos-from, sizes-from}
-use Rattle.cost_nodes.proofs.Stepping.{good-small, good-top, top-good, top-most, top-below}
+use Rattle.cost_nodes.proofs.Stepping.{good-small, good-top, top-good, top-most, top-below, skipped}
 use Rattle.cost_nodes.proofs.Filling.{filling-ext, filling-narrow}
 use Rattle.theory_costs.specs.Narrow.{Narrow}
 use Rattle.cost_engine.specs.Joint.{opOf, together, joint, jointFrom, ahead, gap, Bounded, Joinable, Operands, Branches}
@@ -67,33 +67,6 @@ module _ (w : List ℕ) (o : Operator) (k x y : ℕ) (d : ℤ) (p : Operands w o
 
   listed-bounded : (hk : k < features w) → Bounded o (size w k ∷ drop (suc k) (sizes w)) (nodes w) k (target x) (target y) d
   listed-bounded hk = subst (λ (ns : List ℕ). Bounded o ns (nodes w) k (target x) (target y) d) (sizes-from w k hk) (p .bounded)
-
-  module _ (m : ℕ) (hx : m ≤ top w x) (hy : m ≤ top w y) (h : k < m) where
-    pub skip-left : k < features w
-    skip-left = omega (arith, top-most w k x (p .holds) (p .first))
-
-    good-on : (z : ℕ) → Good w k z → m ≤ top w z → Good w (suc k) z
-    good-on z g l = top-good w (suc k) z (good-small w k z g) (omega arith)
-
-    -- neither tests feature k
-    pub operands-skip : Operands w o (k + 1) x y d
-    operands-skip =
-        rw add-one
-        (record {
-          holds = p .holds;
-          upTo = omega (arith, skip-left);
-          first = good-on x (p .first) hx;
-          second = good-on y (p .second) hy;
-          bounded = bounded-wait (nodes w) k (size w k) (drop (suc k) (sizes w)) (target x) (target y) d o (omega (arith, p .holds .laid .laid .large k skip-left))
-              (good-on x (p .first) hx) (good-on y (p .second) hy) (listed-bounded skip-left);
-          narrow = p .narrow;
-        })
-
-    pub joint-skip : (t : List ℕ) (a : Answer) → Result w t (k + 1) (jointFrom o (nodes w) (k + 1) (target x) (target y) d) a → Result w t k (jointFrom o (nodes w) k (target x) (target y) d) a
-    joint-skip t a r =
-        F.gives-eq lawful
-        (F.built-skip lawful w k (jointFrom o (nodes w) k (target x) (target y) d) (jointFrom o (nodes w) (k + 1) (target x) (target y) d) (p .holds) (omega (arith, length-sizes w, skip-left))
-        (λ v l s. rw add-one (joint-wait o (nodes w) k (bare (target x)) (bare (target y)) d v s (good-on x (p .first) hx) (good-on y (p .second) hy)))) r
 
   -- one value on
   pub operands-step : (v xa a yb b : ℕ) → k < features w → v < size w k → branch xa a ≡ branchAt (nodes w) k (target x) v → branch yb b ≡ branchAt (nodes w) k (target y) v
@@ -163,6 +136,50 @@ module _ (w : List ℕ) (o : Operator) (k x y : ℕ) (d : ℤ) (p : Operands w o
       (F.built-there lawful w k (branch 0 e) (jointFrom o (nodes w) k (target x) (target y) d) (p .holds) (subst (Ok (nodes w) k) (sym b) tt)
       (λ s. ap (λ (c : Branch costs). value (nodes w) k c s) b ∙ value-ending (nodes w) k (amount (opOf o (pos 0) d)) s
       ∙ sym (ap₂ (λ t u. jointFrom o (nodes w) k t u d s) ex ey ∙ joint-end o (nodes w) k d s)))
+
+-- ---- features that neither of two targets tests
+module _ (w : List ℕ) (o : Operator) (x y : ℕ) (d : ℤ) (m : ℕ) (hx : m ≤ top w x) (hy : m ≤ top w y) where
+  abbrev J : ℕ → Cost
+  J k = jointFrom o (nodes w) k (target x) (target y) d
+
+  module _ (k : ℕ) (h : k < m) (p : Operands w o k x y d) where
+    left : k < features w
+    left = omega (arith, top-most w k x (p .holds) (p .first))
+
+    good-on : (z : ℕ) → Good w k z → m ≤ top w z → Good w (suc k) z
+    good-on z g l = top-good w (suc k) z (good-small w k z g) (omega arith)
+
+    one-skip : Operands w o (suc k) x y d
+    one-skip =
+        record {
+          holds = p .holds;
+          upTo = omega (arith, left);
+          first = good-on x (p .first) hx;
+          second = good-on y (p .second) hy;
+          bounded = bounded-wait (nodes w) k (size w k) (drop (suc k) (sizes w)) (target x) (target y) d o (omega (arith, p .holds .laid .laid .large k left))
+              (good-on x (p .first) hx) (good-on y (p .second) hy) (listed-bounded w o k x y d p left);
+          narrow = p .narrow;
+        }
+
+    one-built : built w k (J k) ≡ built w (suc k) (J (suc k))
+    one-built =
+        F.built-skip lawful w k (J k) (J (suc k)) (p .holds) (omega (arith, length-sizes w, left))
+        (λ v l s. joint-wait o (nodes w) k (bare (target x)) (bare (target y)) d v s (good-on x (p .first) hx) (good-on y (p .second) hy))
+        ∙ ap (λ (j : ℕ). built w j (J (suc k))) (add-one k)
+
+  module _ (k : ℕ) (p : Operands w o k x y d) (h : k < m) where
+    pub skip-most : m ≤ features w
+    skip-most = omega (arith, top-most w k x (p .holds) (p .first))
+
+    -- all below m
+    passed : Operands w o m x y d × (built w k (J k) ≡ built w m (J m))
+    passed = skipped (λ (j : ℕ). Operands w o j x y d) (λ (j : ℕ). built w j (J j)) m one-skip one-built k h p
+
+    pub operands-skip : Operands w o m x y d
+    operands-skip = passed .0
+
+    pub joint-skip : (t : List ℕ) (a : Answer) → Result w t m (J m) a → Result w t k (J k) a
+    joint-skip t a r = F.gives-eq lawful (passed .1) r
 
 -- ---- two branches
 -- the difference by its word

@@ -55,8 +55,12 @@ fn rest_result(
     if x + y == 0 {
         return Answer::Is(0, end_word(o, d));
     }
-    if k < lowest(t, x, y) {
-        return rest_result(t, s, o, k + 1, x, y, d);
+    let m = lowest(t, x, y);
+    if k < m {
+        let Answer::Is(z, e) = rest_result(t, s, o, m, x, y, d) else {
+            return Answer::NoRoom;
+        };
+        return Answer::Is(z, e);
     }
     let number = number_of(o);
     let tag = narrow(k + 1);

@@ -1,7 +1,7 @@
 -- Tops, and steps down a diagram. Assumes nothing.
 use mathlib.Core.Path.{_≡_, sym, ap, subst, _∙_}
 use mathlib.Core.List.{List}
-use Prim.Native.Nat.{ℕ, zero, suc, _+_, _≤_, _<_}
+use Prim.Native.Nat.{ℕ, zero, suc, _+_, _-_, _≤_, _<_}
 use native.Mathlib.Numerals.{add-one}
 use native.Mathlib.Omega.{arith}
 use Rattle.theory.specs.Build.{Ext}
@@ -99,3 +99,13 @@ place-skip w k x p h l = record { holds = p .holds; good = top-good w (k + 1) x 
 pub place-ext : (w t : List ℕ) (k x : ℕ) → Place w k x → Kept w t → Holds t → Ext (nodes w) (nodes t) → Place t k x
 place-ext w t k x p kp h e =
     record { holds = h; good = ok-ext (nodes w) (nodes t) k (bare (target x)) e (p .good); upTo = omega (arith, p .upTo, kept-features w t kp) }
+
+-- ---- features that are passed over
+-- what leads from each feature below m to the next, P, and says the same there, f, leads to m
+module _ {A : Type 0} (P : ℕ → Type 0) (f : ℕ → A) (m : ℕ) (on : (k : ℕ) → k < m → P k → P (suc k)) (same : (k : ℕ) → k < m → P k → f k ≡ f (suc k)) where
+  onwards : (n k : ℕ) → k + n ≡ m → P k → P m × (f k ≡ f m)
+  onwards zero k e p = let q : k ≡ m = omega arith in (subst P q p, ap f q)
+  onwards (suc n) k e p = let r = onwards n (suc k) (omega arith) (on k (omega arith) p) in (r .0, same k (omega arith) p ∙ r .1)
+
+  pub skipped : (k : ℕ) → k < m → P k → P m × (f k ≡ f m)
+  skipped k h p = onwards (m - k) k (omega arith) p

@@ -125,10 +125,10 @@ rest-result-claims t = (
 )
 
 branch-result-sum-word-requires : (t : ℕ) → branch-result-lts.Need-sum-word-requires (branch-result-claims t) (branch-result-at t) branch-result.Post
-branch-result-sum-word-requires t c κs = (c .before .before .before) .pre .1 .0 .ahead
+branch-result-sum-word-requires t c κs = c .before .before .before .pre .1 .0 .ahead
 
 branch-result-difference-word-requires : (t : ℕ) → branch-result-lts.Need-difference-word-requires (branch-result-claims t) (branch-result-at t) branch-result.Post
-branch-result-difference-word-requires t c κs = more-fits _ _ _ _ _ _ _ _ _ ((c .before .before .before .before) .pre .1 .0) ((c .sum-word) .result) ((c .sum-word) .ensures)
+branch-result-difference-word-requires t c κs = more-fits _ _ _ _ _ _ _ _ _ (c .before .before .before .before .pre .1 .0) (c .sum-word .result) (c .sum-word .ensures)
 
 branch-result-rest-result-requires : (t : ℕ) → branch-result-lts.Need-rest-result-requires (branch-result-claims t) (branch-result-at t) branch-result.Post
 branch-result-rest-result-requires t c κs =
@@ -144,8 +144,7 @@ branch-result-rest-result-requires t c κs =
 
 branch-result-returns : (t : ℕ) → branch-result-lts.Need-returns (branch-result-claims t) (branch-result-at t) branch-result.Post
 branch-result-returns t c =
-    let c6 = c .before .before .before .before .before .before in let c9 = c6 .before .before .before in let c10 = c9 .before in
-    let c14 = c10 .before .before .before .before in
+    let c6 = c .before .before .before .before .before .before in let c9 = c6 .before .before .before in let c10 = c9 .before in let c14 = c10 .before .before .before .before in
     let p = c14 .pre .1 .0 in (
       choice-stopped _ _ _ _ _ _ _ _ _ p _ _ (more-is _ _ _ _ _ _ _ _ _ p _ (c9 .difference-word .result) (c10 .sum-word .ensures) (c9 .difference-word .ensures)) _
           (c6 .rest-result .ensures .0) (c .enum-told .given .1),
@@ -154,16 +153,14 @@ branch-result-returns t c =
 
 branch-result-sum-word-requires-2 : (t : ℕ) → branch-result-lts.Need-sum-word-requires-2 (branch-result-claims t) (branch-result-at t) branch-result.Post
 branch-result-sum-word-requires-2 t c κs =
-    let c7 = c .before .before .before .before .before .before .before in let c10 = c7 .before .before .before in let c11 = c10 .before in
-    let c15 = c11 .before .before .before .before in
+    let c7 = c .before .before .before .before .before .before .before in let c10 = c7 .before .before .before in let c11 = c10 .before in let c15 = c11 .before .before .before .before in
     let p = c15 .pre .1 .0 in
     sum-fits _ _ _ _ _ _ _ _ _ p _ _ (more-is _ _ _ _ _ _ _ _ _ p _ (c10 .difference-word .result) (c11 .sum-word .ensures) (c10 .difference-word .ensures)) _
     (c7 .rest-result .ensures .0) _ _ (c .before .z .given .1)
 
 branch-result-returns-2 : (t : ℕ) → branch-result-lts.Need-returns-2 (branch-result-claims t) (branch-result-at t) branch-result.Post
 branch-result-returns-2 t c =
-    let c8 = c .before .before .before .before .before .before .before .before in let c11 = c8 .before .before .before in let c12 = c11 .before in
-    let c16 = c12 .before .before .before .before in
+    let c8 = c .before .before .before .before .before .before .before .before in let c11 = c8 .before .before .before in let c12 = c11 .before in let c16 = c12 .before .before .before .before in
     let p = c16 .pre .1 .0 in (
       choice-raised _ _ _ _ _ _ _ _ _ p _ _ (more-is _ _ _ _ _ _ _ _ _ p _ (c11 .difference-word .result) (c12 .sum-word .ensures) (c11 .difference-word .ensures)) _
           (c8 .rest-result .ensures .0) _ _ _ (c .before .before .z .given .1) (c .sum-word2 .ensures),
@@ -185,33 +182,37 @@ fill-branches-size-word-requires t c κs =
 fill-branches-loop-holds : (t : ℕ) → fill-branches-lts.Need-loop-holds (fill-branches-claims t) (fill-branches-at t) fill-branches.Post fill-branches-Inv-loop fill-branches-μ-loop
 fill-branches-loop-holds t c =
     let a = c .before .before .before .before .before .before in
-    let e : (c .wide) .result ≡ size (plain (a .args .t .now)) (a .args .k) = c .wide .ensures .0 ∙ c .before .size-word .ensures
+    let e : c .wide .result ≡ size (plain (a .args .t .now)) (a .args .k) = c .wide .ensures .0 ∙ c .before .size-word .ensures
     ∙ sym (plain-head (a .args .t .now) (3 + a .args .k) (omega (arith, a .pre .1 .0 .holds .laid .laid .few, a .pre .1 .2))) in
     (e, omega arith, fill-start _ (a .args .k) _ (a .pre .1 .0 .holds) (a .pre .1 .2) _ _ refl refl (λ u h. getD-replicate 8 u 0 0 h), a .pre .1 .1, refl, refl)
 
 fill-branches-branch-at-requires : (t : ℕ) → fill-branches-lts.Need-branch-at-requires (fill-branches-claims t) (fill-branches-at t) fill-branches.Post fill-branches-Inv-loop fill-branches-μ-loop
-fill-branches-branch-at-requires t c κs = let p = (c .before .before .before .before .before .before .before .before) .pre .1 in
-    let q = rule-step _ _ _ _ _ _ _ (p .0) ((c .before .loop) .v) (p .2) (omega (arith, (c .before .loop) .inv .0, (c .loop-test))) in
+fill-branches-branch-at-requires t c κs =
+    let c8 = c .before .before .before .before .before .before .before .before in
+    let p = c8 .pre .1 in
+    let q = rule-step _ _ _ _ _ _ _ (p .0) (c .before .loop .v) (p .2) (omega (arith, c .before .loop .inv .0, c .loop-test)) in
     (p .0 .rule, q .0, q .1)
 
 fill-branches-arm-in-requires : (t : ℕ) → fill-branches-lts.Need-arm-in-requires (fill-branches-claims t) (fill-branches-at t) fill-branches.Post fill-branches-Inv-loop fill-branches-μ-loop
-fill-branches-arm-in-requires t c κs = let a = (c .before .before .before .before .before .before .before .before .before .before) in
-    let l = (c .before .before .before .loop) in
+fill-branches-arm-in-requires t c κs =
+    let a = c .before .before .before .before .before .before .before .before .before .before in
+    let l = c .before .before .before .loop in
     let fl = l .inv .2 in
     let kp = fl .filled .grown .kept in (
       first-place _ _ _ _ _ _ _ (choices-ext _ (plain (a .args .t .now)) (a .args .k) _ _ _ _ (a .pre .1 .0) _ (l .v) (l .goes) (l .adds) fl (a .pre .1 .2) (omega (arith, l .inv .0, l .inv .1))),
       omega (arith, kept-features _ _ kp, a .pre .1 .2),
-      omega (arith, kept-size _ _ kp (a .pre .1 .0 .holds .laid .laid .few) (a .args .k) (a .pre .1 .2), l .inv .0, (c .before .before .loop-test)),
+      omega (arith, kept-size _ _ kp (a .pre .1 .0 .holds .laid .laid .few) (a .args .k) (a .pre .1 .2), l .inv .0, c .before .before .loop-test),
     )
 
 fill-branches-arm-in-requires-2 : (t : ℕ) → fill-branches-lts.Need-arm-in-requires-2 (fill-branches-claims t) (fill-branches-at t) fill-branches.Post fill-branches-Inv-loop fill-branches-μ-loop
-fill-branches-arm-in-requires-2 t c κs = let a = (c .before .before .before .before .before .before .before .before .before .before .before .before) in
-    let l = (c .before .before .before .before .before .loop) in
+fill-branches-arm-in-requires-2 t c κs =
+    let a = c .before .before .before .before .before .before .before .before .before .before .before .before in
+    let l = c .before .before .before .before .before .loop in
     let fl = l .inv .2 in
     let kp = fl .filled .grown .kept in (
       second-place _ _ _ _ _ _ _ (choices-ext _ (plain (a .args .t .now)) (a .args .k) _ _ _ _ (a .pre .1 .0) _ (l .v) (l .goes) (l .adds) fl (a .pre .1 .2) (omega (arith, l .inv .0, l .inv .1))),
       omega (arith, kept-features _ _ kp, a .pre .1 .2),
-      omega (arith, kept-size _ _ kp (a .pre .1 .0 .holds .laid .laid .few) (a .args .k) (a .pre .1 .2), l .inv .0, (c .before .before .before .before .loop-test)),
+      omega (arith, kept-size _ _ kp (a .pre .1 .0 .holds .laid .laid .few) (a .args .k) (a .pre .1 .2), l .inv .0, c .before .before .before .before .loop-test),
     )
 
 fill-branches-add-branch-result : (t : ℕ) → fill-branches-lts.Need-add-branch-result (fill-branches-claims t) (fill-branches-at t) fill-branches.Post fill-branches-Inv-loop fill-branches-μ-loop
@@ -222,8 +223,7 @@ fill-branches-add-branch-result t c =
 fill-branches-branch-result-requires : (t : ℕ) → fill-branches-lts.Need-branch-result-requires (fill-branches-claims t)
     (fill-branches-at t) fill-branches.Post fill-branches-Inv-loop fill-branches-μ-loop
 fill-branches-branch-result-requires t c κs =
-    let c6 = c .before .before .before .before .before .before in let c7 = c6 .before in let c8 = c7 .before in
-    let a = c8 .before .before .before .before .before .before .before in
+    let c6 = c .before .before .before .before .before .before in let c7 = c6 .before in let c8 = c7 .before in let a = c8 .before .before .before .before .before .before .before in
     let l = c8 .loop in
     let fl = l .inv .2 in
     let kp = fl .filled .grown .kept in
@@ -233,7 +233,7 @@ fill-branches-branch-result-requires t c κs =
       (
         choices-step _ _ _ _ _ _ _ (choices-ext _ (plain (a .args .t .now)) (a .args .k) _ _ _ _ (a .pre .1 .0) _ (l .v) (l .goes) (l .adds) fl hk
             (omega (arith, l .inv .0, l .inv .1))) (l .v) _ _ _ _ _ (omega arith) (omega
-            (arith, kept-size _ _ kp (a .pre .1 .0 .holds .laid .laid .few) (a .args .k) hk, l .inv .0, (c7 .loop-test))) (c6 .branch-at .ensures)
+            (arith, kept-size _ _ kp (a .pre .1 .0 .holds .laid .laid .few) (a .args .k) hk, l .inv .0, c7 .loop-test)) (c6 .branch-at .ensures)
             (c .before .before .before .before .arm-in .ensures) (c .before .before .arm-in2 .ensures),
         l .inv .3,
       ),
@@ -241,11 +241,11 @@ fill-branches-branch-result-requires t c κs =
 
 fill-branches-returns : (t : ℕ) → fill-branches-lts.Need-returns (fill-branches-claims t) (fill-branches-at t) fill-branches.Post fill-branches-Inv-loop fill-branches-μ-loop
 fill-branches-returns t c =
-    let c6 = c .before .before .before .before .before .before in let c9 = c6 .before .before .before in let c11 = c9 .before .before in let c13 = c11 .before .before in
-    let c14 = c13 .before in let c15 = c14 .before in let a = c15 .before .before .before .before .before .before .before in
+    let c6 = c .before .before .before .before .before .before in let c9 = c6 .before .before .before in let c11 = c9 .before .before in let c13 = c11 .before .before in let c14 = c13 .before in
+    let c15 = c14 .before in let a = c15 .before .before .before .before .before .before .before in
     let l = c15 .loop in
     let fl = l .inv .2 in (
-      fill-stop (plain (a .args .t .now)) (a .args .k) _ (a .pre .1 .0 .holds) (a .pre .1 .2) (plain (l .t)) _ (l .v) (l .goes) (l .adds) _ _ fl (omega (arith, l .inv .0, (c14 .loop-test)))
+      fill-stop (plain (a .args .t .now)) (a .args .k) _ (a .pre .1 .0 .holds) (a .pre .1 .2) (plain (l .t)) _ (l .v) (l .goes) (l .adds) _ _ fl (omega (arith, l .inv .0, c14 .loop-test))
           (choice-held _ (plain (a .args .t .now)) (a .args .k) _ _ _ _ (a .pre .1 .0) (plain (l .t)) (l .v) _ _ _ _ _
           (filling-ext (plain (a .args .t .now)) (a .args .k) _ (a .pre .1 .0 .holds) (a .pre .1 .2) (plain (l .t)) (l .v) (l .goes) (l .adds) fl)
           (c13 .branch-at .ensures) (c11 .arm-in .ensures) (c9 .arm-in2 .ensures))
@@ -257,23 +257,24 @@ fill-branches-array-write-goes : (t : ℕ) → fill-branches-lts.Need-array-writ
 fill-branches-array-write-goes t c =
     let c15 = c .before .before .before .before .before .before .before .before .before .before .before .before .before .before .before in let c16 = c15 .before in
     let a = c16 .before .before .before .before .before .before .before in
-    omega (arith, a .pre .1 .0 .holds .laid .laid .large (a .args .k) (a .pre .1 .2), c16 .loop .inv .0, c16 .loop .inv .2 .targets, (c15 .loop-test))
+    omega (arith, a .pre .1 .0 .holds .laid .laid .large (a .args .k) (a .pre .1 .2), c16 .loop .inv .0, c16 .loop .inv .2 .targets, c15 .loop-test)
 
 fill-branches-array-write-adds : (t : ℕ) → fill-branches-lts.Need-array-write-adds (fill-branches-claims t) (fill-branches-at t) fill-branches.Post fill-branches-Inv-loop fill-branches-μ-loop
 fill-branches-array-write-adds t c =
     let c15 = c .before .before .before .before .before .before .before .before .before .before .before .before .before .before .before in let c16 = c15 .before in
     let a = c16 .before .before .before .before .before .before .before in
-    omega (arith, a .pre .1 .0 .holds .laid .laid .large (a .args .k) (a .pre .1 .2), c16 .loop .inv .0, c16 .loop .inv .2 .addeds, (c15 .loop-test))
+    omega (arith, a .pre .1 .0 .holds .laid .laid .large (a .args .k) (a .pre .1 .2), c16 .loop .inv .0, c16 .loop .inv .2 .addeds, c15 .loop-test)
 
 fill-branches-loop-again : (t : ℕ) → fill-branches-lts.Need-loop-again (fill-branches-claims t) (fill-branches-at t) fill-branches.Post fill-branches-Inv-loop fill-branches-μ-loop
-fill-branches-loop-again t c = let a =
+fill-branches-loop-again t c =
+    let a =
     c .before .before .before .before .before .before .before .before .before .before .before .before .before .before .before .before .before .before .before .before .before .before .before in
     let l = c .before .before .before .before .before .before .before .before .before .before .before .before .before .before .before .before .loop in
     let fl = l .inv .2 in (
       l .inv .0,
-      omega (arith, (c .before .before .before .before .before .before .before .before .before .before .before .before .before .before .before .loop-test)),
+      omega (arith, c .before .before .before .before .before .before .before .before .before .before .before .before .before .before .before .loop-test),
       fill-more (plain (a .args .t .now)) (a .args .k) _ (a .pre .1 .0 .holds) (a .pre .1 .2) (plain (l .t)) _ (l .v) _ _ (l .goes) (l .adds) _ _ fl
-          (omega (arith, l .inv .0, (c .before .before .before .before .before .before .before .before .before .before .before .before .before .before .before .loop-test)))
+          (omega (arith, l .inv .0, c .before .before .before .before .before .before .before .before .before .before .before .before .before .before .before .loop-test))
           (choice-held _ (plain (a .args .t .now)) (a .args .k) _ _ _ _ (a .pre .1 .0) (plain (l .t)) (l .v) _ _ _ _ _
           (filling-ext (plain (a .args .t .now)) (a .args .k) _ (a .pre .1 .0 .holds) (a .pre .1 .2) (plain (l .t)) (l .v) (l .goes) (l .adds) fl)
           (c .before .before .before .before .before .before .before .before .before .before .before .before .before .before .branch-at .ensures)
@@ -286,48 +287,64 @@ fill-branches-loop-again t c = let a =
     )
 
 fill-branches-returns-2 : (t : ℕ) → fill-branches-lts.Need-returns-2 (fill-branches-claims t) (fill-branches-at t) fill-branches.Post fill-branches-Inv-loop fill-branches-μ-loop
-fill-branches-returns-2 t c = let a = (c .before .before .before .before .before .before .before .before) in
-    let l = (c .before .loop) in
-    let e : l .v ≡ size (plain (a .args .t .now)) (a .args .k) = omega (arith, l .inv .0, l .inv .1, (c .loop-test)) in
+fill-branches-returns-2 t c =
+    let a = c .before .before .before .before .before .before .before .before in
+    let l = c .before .loop in
+    let e : l .v ≡ size (plain (a .args .t .now)) (a .args .k) = omega (arith, l .inv .0, l .inv .1, c .loop-test) in
     (rw e at (l .inv .2), l .inv .3)
 
 rest-result-number-of-requires : (t : ℕ) → rest-result-lts.Need-number-of-requires (rest-result-claims t) (rest-result-at t) rest-result.Post
-rest-result-number-of-requires t c κs = sure ((c .if1) .taken) ((c .before .is-number) .ensures)
+rest-result-number-of-requires t c κs = sure (c .if1 .taken) (c .before .is-number .ensures)
 
 rest-result-returns : (t : ℕ) → rest-result-lts.Need-returns (rest-result-claims t) (rest-result-at t) rest-result.Post
-rest-result-returns t c = let a = (c .before .before .before .before .before .before .before) in
-    (choice-ends _ _ _ _ _ _ _ (a .pre .1 .0) _ (a .args .d) ((c .before .number-of) .ensures) refl _ ((c .ended) .ensures), still-there _ _ _ ((c .ended) .result) (a .pre .1 .1))
+rest-result-returns t c =
+    let a = c .before .before .before .before .before .before .before in
+    (choice-ends _ _ _ _ _ _ _ (a .pre .1 .0) _ (a .args .d) (c .before .number-of .ensures) refl _ (c .ended .ensures), still-there _ _ _ (c .ended .result) (a .pre .1 .1))
 
 rest-result-lowest-of-requires : (t : ℕ) → rest-result-lts.Need-lowest-of-requires (rest-result-claims t) (rest-result-at t) rest-result.Post
-rest-result-lowest-of-requires t c κs = let p = (c .before .before .before .before .before .before) .pre .1 .0 in
+rest-result-lowest-of-requires t c κs =
+    let c6 = c .before .before .before .before .before .before in
+    let p = c6 .pre .1 .0 in
     (record { from = _; lends = p .rule }, p .holds .laid .laid, good-small _ _ _ (p .first), good-small _ _ _ (p .second))
 
 rest-result-rest-result-requires : (t : ℕ) → rest-result-lts.Need-rest-result-requires (rest-result-claims t) (rest-result-at t) rest-result.Post
-rest-result-rest-result-requires t c κs = let p = (c .before .before .before .before .before .before .before .before .before .before) .pre .1 in
-    let m = skip-most _ _ _ _ _ _ _ ((c .before .before .before .lowest-of) .ensures) _ (p .0) (omega (arith, (c .before .before .if2))) in
-    (omega arith, (choices-skip _ _ _ _ _ _ _ ((c .before .before .before .lowest-of) .ensures) _ (p .0) (omega (arith, (c .before .before .if2))), p .1))
+rest-result-rest-result-requires t c κs =
+    let c10 = c .before .before .before .before .before .before .before .before .before .before in
+    let p = c10 .pre .1 in
+    let m = skip-most _ _ _ _ _ _ _ (c .before .before .before .lowest-of .ensures) _ (p .0) (omega (arith, c .before .before .if2)) in
+    (omega arith, (choices-skip _ _ _ _ _ _ _ (c .before .before .before .lowest-of .ensures) _ (p .0) (omega (arith, c .before .before .if2)), p .1))
 
 rest-result-returns-2 : (t : ℕ) → rest-result-lts.Need-returns-2 (rest-result-claims t) (rest-result-at t) rest-result.Post
 rest-result-returns-2 t c =
-    let c7 = c .before .before .before .before .before .before .before in let c8 = c7 .before in let c15 = c8 .before .before .before .before .before .before .before in
-    let p = c15 .pre .1 in (
-      choice-skip _ _ _ _ _ _ _ (c8 .lowest-of .ensures) _ (p .0) (omega (arith, (c7 .if2))) _ (c .before .before .before .before .rest-result .result)
-          (c .before .before .before .before .rest-result .ensures .0),
-      c .before .before .before .before .rest-result .ensures .1,
-    )
-
-rest-result-tag-of-requires : (t : ℕ) → rest-result-lts.Need-tag-of-requires (rest-result-claims t) (rest-result-at t) rest-result.Post
-rest-result-tag-of-requires t c κs = let p = (c .before .before .before .before .before .before .before .before) .pre .1 .0 in
-    let hk = still-left _ _ _ _ _ _ _ p (sure-not ((c .before .before .before .if1) .left) ((c .before .before .before .before .is-number) .ensures)) in
-    (omega (arith, p .holds .laid .laid .few), key-small (p .rule))
-
-rest-result-recall-in-requires : (t : ℕ) → rest-result-lts.Need-recall-in-requires (rest-result-claims t) (rest-result-at t) rest-result.Post
-rest-result-recall-in-requires t c κs = (c .before .before .before .before .before .before .before .before .before .before .before) .pre .1 .1 .room
+    let c6 = c .before .before .before .before .before .before in let c9 = c6 .before .before .before in let c10 = c9 .before in
+    let c17 = c10 .before .before .before .before .before .before .before in
+    let p = c17 .pre .1 in
+    let r = choice-skip _ _ _ _ _ _ _ (c10 .lowest-of .ensures) _ (p .0) (omega (arith, c9 .if2)) _ (c6 .rest-result .result) (c6 .rest-result .ensures .0) in
+    (gives-none (c .enum-told .given .1) r, tt)
 
 rest-result-returns-3 : (t : ℕ) → rest-result-lts.Need-returns-3 (rest-result-claims t) (rest-result-at t) rest-result.Post
 rest-result-returns-3 t c =
-    let c6 = c .before .before .before .before .before .before in let c10 = c6 .before .before .before .before in let c11 = c10 .before in
-    let a = c11 .before .before .before .before in
+    let c7 = c .before .before .before .before .before .before .before in let c10 = c7 .before .before .before in let c11 = c10 .before in
+    let c18 = c11 .before .before .before .before .before .before .before in
+    let p = c18 .pre .1 in
+    let r = choice-skip _ _ _ _ _ _ _ (c11 .lowest-of .ensures) _ (p .0) (omega (arith, c10 .if2)) _ (c7 .rest-result .result) (c7 .rest-result .ensures .0) in
+    (gives-is (c .before .z .given .1) r, subst (Still _ _ _) (c .before .z .given .1) (c7 .rest-result .ensures .1))
+
+rest-result-tag-of-requires : (t : ℕ) → rest-result-lts.Need-tag-of-requires (rest-result-claims t) (rest-result-at t) rest-result.Post
+rest-result-tag-of-requires t c κs =
+    let c8 = c .before .before .before .before .before .before .before .before in
+    let p = c8 .pre .1 .0 in
+    let hk = still-left _ _ _ _ _ _ _ p (sure-not (c .before .before .before .if1 .left) (c .before .before .before .before .is-number .ensures)) in
+    (omega (arith, p .holds .laid .laid .few), key-small (p .rule))
+
+rest-result-recall-in-requires : (t : ℕ) → rest-result-lts.Need-recall-in-requires (rest-result-claims t) (rest-result-at t) rest-result.Post
+rest-result-recall-in-requires t c κs =
+    let c11 = c .before .before .before .before .before .before .before .before .before .before .before in
+    c11 .pre .1 .1 .room
+
+rest-result-returns-4 : (t : ℕ) → rest-result-lts.Need-returns-4 (rest-result-claims t) (rest-result-at t) rest-result.Post
+rest-result-returns-4 t c =
+    let c6 = c .before .before .before .before .before .before in let c10 = c6 .before .before .before .before in let c11 = c10 .before in let a = c11 .before .before .before .before in
     let p = a .pre .1 in
     let hk = still-left _ _ _ _ _ _ _ (p .0) (sure-not (c10 .if1 .left) (c11 .is-number .ensures)) in (
       hit _ _ (a .args .k) (a .args .b) (memory (a .args .t .now) (a .args .s .now)) _ _ _ _ (p .0) (omega (arith, p .0 .holds .laid .laid .few)) (c6 .tag-of .ensures) refl (p .1 .right)
@@ -337,17 +354,15 @@ rest-result-returns-3 t c =
 
 rest-result-fill-branches-requires : (t : ℕ) → rest-result-lts.Need-fill-branches-requires (rest-result-claims t) (rest-result-at t) rest-result.Post
 rest-result-fill-branches-requires t c κs =
-    let c11 = c .before .before .before .before .before .before .before .before .before .before .before in let c12 = c11 .before in
-    let c16 = c12 .before .before .before .before in
+    let c11 = c .before .before .before .before .before .before .before .before .before .before .before in let c12 = c11 .before in let c16 = c12 .before .before .before .before in
     let p = c16 .pre .1 in
     let hk = still-left _ _ _ _ _ _ _ (p .0) (sure-not (c11 .if1 .left) (c12 .is-number .ensures)) in
     (omega arith, (p .0, p .1, hk))
 
 rest-result-make-in-requires : (t : ℕ) → rest-result-lts.Need-make-in-requires (rest-result-claims t) (rest-result-at t) rest-result.Post
 rest-result-make-in-requires t c κs =
-    let c8 = c .before .before .before .before .before .before .before .before in
-    let c20 = c8 .before .before .before .before .before .before .before .before .before .before .before .before in let c21 = c20 .before in
-    let a = c21 .before .before .before .before in
+    let c8 = c .before .before .before .before .before .before .before .before in let c20 = c8 .before .before .before .before .before .before .before .before .before .before .before .before in
+    let c21 = c20 .before in let a = c21 .before .before .before .before in
     let p = a .pre .1 .0 in
     let hk = still-left _ _ _ _ _ _ _ p (sure-not (c20 .if1 .left) (c21 .is-number .ensures)) in
     let fl = filled _ _ _ _ _ _ _ (c .before .before .before .if3 .taken) (c8 .fill-branches .ensures .0) in (
@@ -357,44 +372,42 @@ rest-result-make-in-requires t c κs =
       fill-armed _ _ _ (p .holds) hk _ _ _ fl (choice-near _ _ _ _ _ _ _ p) (p .narrow),
     )
 
-rest-result-returns-4 : (t : ℕ) → rest-result-lts.Need-returns-4 (rest-result-claims t) (rest-result-at t) rest-result.Post
-rest-result-returns-4 t c =
+rest-result-returns-5 : (t : ℕ) → rest-result-lts.Need-returns-5 (rest-result-claims t) (rest-result-at t) rest-result.Post
+rest-result-returns-5 t c =
     let c8 = c .before .before .before .before .before .before .before .before in let c13 = c8 .before .before .before .before .before in
-    let c25 = c13 .before .before .before .before .before .before .before .before .before .before .before .before in let c26 = c25 .before in
-    let a = c26 .before .before .before .before in
+    let c25 = c13 .before .before .before .before .before .before .before .before .before .before .before .before in let c26 = c25 .before in let a = c26 .before .before .before .before in
     let p = a .pre .1 .0 in
     let hk = still-left _ _ _ _ _ _ _ p (sure-not (c25 .if1 .left) (c26 .is-number .ensures)) in
     let fl = filled _ _ _ _ _ _ _ (c8 .if3 .taken) (c13 .fill-branches .ensures .0) in
     let m = c .before .before .before .before .make-in in
-    (gives-none (c .enum-told2 .given .1) (fill-make _ _ _ (p .holds) hk _ _ _ _ (m .result) fl (m .ensures .0)), tt)
+    (gives-none (c .enum-told3 .given .1) (fill-make _ _ _ (p .holds) hk _ _ _ _ (m .result) fl (m .ensures .0)), tt)
 
 rest-result-remember-in-requires : (t : ℕ) → rest-result-lts.Need-remember-in-requires (rest-result-claims t) (rest-result-at t) rest-result.Post
 rest-result-remember-in-requires t c κs =
-    let c7 = c .before .before .before .before .before .before .before in let c11 = c7 .before .before .before .before in
-    let c16 = c11 .before .before .before .before .before in let c24 = c16 .before .before .before .before .before .before .before .before in
+    let c7 = c .before .before .before .before .before .before .before in let c11 = c7 .before .before .before .before in let c16 = c11 .before .before .before .before .before in
+    let c24 = c16 .before .before .before .before .before .before .before .before in
     (grown-roomy _ _ (c7 .make-in .ensures .0 .grown .kept) (subst (StillIf _ _ _) (c11 .if3 .taken) (c16 .fill-branches .ensures .1) .room), omega (arith, c24 .tag-of .ensures))
 
-rest-result-returns-5 : (t : ℕ) → rest-result-lts.Need-returns-5 (rest-result-claims t) (rest-result-at t) rest-result.Post
-rest-result-returns-5 t c =
-    let c8 = c .before .before .before .before .before .before .before .before in let c12 = c8 .before .before .before .before in
-    let c16 = c12 .before .before .before .before in let c21 = c16 .before .before .before .before .before in
-    let c29 = c21 .before .before .before .before .before .before .before .before in let c33 = c29 .before .before .before .before in let c34 = c33 .before in
-    let a = c34 .before .before .before .before in
+rest-result-returns-6 : (t : ℕ) → rest-result-lts.Need-returns-6 (rest-result-claims t) (rest-result-at t) rest-result.Post
+rest-result-returns-6 t c =
+    let c8 = c .before .before .before .before .before .before .before .before in let c12 = c8 .before .before .before .before in let c16 = c12 .before .before .before .before in
+    let c21 = c16 .before .before .before .before .before in let c29 = c21 .before .before .before .before .before .before .before .before in let c33 = c29 .before .before .before .before in
+    let c34 = c33 .before in let a = c34 .before .before .before .before in
     let p = a .pre .1 .0 in
     let hk = still-left _ _ _ _ _ _ _ p (sure-not (c33 .if1 .left) (c34 .is-number .ensures)) in
     let fl = filled _ _ _ _ _ _ _ (c16 .if3 .taken) (c21 .fill-branches .ensures .0) in
     let m = c12 .make-in in
-    let re = gives-is (c8 .z .given .1) (fill-make _ _ _ (p .holds) hk _ _ _ _ (m .result) fl (m .ensures .0)) in (
+    let re = gives-is (c8 .z2 .given .1) (fill-make _ _ _ (p .holds) hk _ _ _ _ (m .result) fl (m .ensures .0)) in (
       rw (c .before .before .before .before .remember-in .ensures .0) re,
       noted-result costTable (says-more (a .args .r .now)) (fl .filled .grown .well) (m .ensures .0 .grown) (make-grows _ _ _) (m .ensures .1)
           (subst (StillIf _ _ _) (c16 .if3 .taken) (c21 .fill-branches .ensures .1)) refl (c .before .before .before .before .remember-in .ensures)
           (result-says _ _ _ (a .args .k) (a .args .b) _ _ _ p (omega (arith, p .holds .laid .laid .few)) (c29 .tag-of .ensures) re),
     )
 
-rest-result-returns-6 : (t : ℕ) → rest-result-lts.Need-returns-6 (rest-result-claims t) (rest-result-at t) rest-result.Post
-rest-result-returns-6 t c =
-    let c17 = c .before .before .before .before .before .before .before .before .before .before .before .before .before .before .before .before .before in
-    let c18 = c17 .before in let a = c18 .before .before .before .before in
+rest-result-returns-7 : (t : ℕ) → rest-result-lts.Need-returns-7 (rest-result-claims t) (rest-result-at t) rest-result.Post
+rest-result-returns-7 t c =
+    let c17 = c .before .before .before .before .before .before .before .before .before .before .before .before .before .before .before .before .before in let c18 = c17 .before in
+    let a = c18 .before .before .before .before in
     let p = a .pre .1 .0 in
     let hk = still-left _ _ _ _ _ _ _ p (sure-not (c17 .if1 .left) (c18 .is-number .ensures)) in
     (stop-result _ _ _ (p .holds) hk _ (not-filled _ _ _ _ _ _ _ (c .if3 .left) (c .before .before .before .before .before .fill-branches .ensures .0)), tt)
@@ -455,13 +468,18 @@ pub +branch-result+fill-branches+rest-result-spec : {M : Type 1} → statement M
     (rest-result-rest-result-requires t)
     (λ c. search needs)
     (λ c. search needs)
+    (λ c. search needs)
+    (λ c. search needs)
     (rest-result-returns-2 t)
+    (λ c. search needs)
+    (λ c. search needs)
+    (rest-result-returns-3 t)
     (rest-result-tag-of-requires t)
     (rest-result-recall-in-requires t)
     (λ c. search needs)
     (λ c. search needs)
     (λ c. search needs)
-    (rest-result-returns-3 t)
+    (rest-result-returns-4 t)
     (λ c. search needs)
     (rest-result-fill-branches-requires t)
     (rest-result-make-in-requires t)
@@ -469,11 +487,11 @@ pub +branch-result+fill-branches+rest-result-spec : {M : Type 1} → statement M
     (λ c. search needs)
     (λ c. search needs)
     (λ c. search needs)
-    (rest-result-returns-4 t)
+    (rest-result-returns-5 t)
     (rest-result-remember-in-requires t)
     (λ c. search needs)
     (λ c. search needs)
-    (rest-result-returns-5 t)
-    (λ c. search needs)
-    (λ c. search needs)
     (rest-result-returns-6 t)
+    (λ c. search needs)
+    (λ c. search needs)
+    (rest-result-returns-7 t)

@@ -20,7 +20,7 @@ use Rattle.cost_notes.proofs.Reading.{plain-head}
 use Rattle.cost_engine.specs.Joint.{jointFrom, Operands}
 use Rattle.cost_engine.specs.Memory.{Noted, Still, StillIf}
 use Rattle.cost_engine.proofs.Recalling.{recalled-result, result-recalled, right-here, right-more}
-use Rattle.cost_engine.proofs.Walking.{first-place, second-place, operands-more, operands-end, at-gap, still-left, skip-left, operands-skip, joint-skip, operands-step}
+use Rattle.cost_engine.proofs.Walking.{first-place, second-place, operands-more, operands-end, at-gap, still-left, skip-most, operands-skip, joint-skip, operands-step}
 use Rattle.cost_engine.proofs.Walking.{joint-held, operands-ext, joint-ends, sum-fits, joint-raised, joint-stopped}
 use borrow.Author.Needs.{needs}
 use borrow.Fn.Kinds.{In}
@@ -118,7 +118,7 @@ rest-result-claims t = (
 )
 
 branch-result-gap-word-requires : (t : ℕ) → branch-result-lts.Need-gap-word-requires (branch-result-claims t) (branch-result-at t) branch-result.Post
-branch-result-gap-word-requires t c κs = operands-more _ _ _ _ _ _ ((c .before .before) .pre .1 .0 .rest)
+branch-result-gap-word-requires t c κs = operands-more _ _ _ _ _ _ (c .before .before .pre .1 .0 .rest)
 
 branch-result-rest-result-requires : (t : ℕ) → branch-result-lts.Need-rest-result-requires (branch-result-claims t) (branch-result-at t) branch-result.Post
 branch-result-rest-result-requires t c κs =
@@ -138,7 +138,9 @@ branch-result-returns t c =
     (joint-stopped (plain (a .args .t .now)) _ _ _ _ _ _ _ (a .pre .1 .0) _ (gives-none (c .enum-told .given .1) r), tt)
 
 branch-result-ahead-word-requires : (t : ℕ) → branch-result-lts.Need-ahead-word-requires (branch-result-claims t) (branch-result-at t) branch-result.Post
-branch-result-ahead-word-requires t c κs = (c .before .before .before .before .before .before .before .before .before .before .before .before .before) .pre .1 .0 .lead
+branch-result-ahead-word-requires t c κs =
+    let c13 = c .before .before .before .before .before .before .before .before .before .before .before .before .before in
+    c13 .pre .1 .0 .lead
 
 branch-result-sum-word-requires : (t : ℕ) → branch-result-lts.Need-sum-word-requires (branch-result-claims t) (branch-result-at t) branch-result.Post
 branch-result-sum-word-requires t c κs =
@@ -170,28 +172,30 @@ fill-branches-size-word-requires t c κs =
 fill-branches-loop-holds : (t : ℕ) → fill-branches-lts.Need-loop-holds (fill-branches-claims t) (fill-branches-at t) fill-branches.Post fill-branches-Inv-loop fill-branches-μ-loop
 fill-branches-loop-holds t c =
     let a = c .before .before .before .before .before in
-    let e : (c .wide) .result ≡ size (plain (a .args .t .now)) (a .args .k) = c .wide .ensures .0 ∙ c .before .size-word .ensures
+    let e : c .wide .result ≡ size (plain (a .args .t .now)) (a .args .k) = c .wide .ensures .0 ∙ c .before .size-word .ensures
     ∙ sym (plain-head (a .args .t .now) (3 + a .args .k) (omega (arith, a .pre .1 .0 .holds .laid .laid .few, a .pre .1 .2))) in
     (e, omega arith, fill-start _ (a .args .k) _ (a .pre .1 .0 .holds) (a .pre .1 .2) _ _ refl refl (λ u h. getD-replicate 8 u 0 0 h), a .pre .1 .1, refl, refl)
 
 fill-branches-arm-in-requires : (t : ℕ) → fill-branches-lts.Need-arm-in-requires (fill-branches-claims t) (fill-branches-at t) fill-branches.Post fill-branches-Inv-loop fill-branches-μ-loop
-fill-branches-arm-in-requires t c κs = let a = (c .before .before .before .before .before .before .before .before) in
-    let l = (c .before .before .loop) in
+fill-branches-arm-in-requires t c κs =
+    let a = c .before .before .before .before .before .before .before .before in
+    let l = c .before .before .loop in
     let fl = l .inv .2 in
     let kp = fl .filled .grown .kept in (
       first-place _ _ _ _ _ _ (operands-ext (plain (a .args .t .now)) _ (a .args .k) _ _ _ (a .pre .1 .0) _ (l .v) (l .goes) (l .adds) fl (a .pre .1 .2) (omega (arith, l .inv .0, l .inv .1))),
       omega (arith, kept-features _ _ kp, a .pre .1 .2),
-      omega (arith, kept-size _ _ kp (a .pre .1 .0 .holds .laid .laid .few) (a .args .k) (a .pre .1 .2), l .inv .0, (c .before .loop-test)),
+      omega (arith, kept-size _ _ kp (a .pre .1 .0 .holds .laid .laid .few) (a .args .k) (a .pre .1 .2), l .inv .0, c .before .loop-test),
     )
 
 fill-branches-arm-in-requires-2 : (t : ℕ) → fill-branches-lts.Need-arm-in-requires-2 (fill-branches-claims t) (fill-branches-at t) fill-branches.Post fill-branches-Inv-loop fill-branches-μ-loop
-fill-branches-arm-in-requires-2 t c κs = let a = (c .before .before .before .before .before .before .before .before .before .before) in
-    let l = (c .before .before .before .before .loop) in
+fill-branches-arm-in-requires-2 t c κs =
+    let a = c .before .before .before .before .before .before .before .before .before .before in
+    let l = c .before .before .before .before .loop in
     let fl = l .inv .2 in
     let kp = fl .filled .grown .kept in (
       second-place _ _ _ _ _ _ (operands-ext (plain (a .args .t .now)) _ (a .args .k) _ _ _ (a .pre .1 .0) _ (l .v) (l .goes) (l .adds) fl (a .pre .1 .2) (omega (arith, l .inv .0, l .inv .1))),
       omega (arith, kept-features _ _ kp, a .pre .1 .2),
-      omega (arith, kept-size _ _ kp (a .pre .1 .0 .holds .laid .laid .few) (a .args .k) (a .pre .1 .2), l .inv .0, (c .before .before .before .loop-test)),
+      omega (arith, kept-size _ _ kp (a .pre .1 .0 .holds .laid .laid .few) (a .args .k) (a .pre .1 .2), l .inv .0, c .before .before .before .loop-test),
     )
 
 fill-branches-branch-result-requires : (t : ℕ) → fill-branches-lts.Need-branch-result-requires (fill-branches-claims t)
@@ -207,7 +211,7 @@ fill-branches-branch-result-requires t c κs =
       (
         operands-step _ _ _ _ _ _ (operands-ext (plain (a .args .t .now)) _ (a .args .k) _ _ _ (a .pre .1 .0) _ (l .v) (l .goes) (l .adds) fl hk
             (omega (arith, l .inv .0, l .inv .1))) (l .v) _ _ _ _ (omega arith) (omega
-            (arith, kept-size _ _ kp (a .pre .1 .0 .holds .laid .laid .few) (a .args .k) hk, l .inv .0, (c6 .loop-test))) (c .before .before .before .before .arm-in .ensures)
+            (arith, kept-size _ _ kp (a .pre .1 .0 .holds .laid .laid .few) (a .args .k) hk, l .inv .0, c6 .loop-test)) (c .before .before .before .before .arm-in .ensures)
             (c .before .before .arm-in2 .ensures),
         l .inv .3,
       ),
@@ -215,11 +219,11 @@ fill-branches-branch-result-requires t c κs =
 
 fill-branches-returns : (t : ℕ) → fill-branches-lts.Need-returns (fill-branches-claims t) (fill-branches-at t) fill-branches.Post fill-branches-Inv-loop fill-branches-μ-loop
 fill-branches-returns t c =
-    let c6 = c .before .before .before .before .before .before in let c9 = c6 .before .before .before in let c11 = c9 .before .before in let c13 = c11 .before .before in
-    let c14 = c13 .before in let a = c14 .before .before .before .before .before .before in
+    let c6 = c .before .before .before .before .before .before in let c9 = c6 .before .before .before in let c11 = c9 .before .before in let c13 = c11 .before .before in let c14 = c13 .before in
+    let a = c14 .before .before .before .before .before .before in
     let l = c14 .loop in
     let fl = l .inv .2 in (
-      fill-stop (plain (a .args .t .now)) (a .args .k) _ (a .pre .1 .0 .holds) (a .pre .1 .2) (plain (l .t)) _ (l .v) (l .goes) (l .adds) _ _ fl (omega (arith, l .inv .0, (c13 .loop-test)))
+      fill-stop (plain (a .args .t .now)) (a .args .k) _ (a .pre .1 .0 .holds) (a .pre .1 .2) (plain (l .t)) _ (l .v) (l .goes) (l .adds) _ _ fl (omega (arith, l .inv .0, c13 .loop-test))
           (joint-held (plain (a .args .t .now)) _ (a .args .k) _ _ _ (a .pre .1 .0) (plain (l .t)) (l .v) _ _ _ _
           (filling-ext (plain (a .args .t .now)) (a .args .k) _ (a .pre .1 .0 .holds) (a .pre .1 .2) (plain (l .t)) (l .v) (l .goes) (l .adds) fl) (c11 .arm-in .ensures) (c9 .arm-in2 .ensures))
           (c6 .branch-result .ensures .0) (c .enum-told .given .1),
@@ -230,23 +234,23 @@ fill-branches-array-write-goes : (t : ℕ) → fill-branches-lts.Need-array-writ
 fill-branches-array-write-goes t c =
     let c14 = c .before .before .before .before .before .before .before .before .before .before .before .before .before .before in let c15 = c14 .before in
     let a = c15 .before .before .before .before .before .before in
-    omega (arith, a .pre .1 .0 .holds .laid .laid .large (a .args .k) (a .pre .1 .2), c15 .loop .inv .0, c15 .loop .inv .2 .targets, (c14 .loop-test))
+    omega (arith, a .pre .1 .0 .holds .laid .laid .large (a .args .k) (a .pre .1 .2), c15 .loop .inv .0, c15 .loop .inv .2 .targets, c14 .loop-test)
 
 fill-branches-array-write-adds : (t : ℕ) → fill-branches-lts.Need-array-write-adds (fill-branches-claims t) (fill-branches-at t) fill-branches.Post fill-branches-Inv-loop fill-branches-μ-loop
 fill-branches-array-write-adds t c =
     let c14 = c .before .before .before .before .before .before .before .before .before .before .before .before .before .before in let c15 = c14 .before in
     let a = c15 .before .before .before .before .before .before in
-    omega (arith, a .pre .1 .0 .holds .laid .laid .large (a .args .k) (a .pre .1 .2), c15 .loop .inv .0, c15 .loop .inv .2 .addeds, (c14 .loop-test))
+    omega (arith, a .pre .1 .0 .holds .laid .laid .large (a .args .k) (a .pre .1 .2), c15 .loop .inv .0, c15 .loop .inv .2 .addeds, c14 .loop-test)
 
 fill-branches-loop-again : (t : ℕ) → fill-branches-lts.Need-loop-again (fill-branches-claims t) (fill-branches-at t) fill-branches.Post fill-branches-Inv-loop fill-branches-μ-loop
 fill-branches-loop-again t c =
-    let c7 = c .before .before .before .before .before .before .before in let c10 = c7 .before .before .before in let c12 = c10 .before .before in
-    let c14 = c12 .before .before in let c15 = c14 .before in let a = c15 .before .before .before .before .before .before in
+    let c7 = c .before .before .before .before .before .before .before in let c10 = c7 .before .before .before in let c12 = c10 .before .before in let c14 = c12 .before .before in
+    let c15 = c14 .before in let a = c15 .before .before .before .before .before .before in
     let l = c15 .loop in
     let fl = l .inv .2 in (
       l .inv .0,
-      omega (arith, (c14 .loop-test)),
-      fill-more (plain (a .args .t .now)) (a .args .k) _ (a .pre .1 .0 .holds) (a .pre .1 .2) (plain (l .t)) _ (l .v) _ _ (l .goes) (l .adds) _ _ fl (omega (arith, l .inv .0, (c14 .loop-test)))
+      omega (arith, c14 .loop-test),
+      fill-more (plain (a .args .t .now)) (a .args .k) _ (a .pre .1 .0 .holds) (a .pre .1 .2) (plain (l .t)) _ (l .v) _ _ (l .goes) (l .adds) _ _ fl (omega (arith, l .inv .0, c14 .loop-test))
           (joint-held (plain (a .args .t .now)) _ (a .args .k) _ _ _ (a .pre .1 .0) (plain (l .t)) (l .v) _ _ _ _
           (filling-ext (plain (a .args .t .now)) (a .args .k) _ (a .pre .1 .0 .holds) (a .pre .1 .2) (plain (l .t)) (l .v) (l .goes) (l .adds) fl) (c12 .arm-in .ensures) (c10 .arm-in2 .ensures))
           (c7 .branch-result .ensures .0) (c .before .z .given .1),
@@ -256,64 +260,70 @@ fill-branches-loop-again t c =
     )
 
 fill-branches-returns-2 : (t : ℕ) → fill-branches-lts.Need-returns-2 (fill-branches-claims t) (fill-branches-at t) fill-branches.Post fill-branches-Inv-loop fill-branches-μ-loop
-fill-branches-returns-2 t c = let a = (c .before .before .before .before .before .before .before) in
-    let l = (c .before .loop) in
-    let e : l .v ≡ size (plain (a .args .t .now)) (a .args .k) = omega (arith, l .inv .0, l .inv .1, (c .loop-test)) in
+fill-branches-returns-2 t c =
+    let a = c .before .before .before .before .before .before .before in
+    let l = c .before .loop in
+    let e : l .v ≡ size (plain (a .args .t .now)) (a .args .k) = omega (arith, l .inv .0, l .inv .1, c .loop-test) in
     (rw e at (l .inv .2), l .inv .3)
 
 rest-result-add-if1 : (t : ℕ) → rest-result-lts.Need-add-if1 (rest-result-claims t) (rest-result-at t) rest-result.Post
-rest-result-add-if1 t c = let a = (c .before .before) in
+rest-result-add-if1 t c =
+    let a = c .before .before in
     let d = a .pre .1 .0 .holds .laid .laid in
     omega (arith, good-small _ _ _ (a .pre .1 .0 .first), good-small _ _ _ (a .pre .1 .0 .second), d .within, d .most)
 
 rest-result-end-word-requires : (t : ℕ) → rest-result-lts.Need-end-word-requires (rest-result-claims t) (rest-result-at t) rest-result.Post
-rest-result-end-word-requires t c κs = operands-end _ _ _ _ _ _ ((c .before .before .before) .pre .1 .0)
+rest-result-end-word-requires t c κs = operands-end _ _ _ _ _ _ (c .before .before .before .pre .1 .0)
 
 rest-result-returns : (t : ℕ) → rest-result-lts.Need-returns (rest-result-claims t) (rest-result-at t) rest-result.Post
-rest-result-returns t c = let a = (c .before .before .before .before) in (joint-ends _ _ _ _ _ _ (a .pre .1 .0) _ ((c .before .if1) .taken) ((c .end-word) .ensures), a .pre .1 .1)
+rest-result-returns t c = let a = c .before .before .before .before in (joint-ends _ _ _ _ _ _ (a .pre .1 .0) _ (c .before .if1 .taken) (c .end-word .ensures), a .pre .1 .1)
 
 rest-result-lowest-requires : (t : ℕ) → rest-result-lts.Need-lowest-requires (rest-result-claims t) (rest-result-at t) rest-result.Post
-rest-result-lowest-requires t c κs = let a = (c .before .before .before .before) in (a .pre .1 .0 .holds .laid .laid, good-small _ _ _ (a .pre .1 .0 .first), good-small _ _ _ (a .pre .1 .0 .second))
+rest-result-lowest-requires t c κs = let a = c .before .before .before .before in (a .pre .1 .0 .holds .laid .laid, good-small _ _ _ (a .pre .1 .0 .first), good-small _ _ _ (a .pre .1 .0 .second))
 
 rest-result-rest-result-requires : (t : ℕ) → rest-result-lts.Need-rest-result-requires (rest-result-claims t) (rest-result-at t) rest-result.Post
 rest-result-rest-result-requires t c κs =
     let a = c .before .before .before .before .before .before .before .before in
-    let hk = skip-left _ _ _ _ _ _ (a .pre .1 .0) (c .before .before .before .lowest .result) (c .before .before .before .lowest .ensures .0)
-    (c .before .before .before .lowest .ensures .1) (omega arith) in (
-      omega arith,
-      (
-        operands-skip _ _ _ _ _ _ (a .pre .1 .0) (c .before .before .before .lowest .result) (c .before .before .before .lowest .ensures .0)
-            (c .before .before .before .lowest .ensures .1) (omega arith),
-        a .pre .1 .1,
-      ),
-    )
+    let l = c .before .before .before .lowest .ensures in
+    let m = skip-most _ _ _ _ _ _ (l .0) (l .1) _ (a .pre .1 .0) (omega arith) in
+    (omega arith, (operands-skip _ _ _ _ _ _ (l .0) (l .1) _ (a .pre .1 .0) (omega arith), a .pre .1 .1))
 
 rest-result-returns-2 : (t : ℕ) → rest-result-lts.Need-returns-2 (rest-result-claims t) (rest-result-at t) rest-result.Post
 rest-result-returns-2 t c =
-    let c7 = c .before .before .before .before .before .before .before in let c8 = c7 .before in let a = c8 .before .before .before .before .before in (
-      joint-skip _ _ _ _ _ _ (a .pre .1 .0) (c8 .lowest .result) (c8 .lowest .ensures .0) (c8 .lowest .ensures .1) (omega (arith, (c7 .if2))) _
-          (c .before .before .before .before .rest-result .result) (c .before .before .before .before .rest-result .ensures .0),
-      c .before .before .before .before .rest-result .ensures .1,
-    )
-
-rest-result-narrow-requires : (t : ℕ) → rest-result-lts.Need-narrow-requires (rest-result-claims t) (rest-result-at t) rest-result.Post
-rest-result-narrow-requires t c κs = let a = (c .before .before .before .before .before .before .before) in
-    let hk = still-left _ _ _ _ _ _ (a .pre .1 .0) ((c .before .before .before .before .if1) .left) in
-    omega (arith, a .pre .1 .0 .holds .laid .laid .few)
-
-rest-result-recall-in-requires : (t : ℕ) → rest-result-lts.Need-recall-in-requires (rest-result-claims t) (rest-result-at t) rest-result.Post
-rest-result-recall-in-requires t c κs = (c .before .before .before .before .before .before .before .before .before .before) .pre .1 .1 .room
+    let c6 = c .before .before .before .before .before .before in let c9 = c6 .before .before .before in let c10 = c9 .before in let a = c10 .before .before .before .before .before in
+    let l = c10 .lowest .ensures in
+    let r = joint-skip _ _ _ _ _ _ (l .0) (l .1) _ (a .pre .1 .0) (omega (arith, c9 .if2)) _ (c6 .rest-result .result) (c6 .rest-result .ensures .0) in
+    (gives-none (c .enum-told .given .1) r, tt)
 
 rest-result-returns-3 : (t : ℕ) → rest-result-lts.Need-returns-3 (rest-result-claims t) (rest-result-at t) rest-result.Post
 rest-result-returns-3 t c =
+    let c7 = c .before .before .before .before .before .before .before in let c10 = c7 .before .before .before in let c11 = c10 .before in let a = c11 .before .before .before .before .before in
+    let l = c11 .lowest .ensures in
+    let r = joint-skip _ _ _ _ _ _ (l .0) (l .1) _ (a .pre .1 .0) (omega (arith, c10 .if2)) _ (c7 .rest-result .result) (c7 .rest-result .ensures .0) in
+    (gives-is (c .before .z .given .1) r, subst (Still _ _ _) (c .before .z .given .1) (c7 .rest-result .ensures .1))
+
+rest-result-narrow-requires : (t : ℕ) → rest-result-lts.Need-narrow-requires (rest-result-claims t) (rest-result-at t) rest-result.Post
+rest-result-narrow-requires t c κs =
+    let a = c .before .before .before .before .before .before .before in
+    let hk = still-left _ _ _ _ _ _ (a .pre .1 .0) (c .before .before .before .before .if1 .left) in
+    omega (arith, a .pre .1 .0 .holds .laid .laid .few)
+
+rest-result-recall-in-requires : (t : ℕ) → rest-result-lts.Need-recall-in-requires (rest-result-claims t) (rest-result-at t) rest-result.Post
+rest-result-recall-in-requires t c κs =
+    let c10 = c .before .before .before .before .before .before .before .before .before .before in
+    c10 .pre .1 .1 .room
+
+rest-result-returns-4 : (t : ℕ) → rest-result-lts.Need-returns-4 (rest-result-claims t) (rest-result-at t) rest-result.Post
+rest-result-returns-4 t c =
     let c6 = c .before .before .before .before .before .before in let a = c6 .before .before .before .before .before .before .before .before in
     let h = noted-hit (a .args .t .now) (a .args .s .now) _ _ _ _ refl (a .pre .1 .1) (c .before .before .before .recall-in .ensures) (c .before .memo .given .1)
     (omega (arith, c6 .narrow .ensures)) in
     (recalled-result _ _ (a .args .k) _ _ _ (a .pre .1 .0) (c6 .narrow .ensures) h, a .pre .1 .1)
 
 rest-result-fill-branches-requires : (t : ℕ) → rest-result-lts.Need-fill-branches-requires (rest-result-claims t) (rest-result-at t) rest-result.Post
-rest-result-fill-branches-requires t c κs = let a = (c .before .before .before .before .before .before .before .before .before .before .before .before .before .before .before) in
-    let hk = still-left _ _ _ _ _ _ (a .pre .1 .0) ((c .before .before .before .before .before .before .before .before .before .before .before .before .if1) .left) in
+rest-result-fill-branches-requires t c κs =
+    let c12 = c .before .before .before .before .before .before .before .before .before .before .before .before in let a = c12 .before .before .before in
+    let hk = still-left _ _ _ _ _ _ (a .pre .1 .0) (c12 .if1 .left) in
     (omega arith, (a .pre .1 .0, a .pre .1 .1, hk))
 
 rest-result-make-in-requires : (t : ℕ) → rest-result-lts.Need-make-in-requires (rest-result-claims t) (rest-result-at t) rest-result.Post
@@ -328,39 +338,38 @@ rest-result-make-in-requires t c κs =
       fill-armed _ _ _ (a .pre .1 .0 .holds) hk _ _ _ fl (a .pre .1 .0 .bounded .spread) (a .pre .1 .0 .narrow),
     )
 
-rest-result-returns-4 : (t : ℕ) → rest-result-lts.Need-returns-4 (rest-result-claims t) (rest-result-at t) rest-result.Post
-rest-result-returns-4 t c =
+rest-result-returns-5 : (t : ℕ) → rest-result-lts.Need-returns-5 (rest-result-claims t) (rest-result-at t) rest-result.Post
+rest-result-returns-5 t c =
     let c8 = c .before .before .before .before .before .before .before .before in let c13 = c8 .before .before .before .before .before in
     let c26 = c13 .before .before .before .before .before .before .before .before .before .before .before .before .before in let a = c26 .before .before .before in
     let hk = still-left _ _ _ _ _ _ (a .pre .1 .0) (c26 .if1 .left) in
     let fl = filled _ _ _ _ _ _ _ (c8 .if3 .taken) (c13 .fill-branches .ensures .0) in
     let m = c .before .before .before .before .make-in in
-    (gives-none (c .enum-told2 .given .1) (fill-make _ _ _ (a .pre .1 .0 .holds) hk _ _ _ _ (m .result) fl (m .ensures .0)), tt)
+    (gives-none (c .enum-told3 .given .1) (fill-make _ _ _ (a .pre .1 .0 .holds) hk _ _ _ _ (m .result) fl (m .ensures .0)), tt)
 
 rest-result-remember-in-requires : (t : ℕ) → rest-result-lts.Need-remember-in-requires (rest-result-claims t) (rest-result-at t) rest-result.Post
 rest-result-remember-in-requires t c κs =
-    let c7 = c .before .before .before .before .before .before .before in let c11 = c7 .before .before .before .before in
-    let c16 = c11 .before .before .before .before .before in let c24 = c16 .before .before .before .before .before .before .before .before in
+    let c7 = c .before .before .before .before .before .before .before in let c11 = c7 .before .before .before .before in let c16 = c11 .before .before .before .before .before in
+    let c24 = c16 .before .before .before .before .before .before .before .before in
     (grown-roomy _ _ (c7 .make-in .ensures .0 .grown .kept) (subst (StillIf _ _ _) (c11 .if3 .taken) (c16 .fill-branches .ensures .1) .room), omega (arith, c24 .narrow .ensures))
 
-rest-result-returns-5 : (t : ℕ) → rest-result-lts.Need-returns-5 (rest-result-claims t) (rest-result-at t) rest-result.Post
-rest-result-returns-5 t c =
-    let c8 = c .before .before .before .before .before .before .before .before in let c12 = c8 .before .before .before .before in
-    let c16 = c12 .before .before .before .before in let c21 = c16 .before .before .before .before .before in
-    let c29 = c21 .before .before .before .before .before .before .before .before in let c34 = c29 .before .before .before .before .before in
-    let a = c34 .before .before .before in
+rest-result-returns-6 : (t : ℕ) → rest-result-lts.Need-returns-6 (rest-result-claims t) (rest-result-at t) rest-result.Post
+rest-result-returns-6 t c =
+    let c8 = c .before .before .before .before .before .before .before .before in let c12 = c8 .before .before .before .before in let c16 = c12 .before .before .before .before in
+    let c21 = c16 .before .before .before .before .before in let c29 = c21 .before .before .before .before .before .before .before .before in
+    let c34 = c29 .before .before .before .before .before in let a = c34 .before .before .before in
     let hk = still-left _ _ _ _ _ _ (a .pre .1 .0) (c34 .if1 .left) in
     let fl = filled _ _ _ _ _ _ _ (c16 .if3 .taken) (c21 .fill-branches .ensures .0) in
     let m = c12 .make-in in
-    let re = gives-is (c8 .z .given .1) (fill-make _ _ _ (a .pre .1 .0 .holds) hk _ _ _ _ (m .result) fl (m .ensures .0)) in (
+    let re = gives-is (c8 .z2 .given .1) (fill-make _ _ _ (a .pre .1 .0 .holds) hk _ _ _ _ (m .result) fl (m .ensures .0)) in (
       rw (c .before .before .before .before .remember-in .ensures .0) re,
       noted-result costTable (right-more (a .args .o)) (fl .filled .grown .well) (m .ensures .0 .grown) (make-grows _ _ _) (m .ensures .1)
           (subst (StillIf _ _ _) (c16 .if3 .taken) (c21 .fill-branches .ensures .1)) refl (c .before .before .before .before .remember-in .ensures)
           (right-here _ _ (a .args .k) _ _ _ (c29 .narrow .ensures) (result-recalled _ _ _ (a .args .k) _ _ (a .args .d) _ _ (a .pre .1 .0) re)),
     )
 
-rest-result-returns-6 : (t : ℕ) → rest-result-lts.Need-returns-6 (rest-result-claims t) (rest-result-at t) rest-result.Post
-rest-result-returns-6 t c =
+rest-result-returns-7 : (t : ℕ) → rest-result-lts.Need-returns-7 (rest-result-claims t) (rest-result-at t) rest-result.Post
+rest-result-returns-7 t c =
     let c18 = c .before .before .before .before .before .before .before .before .before .before .before .before .before .before .before .before .before .before in
     let a = c18 .before .before .before in
     let hk = still-left _ _ _ _ _ _ (a .pre .1 .0) (c18 .if1 .left) in
@@ -417,11 +426,15 @@ pub +branch-result+fill-branches+rest-result-spec : {M : Type 1} → statement M
     (rest-result-end-word-requires t)
     (rest-result-returns t)
     (rest-result-lowest-requires t)
-    (λ c. search needs)
     (rest-result-rest-result-requires t)
     (λ c. search needs)
     (λ c. search needs)
+    (λ c. search needs)
+    (λ c. search needs)
     (rest-result-returns-2 t)
+    (λ c. search needs)
+    (λ c. search needs)
+    (rest-result-returns-3 t)
     (λ c κs. search needs)
     (λ c. search needs)
     (rest-result-narrow-requires t)
@@ -429,7 +442,7 @@ pub +branch-result+fill-branches+rest-result-spec : {M : Type 1} → statement M
     (λ c. search needs)
     (λ c. search needs)
     (λ c. search needs)
-    (rest-result-returns-3 t)
+    (rest-result-returns-4 t)
     (λ c. search needs)
     (rest-result-fill-branches-requires t)
     (rest-result-make-in-requires t)
@@ -437,11 +450,11 @@ pub +branch-result+fill-branches+rest-result-spec : {M : Type 1} → statement M
     (λ c. search needs)
     (λ c. search needs)
     (λ c. search needs)
-    (rest-result-returns-4 t)
+    (rest-result-returns-5 t)
     (rest-result-remember-in-requires t)
     (λ c. search needs)
     (λ c. search needs)
-    (rest-result-returns-5 t)
-    (λ c. search needs)
-    (λ c. search needs)
     (rest-result-returns-6 t)
+    (λ c. search needs)
+    (λ c. search needs)
+    (rest-result-returns-7 t)
