@@ -30,8 +30,10 @@ static void restore(uint32_t *t) { memcpy(t, before, length * sizeof *t); }
 static void random_call(size_t first, size_t count) {
     uint32_t out[1], all = (1u << features[0]) - 1;
     size_t place = first + chance(count);
-    lampgrotto_literal(words, length, 30, chance(16), 1 + chance(all - 1), out, 1);
-    lampgrotto_apply(words, length, scratch, scratch_length, place, 1 + chance(2), first + chance(count), 30);
+    uint32_t bits = 1 + chance(all - 1);
+    lampgrotto_literal(words, length, 30, chance(16), bits, out, 1);
+    size_t other = first + chance(count); /* a line for each, as the arguments of a call have no order */
+    lampgrotto_apply(words, length, scratch, scratch_length, place, 1 + chance(2), other, 30);
     lampgrotto_apply(words, length, scratch, scratch_length, place, DIFFER, place, chance(2) ? 30 : first + chance(count));
 }
 
