@@ -37,7 +37,7 @@ use Rattle.promises.specs.CostOperations.{smallerOf, largerOf}
 use Rattle.promises.specs.Operators.{setSize}
 use Rattle.promises.specs.Range.{costMost}
 use Rattle.promises.specs.Lowest.{Lowest, NoneMarked}
-use Rattle.promises.specs.Sheet.{sheetSizes, sheetRule}
+use Rattle.promises.specs.Sheet.{sheetSizes, row, sheetRule}
 use Rattle.promises.specs.State.{on, Places}
 use Rattle.promises.specs.Loan.{Loan}
 use Rattle.promises.specs.Table.{Tabled, table}
@@ -47,7 +47,7 @@ use Rattle.promises.specs.RuleDeeds as RD
 use Rattle.promises.specs.RuleDeeds.{ruled}
 use Rattle.promises.specs.CostDeeds.{costed, join}
 use Rattle.promises.specs.BothDeeds.{both}
-use Rattle.promises.specs.SheetDeeds.{filed}
+use Rattle.promises.specs.SheetDeeds.{filed, numberIn}
 use Rattle.table_calls.proofs.Like.{clear, rest}
 use Rattle.theory_costs.specs.Spots as Spots
 use Rattle.theory_costs.proofs.Integers.{fit?}
@@ -60,7 +60,7 @@ use Rattle.demands.specs.BothCalls as B
 use Rattle.demands.specs.ByteDeeds.{stepped}
 use Rattle.demands.specs.ByteCalls as Y
 use Rattle.demands.proofs.Firm.{sure, not?}
-use Rattle.demands.proofs.Searching.{or?, and?, first-from?, places?, outnumber?, priced?, reaches?, leaves?, openable?, inside?}
+use Rattle.demands.proofs.Searching.{or?, and?, first-from?, places?, outnumber?, priced?, reaches?, leaves?, openable?, inside?, rows?}
 use Rattle.demands.proofs.Sheeted.{newer?, good?, sheet-for?}
 
 -- ---- what a deed needs for that
@@ -250,6 +250,12 @@ byte-has (Y.LookUp s t) =
     record {
       sure-of = λ z. (newer? s, λ n. (not? (good? s), λ k. (not? (valid? (sheetSizes s) t), λ i. tt)));
       given = λ z e. (RD.looked .made Taken (sheetRule s t, asked (sheetSizes s) (sheetRule s) t), refl, (refl, asked-counts (sheetSizes s) (sheetRule s) t));
+      refuses = λ y. refl;
+    }
+byte-has (Y.LookUpAll s t out) =
+    record {
+      sure-of = λ z. (newer? s, λ n. (not? (good? s), λ k. (not? (rows? (sheetSizes s) (length out) t), λ i. tt)));
+      given = λ z e. ((Taken, row 0 (length out) (numberIn s t)), refl, refl);
       refuses = λ y. refl;
     }
 

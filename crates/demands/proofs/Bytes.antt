@@ -13,10 +13,10 @@ use Rattle.settings.proofs.Endings.{pass}
 use Rattle.promises.specs.Sheet.{sheetSizes, sheetRule}
 use Rattle.promises.specs.Deed.{Meets}
 use Rattle.promises.specs.RuleDeeds.{looked}
-use Rattle.promises.specs.SheetDeeds.{look-up-in}
+use Rattle.promises.specs.SheetDeeds.{look-up-in, filled, look-up-all-in}
 use Rattle.table_calls.proofs.Like.{like-refl}
 use Rattle.demands.specs.ByteDeeds.{stepped, step-on}
-use Rattle.demands.specs.ByteCalls.{Call, Step, LookUp, deed}
+use Rattle.demands.specs.ByteCalls.{Call, Step, LookUp, LookUpAll, deed}
 use Rattle.demands.proofs.Firm.{neg, newer}
 use Rattle.demands.proofs.Effects.{on-none}
 use Rattle.demands.proofs.Lawful.{Lawful, answer-one}
@@ -63,7 +63,19 @@ look-up-lawful s t =
           answer-one looked r q (a ∙ sym b) (λ i. ((g .0 ∙ sym (h .0)) i, n i));
     }
 
+look-up-all-lawful : (s t out : List ℕ) → Lawful on-none (look-up-all-in s t out)
+look-up-all-lawful s t out =
+    record {
+      ordered = λ z. (omega arith, (omega arith, (omega arith, tt)));
+      firm = λ z. (newer, (neg, (neg, tt)));
+      cases-like = λ z y a. like-refl (look-up-all-in s t out .cases tt);
+      writes-like = λ z y a e. tt;
+      gives-like = λ z y a e r g. g;
+      one = λ z r q a b g h. answer-one filled r q (a ∙ sym b) (g ∙ sym h);
+    }
+
 -- EVERY CALL is lawful
 pub lawful : (c : Call) → Lawful on-none (deed c)
 lawful (Step S s) = step-lawful S s
 lawful (LookUp s t) = look-up-lawful s t
+lawful (LookUpAll s t out) = look-up-all-lawful s t out

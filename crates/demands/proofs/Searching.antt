@@ -24,6 +24,7 @@ use Rattle.promises.specs.Range.{LeavesRange, costMost}
 use Rattle.promises.specs.State.{State, Outnumber, Places}
 use Rattle.promises.specs.TableDeeds.{Openable}
 use Rattle.promises.specs.CostDeeds.{Priced}
+use Rattle.promises.specs.SheetDeeds.{rowOf, SettingRows}
 use Rattle.table_calls.proofs.Drawn.{outnumber, outnumbered}
 use Rattle.theory_costs.proofs.Integers.{fit?}
 use Rattle.demands.proofs.Firm.{not?, some?}
@@ -126,3 +127,6 @@ pub inside? : (S : List ℕ) (s : Setting) → Dec (Inside S s)
 inside? S s =
     via (λ h. record { features = h .0; counted = h .1 .0; valid = h .1 .1 }) (λ r. (r .features, (r .counted, r .valid)))
     (and? (features? S) (and? (ℕ-discrete (s .count) (length S)) (valid? S (valuesOf s))))
+
+pub rows? : (S : List ℕ) (m : ℕ) (t : List ℕ) → Dec (SettingRows S m t)
+rows? S m t = via (λ h. record { long = h .0; each = h .1 }) (λ r. (r .long, r .each)) (and? (ℕ-discrete _ _) (all? (λ i. valid? S (rowOf (length S) t i)) m))

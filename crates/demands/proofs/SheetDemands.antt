@@ -15,16 +15,16 @@ use Rattle.settings.specs.declared.refusals.Outcome.the-variants.{Taken}
 use Rattle.promises.specs.declared.Looked.{Looked}
 use Rattle.promises.specs.declared.Wrote.{Wrote}
 use Rattle.promises.specs.Words.{sizes}
-use Rattle.promises.specs.Sheet.{sheetSizes, sheetRule}
+use Rattle.promises.specs.Sheet.{sheetSizes, sheetRule, GoodSheet}
 use Rattle.promises.specs.State.{on}
 use Rattle.promises.specs.Table.{stateOf}
 use Rattle.promises.specs.Deed.{refusals, Meets}
 use Rattle.promises.specs.RuleDeeds.{ruled}
-use Rattle.promises.specs.SheetDeeds.{SheetFor, read-sheet, write-sheet, look-up-in}
+use Rattle.promises.specs.SheetDeeds.{SheetFor, read-sheet, write-sheet, look-up-in, look-up-all-in}
 use Rattle.rule_words.proofs.Reading.{length-rules}
 use Rattle.table_calls.proofs.Like.{clear, rest}
 use Rattle.sheets.proofs.Edge.{sheets-same}
-use Rattle.demands.specs.Sheets.{Passed, written, taken-in, looked-up}
+use Rattle.demands.specs.Sheets.{Passed, written, taken-in, looked-up, all-looked-up}
 use Rattle.demands.proofs.Firm.{sure}
 use Rattle.demands.proofs.Searching.{places?}
 use Rattle.demands.proofs.Sheeted.{good?}
@@ -58,16 +58,22 @@ took-sheet {p} {s} {w} {w′} a e =
     place : p < 32
     place = sure (places? 32 (p ∷ [])) (clear (rest done)) .each 0 (omega arith)
 
--- what the phone's look up took is the sheet of its rule
+-- what the phone's look up took is the sheet of its rule, of one setting or of many
+good-sheet : {s : List ℕ} → ((GoodSheet s → ⊥) → ⊥) → SheetFor (sheetSizes s) (sheetRule s) (length s) s
+good-sheet {s} g = record { good = sure (good? s) g; list = refl; rule = λ u v. refl; room = omega arith }
+
 looked-sheet : {s t : List ℕ} {r : Looked} → Meets (look-up-in s t) tt tt r → r .outcome ≡ Taken → SheetFor (sheetSizes s) (sheetRule s) (length s) s
-looked-sheet {s} {t} a e =
-    record { good = sure (good? s) (clear (rest (rest (subst (Ends (refusals (look-up-in s t) tt)) e (a .ends))))); list = refl; rule = λ u v. refl; room = omega arith }
+looked-sheet {s} {t} a e = good-sheet (clear (rest (rest (subst (Ends (refusals (look-up-in s t) tt)) e (a .ends)))))
+
+all-looked-sheet : {s t out : List ℕ} {r : Outcome × List ℕ} → Meets (look-up-all-in s t out) tt tt r → r .0 ≡ Taken → SheetFor (sheetSizes s) (sheetRule s) (length s) s
+all-looked-sheet {s} {t} {out} a e = good-sheet (clear (rest (rest (subst (Ends (refusals (look-up-all-in s t out) tt)) e (a .ends)))))
 
 -- THEOREM: what passed a call is the sheet of its rule
 pub passed-sheet : {S : List ℕ} {g : Rule} {s : List ℕ} → Passed S g s → SheetFor S g (length s) s
 passed-sheet (written a e) = let x = wrote-sheet a e in record { good = x .good; list = x .list; rule = x .rule; room = omega arith }
 passed-sheet (taken-in a e) = took-sheet a e
 passed-sheet (looked-up a e) = looked-sheet a e
+passed-sheet (all-looked-up a e) = all-looked-sheet a e
 
 -- THEOREM: two of one list have equal bytes exactly if their rules agree
 pub equal-bytes : {S : List ℕ} {g h : Rule} {s t : List ℕ} → Passed S g s → Passed S h t → (s ≡ t) ↔ Agree S g h

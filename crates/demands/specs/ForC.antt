@@ -2,7 +2,7 @@
 use mathlib.Core.List.{List}
 use Prim.Native.Nat.{ℕ}
 use Rattle.promises.specs.ForC.{Heard, tell-ending, tell-looked, tell-cost-looked, tell-compared, tell-tallied, tell-spelled, tell-counted, tell-met, tell-found, tell-stepped}
-use Rattle.promises.specs.ForC.{tell-filed, tell-returned}
+use Rattle.promises.specs.ForC.{tell-filed, tell-returned, tell-filled}
 use Rattle.demands.specs.RuleCalls as R
 use Rattle.demands.specs.CostCalls as C
 use Rattle.demands.specs.BothCalls as B
@@ -49,3 +49,4 @@ both-tell (B.Lowest a q) out = tell-found out
 abbrev pub byte-tell : (c : Y.Call) → List ℕ → Y.deed c .Result → Heard
 byte-tell (Y.Step S s) out = tell-stepped out
 byte-tell (Y.LookUp s t) out = tell-returned out
+byte-tell (Y.LookUpAll s t numbers) out = tell-filled

@@ -14,10 +14,11 @@ use Rattle.promises.specs.State.{on}
 use Rattle.promises.specs.Table.{stateOf}
 use Rattle.promises.specs.Deed.{Meets}
 use Rattle.promises.specs.RuleDeeds.{ruled}
-use Rattle.promises.specs.SheetDeeds.{read-sheet, write-sheet, look-up-in}
+use Rattle.promises.specs.SheetDeeds.{read-sheet, write-sheet, look-up-in, look-up-all-in}
 
--- the list, the rule and the bytes of a sheet that write wrote, that read took, or that the phone's look up took
+-- the list, the rule and the bytes of a sheet that write wrote, that read took, or that the phone's look up took, of one setting or of many
 pub data Passed : List ℕ → Rule → List ℕ → Type 0 where
   written : {p : ℕ} {w w′ out : List ℕ} {r : Wrote × List ℕ} → Meets (write-sheet p out) w w′ r → r .0 .outcome ≡ Taken → Passed (sizes w) (on (stateOf ruled w) p) (take (r .0 .length) (r .1))
   taken-in : {p : ℕ} {s w w′ : List ℕ} {o : Outcome} → Meets (read-sheet p s) w w′ o → o ≡ Taken → Passed (sizes w) (on (stateOf ruled w′) p) s
   looked-up : {s t : List ℕ} {r : Looked} → Meets (look-up-in s t) tt tt r → r .outcome ≡ Taken → Passed (sheetSizes s) (sheetRule s) s
+  all-looked-up : {s t out : List ℕ} {r : Outcome × List ℕ} → Meets (look-up-all-in s t out) tt tt r → r .0 ≡ Taken → Passed (sheetSizes s) (sheetRule s) s

@@ -106,3 +106,7 @@ returned (Refused x) n = 65536 + numberOf x
 
 abbrev pub tell-returned : List ℕ → Looked → Heard
 tell-returned out r = heard (returned (r .outcome) (r .number)) out []
+
+-- the look up of many: the number of the ending, and the lent words afterwards
+abbrev pub tell-filled : (Outcome × List ℕ) → Heard
+tell-filled r = heard (outcomeNumber (r .0)) (r .1) []

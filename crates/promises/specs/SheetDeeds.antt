@@ -1,16 +1,17 @@
--- What the calls on sheets do: read and write, and the phone's look up straight in the bytes. Assumes nothing.
+-- What the calls on sheets do: read and write, and the phone's look up straight in the bytes, of one setting and of many. Assumes nothing.
 use mathlib.Core.Path.{_≡_, refl}
 use mathlib.Core.List.{List, [], _∷_, _++_}
-use Prim.Native.Nat.{ℕ, _≤_}
-use lib.ListN.{length, drop}
+use Prim.Native.Nat.{ℕ, _*_, _≤_, _<_}
+use lib.ListN.{length, take, drop}
 use Rattle.theory.specs.Settings.{Valid}
 use Rattle.theory.specs.Functions.{Agree}
 use Rattle.theory.specs.Rules.{Rule}
 use Rattle.theory.specs.Asked.{Asked}
 use Rattle.settings.specs.Refusals.{Cases, _when_else_, taken}
 use Rattle.settings.specs.declared.refusals.Refusal.the-variants.{Newer, BadSheet, OtherFeatures, BadArgument, NoSpace}
+use Rattle.settings.specs.declared.refusals.Outcome.{Outcome}
 use Rattle.promises.specs.declared.Wrote.{Wrote}
-use Rattle.promises.specs.Sheet.{NewerSheet, sheetSizes, sheetRule, GoodSheet}
+use Rattle.promises.specs.Sheet.{NewerSheet, sheetSizes, row, sheetRule, GoodSheet}
 use Rattle.promises.specs.State.{on, front, room-cases}
 use Rattle.promises.specs.Loan.{no-table}
 use Rattle.promises.specs.Table.{table, puts}
@@ -58,3 +59,25 @@ abbrev pub look-up-in : List ℕ → List ℕ → Deed no-table
 look-up-in s t =
     reads looked (record { off = tt; end = 0 }, 0) (λ z. sheet-cases s (BadArgument when (Valid (sheetSizes s) t → ⊥) else taken))
     (λ z a. (a .0 ≡ sheetRule s t) × Asked (sheetSizes s) (sheetRule s) t (a .1))
+
+-- row i of the bytes t, where a row has n bytes
+abbrev pub rowOf : ℕ → List ℕ → ℕ → List ℕ
+rowOf n t i = take n (drop (i * n) t)
+
+-- t is m settings of the list S, one after the other
+pub record SettingRows (S : List ℕ) (m : ℕ) (t : List ℕ) : Type 0 where
+  pub long : length t ≡ m * length S
+  pub each : (i : ℕ) → i < m → Valid S (rowOf (length S) t i)
+
+-- the number that the rule of the sheet s gives row i of t
+abbrev pub numberIn : List ℕ → List ℕ → ℕ → ℕ
+numberIn s t i = sheetRule s (rowOf (length (sheetSizes s)) t i) .end
+
+-- the lent words afterwards
+abbrev pub filled : Answer (List ℕ)
+filled = record { Result = Outcome × List ℕ; ending = λ r. r .0; value = λ r. r .1; made = λ o a. (o, a); nothing-else = λ r. refl }
+
+-- LOOK UP ALL in the sheet s: t is as many settings as there are lent words out, and each word gets the number of its row
+abbrev pub look-up-all-in : List ℕ → List ℕ → List ℕ → Deed no-table
+look-up-all-in s t out =
+    reads filled out (λ z. sheet-cases s (BadArgument when (SettingRows (sheetSizes s) (length out) t → ⊥) else taken)) (λ z a. a ≡ row 0 (length out) (numberIn s t))

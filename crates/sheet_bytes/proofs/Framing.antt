@@ -14,11 +14,11 @@ use Rattle.sheet_bytes.specs.Frame.{Frame, Regular, Opens, features, siz
 use Rattle.sheet_bytes.proofs.Hands.{rising, spot-far}
 
 -- ---- rows
-row-length : {A : Type 0} (u n : ℕ) (f : ℕ → A) → length (row u n f) ≡ n
+pub row-length : {A : Type 0} (u n : ℕ) (f : ℕ → A) → length (row u n f) ≡ n
 row-length u zero f = refl
 row-length u (suc n) f = ap suc (row-length (suc u) n f)
 
-row-at : {A : Type 0} (u n : ℕ) (f : ℕ → A) (i : ℕ) (d : A) → i < n → getD (row u n f) i d ≡ f (u + i)
+pub row-at : {A : Type 0} (u n : ℕ) (f : ℕ → A) (i : ℕ) (d : A) → i < n → getD (row u n f) i d ≡ f (u + i)
 row-at u zero f i d h = absurd (not-suc-le-zero h)
 row-at u (suc n) f zero d h = rw add-zero
 row-at u (suc n) f (suc i) d h = let e : u + suc i ≡ suc u + i = omega arith in rw e (row-at (suc u) n f i d (le-of-suc-le-suc h))

@@ -1,5 +1,6 @@
 pub mod Finding
 pub mod Answering
+pub mod Rows
 pub mod Theorems
 pub mod Edge
 pub mod Stable

@@ -32,7 +32,7 @@ ghost use Rattle.promises.specs.ForC.{heard, Hears, tell-returned};
 const REFUSED: u32 = 65536;
 
 // Whether the bytes t are a setting of the sheet's features.
-fn fits(s: &[u8], t: &[u8]) -> bool
+pub fn fits(s: &[u8], t: &[u8]) -> bool
     requires { ⌜ Opens ruleFrame (now s) ⌝ }
     ensures { λ r. ⌜ Tells r (Valid (sheetSizes (now (s .entry))) (now (t .entry))) ⌝ }
 {
@@ -42,7 +42,7 @@ fn fits(s: &[u8], t: &[u8]) -> bool
 }
 
 // The number that the rule of a good sheet gives the setting: from the root, branch by branch, each node a feature asked.
-fn walk(s: &[u8], at: &[u32; 4096], t: &[u8]) -> Looked
+pub fn walk(s: &[u8], at: &[u32; 4096], t: &[u8]) -> Looked
     requires { ⌜ (Ready (now s) (now at)) × (Valid (sheetSizes (now s)) (now t)) ⌝ }
     ensures { λ r. ⌜ (r .outcome ≡ Taken) × (r .number ≡ sheetRule (now (s .entry)) (now (t .entry)) .end)
         × (r .asked ≡ asked (sheetSizes (now (s .entry))) (sheetRule (now (s .entry))) (now (t .entry))) ⌝ }
