@@ -43,7 +43,7 @@ uint32_t lampgrotto_look_up(const uint8_t *sheet, size_t sheet_len, const uint8_
    after the other, a byte for each feature. numbers[i] gets the phrase number that lampgrotto_look_up gives row i. All rows are tested
    first: a refused call writes no word. With no words and no bytes it tells whether the sheet is good. It returns how the call ended.
    Refuses: NEWER; BAD_SHEET; BAD_ARGUMENT, bytes missing or left over or a row that is no setting of the sheet's features. It takes
-   51 KB of stack. */
+   67 KB of stack. */
 uint32_t lampgrotto_look_up_all(const uint8_t *sheet, size_t sheet_len, const uint8_t *settings, size_t settings_len,
                                 uint32_t *numbers, size_t numbers_len);
 

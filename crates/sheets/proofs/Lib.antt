@@ -4,3 +4,4 @@ pub mod Rows
 pub mod Theorems
 pub mod Edge
 pub mod Stable
+pub mod Testing
