@@ -1,5 +1,5 @@
 /* The phone's lookup in a sheet of several sizes: how it grows, and how it compares with C that does the same with and without the
-   sheet's check. With any argument a line for each size, for bench/beside. */
+   sheet's check; and twenty lookups, one by one and at once. With any argument a line for each size, for bench/beside. */
 #include "check.h"
 #include "lampgrotto.h"
 #include "laying.h"
@@ -49,9 +49,53 @@ static void passing(void) {
     sink += sum;
 }
 
+/* ---- twenty settings; an archive that has no look up of many, for bench/beside, takes them one by one */
+#pragma weak lampgrotto_look_up_all
+enum { MANY = 20 };
+static uint8_t rows[MANY * 5];
+static uint32_t numbers[MANY];
+
+static void make_rows(void) {
+    for (int p = 0; p < MANY * features; p++) rows[p] = (uint8_t)((p * 5 + p / features) % 8);
+}
+
+static void one_by_one(void) {
+    for (int i = 0; i < MANY; i++) numbers[i] = lampgrotto_look_up(sheet, length, rows + i * features, (size_t)features);
+    sink += numbers[MANY - 1];
+}
+
+static void at_once(void) {
+    if (!lampgrotto_look_up_all) return one_by_one();
+    sink += lampgrotto_look_up_all(sheet, length, rows, (size_t)(MANY * features), numbers, MANY);
+    sink += numbers[MANY - 1];
+}
+
+/* both must give what C gives that trusts the sheet */
+static void test_rows(void (*look)(void)) {
+    memset(numbers, 0, sizeof numbers);
+    look();
+    for (int i = 0; i < MANY; i++)
+        if (numbers[i] != plain_sheet_look_up(sheet, rows + i * features)) exit(1);
+}
+
+/* the five sheets */
+static const int counts[5] = {3, 3, 4, 5, 5};
+static const uint32_t leaves[5] = {7, 55, 183, 439, 3511};
+
+static void twenty(int alone) {
+    if (!alone) printf("\n| nodes | twenty look ups one by one us | at once us | times |\n|---|---|---|---|\n");
+    for (int c = 0; c < 5; c++) {
+        make_sheet(counts[c], leaves[c]);
+        make_rows();
+        test_rows(one_by_one);
+        test_rows(at_once);
+        double o = best(one_by_one), a = best(at_once);
+        if (alone) printf("twenty, one by one\t%u\t%.1f\ntwenty, at once\t%u\t%.1f\n", laid_nodes, o, laid_nodes, a);
+        if (!alone) printf("| %u | %.1f | %.1f | %.2f |\n", laid_nodes, o / 1000, a / 1000, a / o);
+    }
+}
+
 static void sizes(int alone) {
-    static const int counts[5] = {3, 3, 4, 5, 5};
-    static const uint32_t leaves[5] = {7, 55, 183, 439, 3511};
     if (!alone) printf("| nodes | bytes | sum of the bytes us | look up us | times the sum | times C with the check | times C without |\n");
     if (!alone) printf("|---|---|---|---|---|---|---|\n");
     for (int c = 0; c < 5; c++) {
@@ -88,5 +132,6 @@ int main(int words_given, char **given) {
     (void)given;
     sizes(words_given > 1);
     if (words_given == 1) phases();
+    twenty(words_given > 1);
     return 0;
 }

@@ -59,6 +59,7 @@ static uint32_t ending;
         return none; \
     }
 THREAD(phone, lampgrotto_look_up(sheet, sheet_length, setting, 16))
+THREAD(phone_many, lampgrotto_look_up_all(sheet, sheet_length, setting, 16, out, 1))
 THREAD(looking, lampgrotto_rule_look_up(words, WORDS, FIRST, setting, 16, out, 2))
 THREAD(constant, lampgrotto_constant(words, WORDS, RESULT, 7))
 THREAD(literal, lampgrotto_literal(words, WORDS, RESULT, 0, 5, out, 1))
@@ -143,6 +144,7 @@ int main(void) {
     sheet_length = out[0];
     row("read", reading);
     row("the phone's look up", phone);
+    row("the phone's look up of many", phone_many);
     cost_rows();
     return 0;
 }

@@ -1,5 +1,6 @@
 /* Looks settings up in sheets through the proved function, and holds each answer against the test's own reader: document
-   01's sheets, sheets that are wrong in one point, every cut and every single-byte change of one, random ones, large ones. */
+   01's sheets, sheets that are wrong in one point, every cut and every single-byte change of one, random ones, large ones. Then the
+   look up of many: each number as the look up of its row, and a refused call that writes nothing. */
 #include "lampgrotto.h"
 #include "sheet.h"
 #include <stdio.h>
@@ -219,6 +220,104 @@ static void large_sheet(int one_more) {
     report("large");
 }
 
+/* ---- several settings at once */
+enum { ROWS = 40, PAST = 3, OLD = 70000 };
+static uint8_t rows[ROWS * FEATURES + 8];
+
+static struct {
+    long calls, wrong, numbers, newer, bad_sheet, bad_argument;
+} many;
+
+/* how the look up of many must end, by the test's own reader: with no values the reader says what it thinks of the sheet itself */
+static uint32_t ending_of(const uint8_t *bytes, size_t length, size_t rows_length, size_t count) {
+    uint32_t itself = expected(bytes, length, rows, 0) - 65536;
+    if (itself != LAMPGROTTO_BAD_ARGUMENT) return itself;
+    size_t n = bytes[4];
+    if (rows_length != n * count) return LAMPGROTTO_BAD_ARGUMENT;
+    for (size_t i = 0; i < count; i++)
+        if (expected(bytes, length, rows + i * n, n) >= 65536) return LAMPGROTTO_BAD_ARGUMENT;
+    return LAMPGROTTO_TAKEN;
+}
+
+static uint32_t look_many(const uint8_t *bytes, size_t length, size_t rows_length, size_t count) {
+    uint32_t words[ROWS + PAST];
+    for (size_t i = 0; i < ROWS + PAST; i++) words[i] = OLD + (uint32_t)i;
+    uint32_t ending = lampgrotto_look_up_all(bytes, length, rows, rows_length, words, count);
+    many.calls++;
+    if (ending != ending_of(bytes, length, rows_length, count)) many.wrong++;
+    size_t laid = ending == LAMPGROTTO_TAKEN ? count : 0;
+    for (size_t i = 0; i < laid; i++) {
+        size_t n = bytes[4];
+        uint32_t number = expected(bytes, length, rows + i * n, n);
+        if (words[i] != number || lampgrotto_look_up(bytes, length, rows + i * n, n) != number) many.wrong++;
+    }
+    for (size_t i = laid; i < ROWS + PAST; i++)
+        if (words[i] != OLD + i) many.wrong++;
+    many.numbers += (long)laid;
+    if (ending == LAMPGROTTO_NEWER) many.newer++;
+    if (ending == LAMPGROTTO_BAD_SHEET) many.bad_sheet++;
+    if (ending == LAMPGROTTO_BAD_ARGUMENT) many.bad_argument++;
+    return ending;
+}
+
+static void report_many(const char *name) {
+    printf("%s: %ld calls, %ld wrong; %ld numbers, %ld newer, %ld bad sheet, %ld bad argument\n", name, many.calls, many.wrong,
+           many.numbers, many.newer, many.bad_sheet, many.bad_argument);
+    memset(&many, 0, sizeof many);
+}
+
+/* random settings of the list, one after the other */
+static void random_rows(const struct list *f, size_t count) {
+    for (size_t i = 0; i < count; i++) setting_at(f, chance((uint32_t)settings_of(f)), rows + i * (size_t)f->count);
+}
+
+static void small_rows(void) {
+    memcpy(rows, (const uint8_t[6]){1, 0, 1, 1, 0, 2}, 6);
+    printf("five rows: %u; six, the last no setting: %u\n", look_many(example, 20, 5, 5), look_many(example, 20, 6, 6));
+    printf("no rows: %u; a row and no word: %u; a word and no row: %u\n", look_many(example, 20, 0, 0),
+           look_many(example, 20, 1, 0), look_many(example, 20, 0, 1));
+    printf("no rows in no sheet: %u\n", look_many(example, 19, 0, 0));
+    memcpy(sheet.bytes, example, 20);
+    sheet.bytes[2] = 2;
+    printf("a newer sheet: %u; with no rows: %u; with a row too many: %u\n", look_many(sheet.bytes, 20, 5, 5),
+           look_many(sheet.bytes, 20, 0, 0), look_many(sheet.bytes, 20, 6, 5));
+    report_many("small");
+}
+
+/* every length near the right one, one value too high in each place of each row, and a bit of the sheet changed */
+static void all_rows(const struct list *f) {
+    size_t n = (size_t)f->count, count = chance(ROWS + 1);
+    random_rows(f, count);
+    if (look_many(sheet.bytes, sheet.length, n * count, count) != LAMPGROTTO_TAKEN) many.wrong++;
+    for (size_t more = 0; more <= n * count + 1 && more <= 2 * n; more++) {
+        look_many(sheet.bytes, sheet.length, n * count + 1 - more, count);
+        if (count < ROWS) look_many(sheet.bytes, sheet.length, n * count + more, count + 1);
+    }
+    for (size_t p = 0; p < n * count; p++) {
+        uint8_t old = rows[p];
+        rows[p] = (uint8_t)(f->size[p % n] + (int)chance(3) * 83);
+        if (look_many(sheet.bytes, sheet.length, n * count, count) != LAMPGROTTO_BAD_ARGUMENT) many.wrong++;
+        rows[p] = old;
+    }
+    for (size_t p = 0; p < sheet.length; p += 1 + chance(9)) {
+        uint8_t old = sheet.bytes[p];
+        sheet.bytes[p] = old ^ 1 << chance(8);
+        look_many(sheet.bytes, sheet.length, n * count, count);
+        sheet.bytes[p] = old;
+    }
+}
+
+static void many_rows(void) {
+    small_rows();
+    for (int round = 0; round < 60; round++) {
+        struct list f;
+        random_rule(&f);
+        write_sheet(&f, numbers, &sheet);
+        all_rows(&f);
+    }
+    report_many("random rows");
+}
+
 int main(void) {
     documents_sheets();
     newer_sheets();
@@ -227,5 +326,6 @@ int main(void) {
     random_sheets();
     large_sheet(0);
     large_sheet(1);
+    many_rows();
     return 0;
 }
