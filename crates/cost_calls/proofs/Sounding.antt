@@ -29,9 +29,9 @@ module _ {w : List ℕ} (s : Sound w) where
   pub sound-root : (p : ℕ) → p < 16 → Ok (nodes w) 0 (rootAt w p)
   sound-root = tested-root regular (sound-tested s)
 
-  -- a place may be replaced
-  pub sound-untidy : Untidy w
-  sound-untidy = record { untidy = tested-untidy regular (sound-tested s); range = s .ranged .ranged }
+  -- place p may be replaced
+  pub sound-untidy : (p : ℕ) → p < 16 → Untidy p w
+  sound-untidy p h = record { untidy = tested-untidy regular (sound-tested s) p (omega arith); range = s .ranged .ranged }
 
   -- TALLY: the nodes in use are as many as the distinct rests of all 16 costs
   pub sound-tally : count w ≡ tally (sizes w) (costsOf w)

@@ -12,10 +12,10 @@ ghost use Rattle.promises.specs.CostWords.{costBranch as branch, costNodes as n
 
 // Place p gets the target x and the base a, and what no place reaches any more is gone.
 pub fn finish(t: &mut [u32], p: usize, x: u32, a: u32)
-    requires { ⌜ (Untidy (now t)) × (p < 16) × (Ok (nodes (now t)) 0 (branch x a)) × (Within costMost (sizes (now t)) (meaning (nodes (now t)) (branch x a))) ⌝ }
+    requires { ⌜ (Untidy p (now t)) × (p < 16) × (Ok (nodes (now t)) 0 (branch x a)) × (Within costMost (sizes (now t)) (meaning (nodes (now t)) (branch x a))) ⌝ }
     ensures { λ _. ⌜ Becomes p (meaning (nodes (now (t .entry))) (branch x a)) (now (t .entry)) (now (t .exit)) ⌝ }
 {
     t[32 + p] = x;
     t[48 + p] = a;
-    tidy(t, FIRST, 16);
+    tidy(t, FIRST, 16, p);
 }

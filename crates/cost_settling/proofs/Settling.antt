@@ -2,6 +2,7 @@
 use mathlib.Core.Path.{_≡_, refl, sym, subst}
 use mathlib.Core.List.{List}
 use Prim.Native.Nat.{ℕ, _<_}
+use native.Mathlib.Omega.{arith}
 use Rattle.theory.specs.Costs.{Cost}
 use Rattle.theory.specs.Diagrams.{meaning}
 use Rattle.theory.specs.Functions.{Agree}
@@ -38,11 +39,11 @@ exceeds-agree s e x = C.exceeds-agree regular (sound-tested s) e x
 
 -- `settle` may be asked, if the cost lies in its range
 pub settle-asks : {w t : List ℕ} {p n : ℕ} (g : Cost) (a : Answer) → Sound w → Result w t 0 g a → p < 16 → n ≡ count w → Within costMost (sizes w) g → Asks p n t a
-settle-asks {w} {t} g (Is x a) s r hp e f =
+settle-asks {w} {t} {p} g (Is x a) s r hp e f =
     let z : sizes t ≡ sizes w = C.sizes-same regular (sound-tested s) (r .grown) (built-ext lawful w 0 g) in
     let m = result-mean w t 0 g x a (sound-holds s) r in (
       record {
-        untidy = C.grown-untidy regular (sound-tested s) (r .grown) (built-ext lawful w 0 g);
+        untidy = C.grown-untidy regular (sound-tested s) (r .grown) (built-ext lawful w 0 g) p (omega arith);
         range = λ q h. rw z (within-agree (C.places-kept regular (sound-tested s) (r .grown) (built-ext lawful w 0 g) q h) (s .ranged .ranged q h));
       },
       hp,

@@ -27,7 +27,7 @@ Puts p g w w′ o = C.Puts costTable p (g ∷ []) w w′ o
 -- ---- settling
 -- a call that built may settle: there is a branch for place p whose cost lies in its range, or the nodes from n on can be taken away
 abbrev pub Asks : ℕ → ℕ → List ℕ → Answer → Type 0
-Asks p n w (Is x a) = (Untidy w) × (p < 16) × (Ok (nodes w) 0 (branch x a)) × (Within costMost (sizes w) (meaning (nodes w) (branch x a)))
+Asks p n w (Is x a) = (Untidy p w) × (p < 16) × (Ok (nodes w) 0 (branch x a)) × (Within costMost (sizes w) (meaning (nodes w) (branch x a)))
 Asks p n w Full = (Laid w) × (n ≤ count w)
 
 -- the branch's cost stands in place p, or the nodes from n on are taken away

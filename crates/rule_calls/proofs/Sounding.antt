@@ -32,9 +32,9 @@ module _ {w : List ℕ} (s : Sound w) where
   pub sound-root : (p : ℕ) → p < 32 → Ok (nodes w) 0 (decode (root w p))
   sound-root = tested-root regular (sound-tested s)
 
-  -- a root may be replaced
-  pub sound-untidy : Untidy w
-  sound-untidy = tested-untidy regular (sound-tested s)
+  -- the root of place p may be replaced
+  pub sound-untidy : (p : ℕ) → p < 32 → Untidy p w
+  sound-untidy p h = tested-untidy regular (sound-tested s) p (omega arith)
 
   -- TALLY: the nodes in use are as many as the distinct rests of all 32 rules
   pub sound-tally : count w ≡ tally (sizes w) (rulesOf w)

@@ -10,9 +10,9 @@ ghost use Rattle.promises.specs.RuleWords.{decode, ruleNodes as nodes};
 
 // The root of place p becomes b, and what no place reaches any more is gone.
 pub fn finish(t: &mut [u32], p: usize, b: u32)
-    requires { ⌜ (Untidy (now t)) × (p < 32) × (Ok (nodes (now t)) 0 (decode b)) ⌝ }
+    requires { ⌜ (Untidy p (now t)) × (p < 32) × (Ok (nodes (now t)) 0 (decode b)) ⌝ }
     ensures { λ _. ⌜ Becomes p (meaning (nodes (now (t .entry))) (decode b)) (now (t .entry)) (now (t .exit)) ⌝ }
 {
     t[32 + p] = b;
-    tidy(t, NUMBERS, 32);
+    tidy(t, NUMBERS, 32, p);
 }

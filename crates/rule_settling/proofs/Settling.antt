@@ -2,6 +2,7 @@
 use mathlib.Core.Path.{_≡_, refl, sym, subst}
 use mathlib.Core.List.{List}
 use Prim.Native.Nat.{ℕ, _<_}
+use native.Mathlib.Omega.{arith}
 use Rattle.theory.specs.Diagrams.{meaning}
 use Rattle.theory.specs.Functions.{Agree}
 use Rattle.theory.specs.Rules.{Rule, Built}
@@ -41,7 +42,8 @@ gives r = record { grown = r .grown; answers = r .answers }
 
 -- `settle` may be asked
 pub settle-asks : {w t : List ℕ} {p n : ℕ} (g : Rule) (a : Answer) → Sound w → Result w t 0 g a → p < 32 → n ≡ count w → Asks p n t a
-settle-asks {w} {t} g (Is b) s r hp e = (C.grown-untidy regular (sound-tested s) (r .grown) (built-ext lawful w 0 g), hp, result-mean w t 0 g b (sound-holds s) r .ok)
+settle-asks {w} {t} {p} g (Is b) s r hp e =
+    (C.grown-untidy regular (sound-tested s) (r .grown) (built-ext lawful w 0 g) p (omega arith), hp, result-mean w t 0 g b (sound-holds s) r .ok)
 settle-asks {w} g Full s r hp e = C.none-asks regular (sound-tested s) (r .grown) (built-ext lawful w 0 g) e
 
 -- THE LAW of every call that builds: NO ROOM exactly where the rests exceed the capacity, and then nothing is changed; else the rule is written

@@ -25,7 +25,7 @@ Puts p g w w′ o = C.Puts ruleTable p (g ∷ []) w w′ o
 -- ---- settling
 -- a call that built may settle: there is a branch for place p, or the nodes from n on can be taken away
 abbrev pub Asks : ℕ → ℕ → List ℕ → Answer → Type 0
-Asks p n w (Is b) = (Untidy w) × (p < 32) × (Ok (nodes w) 0 (decode b))
+Asks p n w (Is b) = (Untidy p w) × (p < 32) × (Ok (nodes w) 0 (decode b))
 Asks p n w Full = (Laid w) × (n ≤ count w)
 
 -- the branch's rule stands in place p, or the nodes from n on are taken away

@@ -13,7 +13,7 @@ use Rattle.theory.specs.Functions.{Agree, Fun, zero-fun}
 use Rattle.theory.specs.Kind.{Kind}
 use Rattle.theory.specs.Settings.{FeatureList, Pos}
 use Rattle.theory.specs.Tally.{tally}
-use Rattle.theory.proofs.Growing.{each-append}
+use Rattle.theory.proofs.Growing.{each-append, ext-trans}
 use Rattle.theory.proofs.Lists.{getD-map-in}
 use Rattle.theory.proofs.Rests.{nodes-tally}
 use Rattle.theory.proofs.Tables.{table-agree}
@@ -29,7 +29,7 @@ use Rattle.table_words.proofs.Filling.{grown-ext}
 use Rattle.table_words.proofs.Reading.{length-said, at-said}
 use Rattle.table_words.proofs.Several.{all-ext, results-none, results-more, results-stop, results-long, results-mean}
 use Rattle.table_words.proofs.Stores.{Where, before, within, behind, where?, sets-before, sets-behind, sets-within}
-use Rattle.table_words.proofs.Tab.{split}
+use Rattle.table_words.proofs.Tab.{split, length-tab, getD-tab, tab-ext}
 use Rattle.table_words.proofs.Words.{kept-features, kept-capacity, kept-sizes}
 use Rattle.table_records.specs.Changes.{Rolled}
 use Rattle.table_records.specs.Laid.{Laid}
@@ -37,10 +37,11 @@ use Rattle.table_records.specs.Nodes.{layoutOf}
 use Rattle.table_records.proofs.Making.{lawful}
 use Rattle.table_records.proofs.Restoring.{undo-asks, undo}
 use Rattle.table_checks.proofs.Pictures.{Tested, tested-wf, tested-root, tested-list, tested-table}
-use Rattle.table_sweep.specs.Tidy.{Untidy}
+use Rattle.table_sweep.specs.Tidy.{Begun, Untidy}
 use Rattle.table_calls.specs.Writing.{Agrees, Exceeds, Puts, Settled, alone}
-use Rattle.table_calls.proofs.Sounding.{tested-pos, tested-holds}
+use Rattle.table_calls.proofs.Sounding.{tested-pos, tested-holds, tested-begun}
 use Rattle.table_calls.proofs.Theorems.{one-agrees}
+use Rattle.promises.specs.Tab.{tab}
 use Rattle.promises.specs.Words.{head, capacity, features, sizes, count, bound, Zeros}
 
 -- ROOM: the results built in turn onto the nodes of gs have as many nodes as there are distinct rests of gs with those of the results
@@ -97,9 +98,33 @@ module _ {K : Kind} {T : Table K} (L : Regular T) where
           (split j (8192 + 16 * capacity t));
     }
 
-    -- places may be replaced
-    pub grown-untidy : Untidy T t
-    grown-untidy =
+    -- the functions of all places are as they were
+    pub places-kept : (p : ℕ) → p < T .places → Agree (sizes w) (funAt T t p) (funAt T w p)
+    places-kept p h x v =
+        ap (λ (b : Branch K). meaning (nodes T t) b x) (root-same p h)
+        ∙ value-ext (sizes w) (nodes T w) (nodes T t) 0 (T .rootAt w p) x (tested-wf L s) ext (tested-root L s p h)
+
+    -- building only adds nodes and sets no root: the first p places and the front of the nodes are those of their functions built in turn
+    grown-table : (p : ℕ) → p ≤ T .places → table (sizes t) (tab (funAt T t) p) ≡ table (sizes w) (tab (funAt T w) p)
+    grown-table p l =
+        ap (λ (S : List ℕ). table S (tab (funAt T t) p)) sizes-same
+        ∙ table-agree (sizes w) (tab (funAt T t) p) (tab (funAt T w) p) (length-tab (funAt T t) p ∙ sym (length-tab (funAt T w) p))
+        (λ q h x v.
+        let g : q < p = omega (arith, length-tab (funAt T t) p) in
+        ap (λ (f : Fun K). f x) (getD-tab (funAt T t) p q zero-fun g) ∙ places-kept q (omega arith) x v ∙ sym (ap (λ (f : Fun K). f x) (getD-tab (funAt T w) p q zero-fun g)))
+        []
+
+    grown-begun : (p : ℕ) → p ≤ T .places → Begun T p t
+    grown-begun p l =
+        let b = tested-begun L s p l in
+        record {
+          roots = ap (λ (q : List (Branch K) × List (Node K)). q .0) (grown-table p l) ∙ b .roots ∙ sym (tab-ext (T .rootAt t) (T .rootAt w) p (λ q h. root-same q (omega arith)));
+          front = subst (λ (M : List (Node K)). Ext M (nodes T t)) (sym (ap (λ (q : List (Branch K) × List (Node K)). q .1) (grown-table p l))) (ext-trans (b .front) ext);
+        }
+
+    -- place p may be replaced
+    pub grown-untidy : (p : ℕ) → p ≤ T .places → Untidy T p t
+    grown-untidy p l =
         let h = s .header in
         record {
           room = omega (arith, kept .long, cap-same, h .front .room);
@@ -109,20 +134,18 @@ module _ {K : Kind} {T : Table K} (L : Regular T) where
           list = subst FeatureList (sym sizes-same) (tested-list L s);
           past-sizes = zeros-kept (3 + features t) 19 (omega arith) (λ j x y e. omega arith) (subst (λ (n : ℕ). Zeros w (3 + n) 19) (sym (kept-features w t kept)) (h .past));
           within = gr .well .laid .laid .within;
-          shares = λ j l. kept .header (20 + j) (omega arith) (omega arith) ∙ h .shares j l;
+          shares = λ j g. kept .header (20 + j) (omega arith) (omega arith) ∙ h .shares j g;
           unused = zeros-kept 22 32 (omega arith) (λ j x y e. omega arith) (h .unused);
           middle = zeros-kept 64 4096 (omega arith) (λ j x y e. omega arith) (h .middle);
           clean = clean-kept;
           wf = gr .well .wf;
           spared = gr .well .laid .spared;
-          rooted = λ p l. rw (root-same p l) (ok-ext (nodes T w) (nodes T t) 0 (T .rootAt w p) ext (tested-root L s p l));
+          padded = gr .well .laid .padded;
+          links = gr .well .laid .laid .links;
+          heads = gr .well .laid .laid .heads;
+          rooted = λ q g. rw (root-same q g) (ok-ext (nodes T w) (nodes T t) 0 (T .rootAt w q) ext (tested-root L s q g));
+          begun = grown-begun p l;
         }
-
-    -- the functions of all places are as they were
-    pub places-kept : (p : ℕ) → p < T .places → Agree (sizes w) (funAt T t p) (funAt T w p)
-    places-kept p h x v =
-        ap (λ (b : Branch K). meaning (nodes T t) b x) (root-same p h)
-        ∙ value-ext (sizes w) (nodes T w) (nodes T t) 0 (T .rootAt w p) x (tested-wf L s) ext (tested-root L s p h)
 
     -- `roll_back` may be asked
     pub none-asks : {n : ℕ} → n ≡ count w → (Laid t) × (n ≤ count t)

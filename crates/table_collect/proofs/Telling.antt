@@ -16,7 +16,7 @@ use Rattle.table_words.proofs.Reading.{goal-below, length-nodes}
 use Rattle.table_words.proofs.Tab.{tab-none, tab-snoc, tab-ext}
 use Rattle.table_sweep.specs.Collecting.{Good, Loose, Ready, Moved, Turning, Moving}
 use Rattle.table_sweep.specs.Tidy.{Untidy}
-use Rattle.table_sweep.proofs.Collecting.{untidy-framed, cleared-loose, rooted-from, collected}
+use Rattle.table_sweep.proofs.Collecting.{untidy-framed, unlinked-loose, rooted-from, collected}
 use Rattle.table_sweep.proofs.Copying.{moved-leaf, moved-marked, moved-new, turning-none, turning-more}
 use Rattle.table_sweep.proofs.Finishing.{finished, placed-range, placed-untidy}
 use Rattle.table_sweep.proofs.Framing.{few, known, size-small, value-small, branch-before, steady-trans, arm-kept, still-good}
@@ -24,7 +24,7 @@ use Rattle.table_sweep.proofs.Placing.{Placed, Rooting, replaced-set, rooting-n
 use Rattle.table_sweep.proofs.Tidying.{tidied}
 use Rattle.table_collect.specs.Laying.{Laying, turned}
 use Rattle.table_collect.specs.Walk.{Laid, Lawful, Step, Moves, Turns, Roots, Done, ends, found, copied, empty, laid, rootless, rooted, Swept}
-use Rattle.promises.specs.Words.{head, capacity, size, count, sizes, feature, body}
+use Rattle.promises.specs.Words.{capacity, size, count, sizes, feature, body}
 
 module _ {K : Kind} {T : Table K} (L : Regular T) (Y : Laying T) where
   -- where the word of branch v goes, and where that of node i
@@ -67,7 +67,7 @@ module _ {K : Kind} {T : Table K} (L : Regular T) (Y : Laying T) where
   abbrev Tells : List ℕ → List ℕ → Step → Type 0
   Tells w w′ (Moves b r) = Ready T w → Good T w (T .goal b) → Moved T w w′ (T .goal b) (T .goal r)
   Tells w w′ (Turns i v l) = Ready T w → Moving T w w′ i v l
-  Tells w w′ (Roots p) = Loose T w → p ≤ T .places → Rooting T w w′ p
+  Tells w w′ (Roots p q) = Loose T p w → q ≤ T .places → Rooting T w w′ q
 
   tells : {w w′ : List ℕ} {s : Step} → Done (T .first) w w′ s → Tells w w′ s
   tells (ends w b h) = λ y g. let e = L .ends b h in subst (λ (x : Target K). Moved T w w x x) (sym (e .1)) (moved-leaf y)
@@ -79,38 +79,40 @@ module _ {K : Kind} {T : Table K} (L : Regular T) (Y : Laying T) where
       let m = tells d y in
       moving-more l l′ r y h a m
       (tells e (m .turning .still .ready) (subst (Good T t) (arm-way (body t i) v) (still-good L (y .framed) (m .turning .still .steady) i v h a))) s
-  tells (rootless w) = λ l a. rooting-none l
-  tells (rooted {w} {t} {t′} {p} r d hp e) = λ l a.
+  tells (rootless w p) = λ l a. rooting-none L l
+  tells (rooted {w} {t} {t′} {p} {q} r d hq e) = λ l a.
       let m = tells d l (omega arith) in
-      let c = tells e (m .ready) (subst (Good T t) (L .tops t p) (rooting-good L l m a)) in
-      rooting-more L (T .goal r) l m a (subst (λ (x : Target K). Moved T t t′ x (T .goal r)) (sym (L .tops t p)) c) (placed t′ p r a (omega (arith, c .still .ready .framed .room)))
+      let c = tells e (m .ready) (subst (Good T t) (L .tops t q) (rooting-good L l m a)) in
+      rooting-more L (T .goal r) l m a (subst (λ (x : Target K). Moved T t t′ x (T .goal r)) (sym (L .tops t q)) c) (placed t′ q r a (omega (arith, c .still .ready .framed .room)))
 
   -- ---- the whole
-  module _ {w : List ℕ} (u : Untidy T w) where
+  module _ {p : ℕ} {w : List ℕ} (u : Untidy T p w) (hp : p ≤ T .places) where
     fits : (i : ℕ) → i < count w → (feature w i < 16) × (size w (feature w i) ≤ 8)
     fits i h = let f = untidy-framed u in (omega (arith, known f i h, few f), size-small f i h)
 
     lower : (i v : ℕ) → i < count w → v < size w (feature w i) → wayOf (T .first) (body w i) v < T .first + i
     lower i v h hv = goal-below L _ i 0 _ (subst (Under _ i 0) (arm-way (body w i) v) (branch-before (untidy-framed u) i v h hv i (le-refl _)))
 
-    untidy-lawful : Lawful (T .first) (T .places) w
-    unfolding head
+    untidy-lawful : Lawful (T .first) (T .places) p w
     untidy-lawful =
         record {
           walkable = record { least = Y .least; room = u .room; most = u .most; within = u .within; fits = fits; lower = lower };
-          rooted = record { many = Y .many; rooted = λ p h. omega (arith, length-nodes T w, goal-below L _ _ 0 _ (subst (Under _ _ 0) (L .tops w p) (u .rooted p h))) };
-          nothing = u .unused .zeros 31 (omega arith) (omega arith);
+          rooted = record { many = Y .many; rooted = λ q h. omega (arith, length-nodes T w, goal-below L _ _ 0 _ (subst (Under _ _ 0) (L .tops w q) (u .rooted q h))) };
+          place = hp;
+          links = u .links;
+          heads = u .heads;
         }
 
   -- a place set, and the whole after it, in range at every setting and as the shares ask: its function is replaced, and no other
-  module _ {w w′ : List ℕ} {p : ℕ} {b : Branch K} (u : Untidy T w) (hp : p < T .places) (s : Placed T w w′ p b) (ok : Ok (nodes T w) 0 b) where
-    pub placed-lawful : Lawful (T .first) (T .places) w′
-    placed-lawful = untidy-lawful (placed-untidy L u hp s ok)
+  module _ {w w′ : List ℕ} {p : ℕ} {b : Branch K} (u : Untidy T p w) (hp : p < T .places) (s : Placed T w w′ p b) (ok : Ok (nodes T w) 0 b) where
+    pub placed-lawful : Lawful (T .first) (T .places) p w′
+    placed-lawful = untidy-lawful (placed-untidy L u hp s ok) (omega arith)
 
     pub placed-becomes : {v : List ℕ} → ((r : List ℕ) → Valid (sizes w) r → T .InRange (meaning (nodes T w) b r))
         → ((q : ℕ) → q < T .places → (r : List ℕ) → Valid (sizes w) r → T .InRange (funAt T w q r))
-        → T .Shared (capacity w′) (sizes w′) (T .said w′) → Swept (T .first) (T .places) w′ v → Becomes T p (meaning (nodes T w) b ∷ []) w v
+        → T .Shared (capacity w′) (sizes w′) (T .said w′) → Swept (T .first) (T .places) p w′ v → Becomes T p (meaning (nodes T w) b ∷ []) w v
     placed-becomes {v} x o z t =
         let n = placed-untidy L u hp s ok in
-        let c = collected L n (rooted-from L n (t .clears) (rooting-all (tells (t .copies) (cleared-loose L n (t .clears)) (le-refl _)))) (t .brings) in
+        let y : p ≤ T .places = omega arith in
+        let c = collected L n (rooted-from L n y (t .unlinks) (rooting-all (tells (t .copies) (unlinked-loose L n y (t .unlinks)) (le-refl _)))) (t .brings) in
         finished L u hp s v (tidied L n (placed-range L u hp s x o) z c (t .links))

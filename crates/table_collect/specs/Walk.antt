@@ -6,9 +6,9 @@ use Prim.Native.Nat.{ℕ, suc, _+_, _≤_, _<_}
 use lib.ListN.{length, set}
 use Rattle.theory.specs.Copying.{marked}
 use Rattle.table_words.specs.Words.{listed, wayOf}
-use Rattle.table_sweep.specs.Marks.{done, mark}
-use Rattle.table_sweep.specs.Sweeping.{Cleared, Put, Brought, Relinked}
-use Rattle.promises.specs.Words.{head, capacity, size, count, bound, feature, body}
+use Rattle.table_sweep.specs.Marks.{kept, done, mark, highest}
+use Rattle.table_sweep.specs.Sweeping.{Unlinked, Put, Brought, Relinked}
+use Rattle.promises.specs.Words.{head, capacity, size, count, bound, feature, body, link, bucket, hashAt, lastOf}
 use Rattle.promises.specs.CostWords.{goes, added}
 
 -- ---- a branch laid into a body
@@ -33,29 +33,32 @@ pub record Walkable (first : ℕ) (w : List ℕ) : Type 0 where
   pub fits : (i : ℕ) → i < count w → (feature w i < 16) × (size w (feature w i) ≤ 8)
   pub lower : (i v : ℕ) → i < count w → v < size w (feature w i) → wayOf first (body w i) v < first + i
 
--- and as many far records are copies as nodes are marked
+-- and there are as many copies as nodes are marked, with those that stay
 pub record Open (first : ℕ) (w : List ℕ) : Type 0 where
   pub walkable : Walkable first w
   pub tallied : done w ≡ marked (mark w) (count w)
   pub marks : (i : ℕ) → i < count w → mark w i ≤ done w
+  pub stay : kept w ≤ done w
 
 -- the first n roots end or go to nodes
 pub record Rooted (first n : ℕ) (w : List ℕ) : Type 0 where
   pub many : n ≤ 32
   pub rooted : (p : ℕ) → p < n → head w (32 + p) < first + count w
 
--- both, and there is no copy yet; the marks' words are free
-pub record Lawful (first n : ℕ) (w : List ℕ) : Type 0 where
+-- both, and the nodes are chained; p is a place, or their number
+pub record Lawful (first n p : ℕ) (w : List ℕ) : Type 0 where
   pub walkable : Walkable first w
   pub rooted : Rooted first n w
-  pub nothing : done w ≡ 0
+  pub place : p ≤ n
+  pub links : (i : ℕ) → i < count w → link w i ≡ lastOf (hashAt w) (hashAt w i) i
+  pub heads : (h : ℕ) → h < 4096 → bucket w h ≡ lastOf (hashAt w) h (count w)
 
 -- ---- what is done
--- the branch word b becomes r; the first v branches of node i stand in the body l; the first p roots are set
+-- the branch word b becomes r; the first v branches of node i stand in the body l; the roots from place p to q are set
 pub data Step : Type 0 where
   Moves : ℕ → ℕ → Step
   Turns : ℕ → ℕ → List ℕ → Step
-  Roots : ℕ → Step
+  Roots : ℕ → ℕ → Step
 
 -- DONE: by this step the words became others
 pub data Done (first : ℕ) : List ℕ → List ℕ → Step → Type 0 where
@@ -71,20 +74,20 @@ pub data Done (first : ℕ) : List ℕ → List ℕ → Step → Type 0 where
   laid : {w t t′ l l′ : List ℕ} {i v : ℕ} (r : ℕ) → Done first w t (Turns i v l) → i < count w → v < size w (feature w i) →
       Done first t t′ (Moves (wayOf first (body t i) v) r) → Laid first (body t′ i) (listed l) (listed l′) v r → Done first w t′ (Turns i (suc v) l′)
   -- no root, and one more
-  rootless : (w : List ℕ) → Done first w w (Roots 0)
-  rooted : {w t t′ : List ℕ} {p : ℕ} (r : ℕ) → Done first w t (Roots p) → p < 32 → Done first t t′ (Moves (head t (32 + p)) r) → Done first w (set t′ (32 + p) r) (Roots (suc p))
+  rootless : (w : List ℕ) (p : ℕ) → Done first w w (Roots p p)
+  rooted : {w t t′ : List ℕ} {p q : ℕ} (r : ℕ) → Done first w t (Roots p q) → q < 32 → Done first t t′ (Moves (head t (32 + q)) r) → Done first w (set t′ (32 + q) r) (Roots p (suc q))
 
 -- the word r of a copy that is there already; no copy has the last word that there is, which says a node without one
 pub record Here (first : ℕ) (w : List ℕ) (b r : ℕ) : Type 0 where
   pub copy : (r ≡ 4294967295 → ⊥) → Done first w w (Moves b r)
   pub none : r ≡ 4294967295 → (first ≤ b) × ((i : ℕ) → b ≡ first + i → mark w i ≡ 0)
 
--- the whole: marks cleared, n roots copied, the copies brought back, chained anew
-pub record Swept (first n : ℕ) (w w′ : List ℕ) : Type 0 where
+-- the whole: the nodes above the roots before place p taken out of the chains, the roots from p to n copied, the copies brought back, chained anew
+pub record Swept (first n p : ℕ) (w w′ : List ℕ) : Type 0 where
   pub bare : List ℕ
   pub spread : List ℕ
   pub back : List ℕ
-  pub clears : Cleared w bare
-  pub copies : Done first bare spread (Roots n)
+  pub unlinks : Unlinked w bare (highest first w p)
+  pub copies : Done first bare spread (Roots p n)
   pub brings : Brought spread back
   pub links : Relinked back w′

@@ -2,10 +2,9 @@
 // `first` tells the kind: branch words below it end, the others say nodes.
 use table_sweep::add_copy;
 use table_sweep::bring_back;
-use table_sweep::clear_heads;
 use table_sweep::relink;
+use table_sweep::unlink;
 use table_words::HALVES;
-use table_words::bucket_word;
 use table_words::head_word;
 use table_words::narrow;
 use table_words::record_word;
@@ -17,7 +16,7 @@ ghost use mathlib.Core.Path.{_≡_};
 ghost use Prim.Native.Nat.{_+_, _*_, _≤_, _<_};
 ghost use lib.ListN.{length};
 ghost use Rattle.table_words.specs.Words.{listed};
-ghost use Rattle.table_sweep.specs.Marks.{mark};
+ghost use Rattle.table_sweep.specs.Marks.{kept, mark, highest};
 ghost use Rattle.table_collect.specs.Walk.{Laid, Open, Lawful, Done, Moves, Here, Swept};
 ghost use Rattle.promises.specs.Words.{count, body};
 
@@ -37,15 +36,15 @@ fn lay_branch(t: &[u32], first: u32, i: usize, v: usize, r: u32, list: &mut [u32
 // No branch word: there is no copy yet.
 const LOST: u32 = 4294967295;
 
-// The copy of what a branch word goes to, LOST where a node has none yet.
-fn here(t: &[u32], first: u32, b: u32) -> u32
-    requires { ⌜ (Open first (now t)) × (b < first + count (now t)) ⌝ }
+// The copy of what a branch word goes to, LOST where a node has none yet. Words below `low` end or say nodes that stay.
+fn here(t: &[u32], first: u32, low: u32, b: u32) -> u32
+    requires { ⌜ (Open first (now t)) × (b < first + count (now t)) × (low ≡ first + kept (now t)) ⌝ }
     ensures { λ r. ⌜ Here first (now (t .entry)) b r ⌝ }
 {
-    if b < first {
+    if b < low {
         return b;
     }
-    let c = bucket_word(t, wide(b - first));
+    let c = record_word(t, wide(b - first), 13);
     if 0 < c {
         return first + (c - 1);
     }
@@ -53,8 +52,8 @@ fn here(t: &[u32], first: u32, b: u32) -> u32
 }
 
 // The copy of node i, which has none: with the copies of its branches in turn, 0 past them.
-fn copy_node(t: &mut [u32], first: u32, i: usize) -> u32
-    requires { ⌜ (Open first (now t)) × (i < count (now t)) × (mark (now t) i ≡ 0) ⌝ }
+fn copy_node(t: &mut [u32], first: u32, low: u32, i: usize) -> u32
+    requires { ⌜ (Open first (now t)) × (i < count (now t)) × (mark (now t) i ≡ 0) × (low ≡ first + kept (now t)) ⌝ }
     ensures { λ r. ⌜ Done first (now (t .entry)) (now (t .exit)) (Moves (first + i) r) ⌝ }
 {
     let m = width(t, i);
@@ -62,9 +61,9 @@ fn copy_node(t: &mut [u32], first: u32, i: usize) -> u32
     let mut v: usize = 0;
     while v < m {
         let x = way_word(t, first, i, v);
-        let mut r = here(t, first, x);
+        let mut r = here(t, first, low, x);
         if r == LOST {
-            r = copy_node(t, first, wide(x - first));
+            r = copy_node(t, first, low, wide(x - first));
         }
         lay_branch(t, first, i, v, r, &mut list);
         v += 1;
@@ -73,30 +72,49 @@ fn copy_node(t: &mut [u32], first: u32, i: usize) -> u32
 }
 
 // The copy of what a branch word goes to, made where there is none.
-fn copy_branch(t: &mut [u32], first: u32, b: u32) -> u32
-    requires { ⌜ (Open first (now t)) × (b < first + count (now t)) ⌝ }
+fn copy_branch(t: &mut [u32], first: u32, low: u32, b: u32) -> u32
+    requires { ⌜ (Open first (now t)) × (b < first + count (now t)) × (low ≡ first + kept (now t)) ⌝ }
     ensures { λ r. ⌜ Done first (now (t .entry)) (now (t .exit)) (Moves b r) ⌝ }
 {
-    let r = here(t, first, b);
+    let r = here(t, first, low, b);
     if r == LOST {
-        return copy_node(t, first, wide(b - first));
+        return copy_node(t, first, low, wide(b - first));
     }
     r
 }
 
-// Only the nodes that the first n roots reach stay, in the order of the functions built in turn, and they are chained anew.
-pub fn tidy(t: &mut [u32], first: u32, n: usize)
-    requires { ⌜ Lawful first n (now t) ⌝ }
-    ensures { λ _. ⌜ Swept first n (now (t .entry)) (now (t .exit)) ⌝ }
+// 1 + the highest node that is a root of the first p places, 0 where none is: so many nodes building their functions in turn gives.
+fn kept_by(t: &[u32], first: u32, n: usize, p: usize) -> u32
+    requires { ⌜ Lawful first n p (now t) ⌝ }
+    ensures { λ r. ⌜ r ≡ highest first (now (t .entry)) p ⌝ }
 {
-    clear_heads(t);
-    let mut p: usize = 0;
-    while p < n {
-        let b = head_word(t, 32 + p);
-        let r = copy_branch(t, first, b);
-        t[32 + p] = r;
-        p += 1;
+    let mut a: u32 = 0;
+    let mut q: usize = 0;
+    while q < p {
+        let b = head_word(t, 32 + q);
+        if first + a <= b {
+            a = b - first + 1;
+        }
+        q += 1;
+    }
+    a
+}
+
+// Place p was changed: of the nodes behind those of the places before it only what the first n roots reach stays, in the order of the functions
+// built in turn, and is chained anew.
+pub fn tidy(t: &mut [u32], first: u32, n: usize, p: usize)
+    requires { ⌜ Lawful first n p (now t) ⌝ }
+    ensures { λ _. ⌜ Swept first n p (now (t .entry)) (now (t .exit)) ⌝ }
+{
+    let a = kept_by(t, first, n, p);
+    unlink(t, wide(a));
+    let mut q: usize = p;
+    while q < n {
+        let b = head_word(t, 32 + q);
+        let r = copy_branch(t, first, first + a, b);
+        t[32 + q] = r;
+        q += 1;
     }
     bring_back(t);
-    relink(t);
+    relink(t, wide(a));
 }

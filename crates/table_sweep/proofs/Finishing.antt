@@ -2,7 +2,7 @@
 use mathlib.Core.Path.{_≡_, sym, ap, subst, _∙_}
 use mathlib.Core.Logic.{⊎-elim}
 use mathlib.Core.List.{List, [], _∷_}
-use Prim.Native.Nat.{ℕ, _+_, _≤_, _<_}
+use Prim.Native.Nat.{ℕ, _+_, _*_, _≤_, _<_}
 use native.Mathlib.Omega.{arith}
 use lib.ListN.{length, getD, set, length-set}
 use lib.Seq.{ext-getD, getD-set-same, getD-set-other}
@@ -14,15 +14,18 @@ use Rattle.theory.specs.WellFormed.{Ok}
 use Rattle.table_words.specs.Table.{Table, Regular, nodes, funAt}
 use Rattle.table_words.specs.Picture.{Becomes}
 use Rattle.table_words.proofs.Reading.{length-said, at-said}
+use Rattle.table_words.proofs.Chains.{last-ext}
 use Rattle.table_words.proofs.Tab.{same}
+use Rattle.table_words.proofs.Words.{hashAt-ext}
 use Rattle.table_sweep.specs.Collecting.{Framed, Steady}
 use Rattle.table_sweep.specs.Tidy.{Untidy, Tidied}
 use Rattle.table_sweep.proofs.Collecting.{untidy-framed}
-use Rattle.table_sweep.proofs.Framing.{same-sizes, same-nodes, steady-framed}
+use Rattle.table_sweep.proofs.Beginning.{begun-same}
+use Rattle.table_sweep.proofs.Framing.{known, padded-same, same-size, same-sizes, same-nodes, steady-framed}
 use Rattle.table_sweep.proofs.Placing.{Placed, replaced-steady}
-use Rattle.promises.specs.Words.{head, capacity, features, count, sizes, Zeros}
+use Rattle.promises.specs.Words.{head, word, capacity, features, count, sizes, feature, hashAt, lastOf, Zeros}
 
-module _ {K : Kind} {T : Table K} (L : Regular T) {w w′ : List ℕ} {p : ℕ} {b : Branch K} (u : Untidy T w) (hp : p < T .places) (s : Placed T w w′ p b) where
+module _ {K : Kind} {T : Table K} (L : Regular T) {w w′ : List ℕ} {p : ℕ} {b : Branch K} (u : Untidy T p w) (hp : p < T .places) (s : Placed T w w′ p b) where
   steady : Steady w w′
   steady = replaced-steady (s .replaced)
 
@@ -46,7 +49,18 @@ module _ {K : Kind} {T : Table K} (L : Regular T) {w w′ : List ℕ} {p : ℕ} 
       (λ e. subst P (sym (s .others q h e)) (o q h))
       (same q p)
 
-  pub placed-untidy : Ok (nodes T w) 0 b → Untidy T w′
+  word-same : (i j : ℕ) → word w′ i j ≡ word w i j
+  unfolding word
+  word-same i j = s .replaced .rest (8192 + 16 * i + j) (omega arith)
+
+  hash-same : (i : ℕ) → hashAt w′ i ≡ hashAt w i
+  hash-same i = hashAt-ext w w′ i (λ j l. word-same i j)
+
+  last-same : (h e : ℕ) → lastOf (hashAt w) h e ≡ lastOf (hashAt w′) h e
+  last-same h e = last-ext (hashAt w) (hashAt w′) h e (λ i l. sym (hash-same i))
+
+  pub placed-untidy : Ok (nodes T w) 0 b → Untidy T p w′
+  unfolding head
   placed-untidy ok =
       let c : capacity w′ ≡ capacity w = low 1 (omega arith) in
       let f : features w′ ≡ features w = low 2 (omega arith) in
@@ -66,6 +80,12 @@ module _ {K : Kind} {T : Table K} (L : Regular T) {w w′ : List ℕ} {p : ℕ} 
         clean = record { zeros = λ j l g. s .replaced .rest j (omega arith) ∙ u .clean .zeros j (omega arith) (omega arith) };
         wf = k .wf;
         spared = k .spared;
+        padded = λ i h.
+            let l : i < count w = omega arith in
+            padded-same L w w′ i i (word-same i 0) (same-size L (untidy-framed u) steady (feature w i) (known (untidy-framed u) i l)) (λ v g. word-same i (1 + v)) (u .padded i l);
+        links = λ i h. word-same i 13 ∙ u .links i (omega arith) ∙ ap (λ (x : ℕ). lastOf (hashAt w) x i) (sym (hash-same i)) ∙ last-same (hashAt w′ i) i;
+        heads = λ h g. s .replaced .rest (4096 + h) (omega arith) ∙ u .heads h g ∙ last-same h (count w) ∙ ap (lastOf (hashAt w′) h) (sym n);
+        begun = begun-same p sizes-same nodes-same (λ q h. s .others q (omega arith) (omega arith)) (u .begun);
         rooted = λ q h. subst (λ (N : List (Node K)). Ok N 0 (T .rootAt w′ q)) (sym nodes-same) (each-place (Ok (nodes T w) 0) ok (u .rooted) q h);
       }
 

@@ -1,9 +1,9 @@
 -- What the header and the nodes of words that are collected give, and what copying leaves of them. Assumes nothing.
 use mathlib.Core.Path.{_≡_, refl, sym, ap, subst, _∙_}
 use mathlib.Core.List.{List}
-use Prim.Native.Nat.{ℕ, suc, _+_, _*_, _/_, _%_, _-_, _≤_, _<_}
+use Prim.Native.Nat.{ℕ, suc, _+_, _≤_, _<_}
 use native.Mathlib.Omega.{arith}
-use lib.ListN.{length, getD}
+use lib.ListN.{length}
 use Rattle.theory.specs.Copying.{Copies, Half}
 use Rattle.theory.specs.Diagrams.{Branch, Node, Target, at, empty, leaf, node}
 use Rattle.theory.specs.Kind.{Kind}
@@ -15,10 +15,10 @@ use Rattle.table_words.proofs.Reading.{length-nodes, at-nodes, branch-at, node-
 use Rattle.table_words.proofs.Sparing.{spared-same}
 use Rattle.table_words.proofs.Tab.{length-tab, getD-tab, tab-ext}
 use Rattle.table_words.proofs.Words.{length-sizes, at-sizes}
-use Rattle.table_sweep.specs.Marks.{done}
-use Rattle.table_sweep.specs.Collecting.{copies, Framed, Good, Ready, Steady}
+use Rattle.table_sweep.specs.Marks.{done, spot}
+use Rattle.table_sweep.specs.Collecting.{copies, Framed, Good, Ready, Steady, Firm}
 use Rattle.promises.specs.Tab.{tab}
-use Rattle.promises.specs.Words.{nodesBy, word, capacity, features, size, count, sizes, feature, body}
+use Rattle.promises.specs.Words.{nodesBy, capacity, features, size, count, sizes, feature, body}
 
 -- a node's feature is one of the table's
 known-in : {K : Kind} (w : List ℕ) {N : List (Node K)} {x : Node K} → WF (sizes w) N → (i : ℕ) → i < length N → at N i ≡ x → x .feature < features w
@@ -35,13 +35,13 @@ under-zero N m n k (node j) h u = (omega (arith, u .0), omega arith)
 module _ {K : Kind} (T : Table K) where
   pub length-copies : (w : List ℕ) → length (copies T w) ≡ done w
   unfolding copies
-  length-copies w = length-tab (λ n. nodeAt T w (capacity w + n)) (done w)
+  length-copies w = length-tab (λ n. nodeAt T w (spot w n)) (done w)
 
-  at-copies : (w : List ℕ) (i : ℕ) → i < done w → at (copies T w) i ≡ nodeAt T w (capacity w + i)
+  at-copies : (w : List ℕ) (i : ℕ) → i < done w → at (copies T w) i ≡ nodeAt T w (spot w i)
   unfolding copies
-  at-copies w i h = getD-tab (λ n. nodeAt T w (capacity w + n)) (done w) i empty h
+  at-copies w i h = getD-tab (λ n. nodeAt T w (spot w n)) (done w) i empty h
 
-pub known-copy : {K : Kind} {T : Table K} {w : List ℕ} → Ready T w → (i : ℕ) → i < done w → feature w (capacity w + i) < features w
+pub known-copy : {K : Kind} {T : Table K} {w : List ℕ} → Ready T w → (i : ℕ) → i < done w → feature w (spot w i) < features w
 known-copy {K} {T} {w} r i h = known-in w (r .half .wf) i (omega (arith, length-copies T w)) (at-copies T w i h)
 
 -- ---- the header, node i and its branch v
@@ -75,16 +75,18 @@ module _ {K : Kind} {T : Table K} {w : List ℕ} (f : Framed T w) where
 
 -- ---- what stays
 pub steady-refl : (w : List ℕ) → Steady w w
-steady-refl w = record { long = refl; low = λ j h. refl; middle = λ j h g. refl; near = λ i j h g. refl; past = λ j h. refl }
+steady-refl w = record { long = refl; low = λ j h. refl; middle = λ j h g. refl; near = λ i j h g n. refl; free = λ j h g. refl; past = λ j h. refl }
 
 pub steady-trans : {a b c : List ℕ} → Steady a b → Steady b c → Steady a c
 steady-trans {a} {b} {c} p q =
     let e : capacity b ≡ capacity a = p .low 1 (omega arith) in
+    let c : count b ≡ count a = p .low 19 (omega arith) in
     record {
       long = q .long ∙ p .long;
       low = λ j h. q .low j h ∙ p .low j h;
       middle = λ j h g. q .middle j h g ∙ p .middle j h g;
-      near = λ i j h g. q .near i j (omega arith) g ∙ p .near i j h g;
+      near = λ i j h g n. q .near i j (omega arith) g n ∙ p .near i j h g n;
+      free = λ j h g. q .free j (omega arith) (omega arith) ∙ p .free j h g;
       past = λ j h. q .past j (omega arith) ∙ p .past j h;
     }
 
@@ -98,12 +100,12 @@ module _ {w w′ : List ℕ} (k : Steady w w′) where
   pub same-features : features w′ ≡ features w
   same-features = k .low 2 (omega arith)
 
-  -- the near words one by one
-  pub near-flat : (j : ℕ) → 8192 ≤ j → j < 8192 + 16 * capacity w → getD w′ j 0 ≡ getD w j 0
-  unfolding word
-  near-flat j h g =
-      let e : j ≡ 8192 + 16 * ((j - 8192) / 16) + (j - 8192) % 16 = omega arith in
-      ap (λ (x : ℕ). getD w′ x 0) e ∙ k .near ((j - 8192) / 16) ((j - 8192) % 16) (omega arith) (omega arith) ∙ ap (λ (x : ℕ). getD w x 0) (sym e)
+pub firm-refl : (w : List ℕ) → Firm w w
+firm-refl w = record { stay = refl; heads = λ h g. refl; links = λ i h. refl }
+
+pub firm-trans : {a b c : List ℕ} → Firm a b → Firm b c → Firm a c
+firm-trans p q =
+    let e = p .stay in record { stay = q .stay ∙ p .stay; heads = λ h g. q .heads h g ∙ p .heads h g; links = λ i h. q .links i (omega arith) ∙ p .links i h }
 
 -- a record with the words of another says the same
 module _ {K : Kind} {T : Table K} (L : Regular T) (w w′ : List ℕ) (i i′ : ℕ) (f : feature w′ i′ ≡ feature w i) (s : size w′ (feature w i) ≡ size w (feature w i))
@@ -129,7 +131,7 @@ module _ {K : Kind} {T : Table K} (L : Regular T) {w w′ : List ℕ} (f : Frame
       ap (tab (nodeAt T w′)) (same-count k)
       ∙ tab-ext (nodeAt T w′) (nodeAt T w) (count w)
       (λ i h. let l : i < capacity w = omega (arith, f .within) in
-      node-same L w w′ i i (k .near i 0 l (omega arith)) (same-size (feature w i) (known f i h)) (λ v hv. k .near i (1 + v) l (omega arith)) (size-small f i h))
+      node-same L w w′ i i (k .near i 0 l (omega arith) (omega arith)) (same-size (feature w i) (known f i h)) (λ v hv. k .near i (1 + v) l (omega arith) (omega arith)) (size-small f i h))
 
   pub steady-framed : Framed T w′
   steady-framed =
@@ -141,13 +143,13 @@ module _ {K : Kind} {T : Table K} (L : Regular T) {w w′ : List ℕ} (f : Frame
         within = omega (arith, f .within);
         list = subst FeatureList (sym same-sizes) (f .list);
         wf = subst (λ (S : List ℕ). WF S (nodes T w′)) (sym same-sizes) (subst (WF (sizes w)) (sym same-nodes) (f .wf));
-        spared = spared-same T w w′ (same-count k) same-sizes same-nodes (λ i j h g. k .near i (14 + j) (omega (arith, f .within)) (omega arith)) (f .spared);
+        spared = spared-same T w w′ (same-count k) same-sizes same-nodes (λ i j h g. k .near i (14 + j) (omega (arith, f .within)) (omega arith) (omega arith)) (f .spared);
       }
 
   -- branch v of node i is as it was, so it may be copied
   module _ (i v : ℕ) (h : i < count w) (hv : v < size w (feature w i)) where
     pub arm-kept : T .arm (body w′ i) v ≡ T .arm (body w i) v
-    arm-kept = L .reads (body w′ i) (body w i) v (value-small f i v h hv) (λ u l. k .near i (1 + u) (omega (arith, f .within)) (omega arith))
+    arm-kept = L .reads (body w′ i) (body w i) v (value-small f i v h hv) (λ u l. k .near i (1 + u) (omega (arith, f .within)) (omega arith) (omega arith))
 
     pub still-before : (n : ℕ) → i ≤ n → Under (nodes T w′) n 0 (T .arm (body w′ i) v .to)
     still-before n l = rw (same-nodes, arm-kept) (branch-before f i v h hv n l)

@@ -1,10 +1,12 @@
-pub mod Clearing
+pub mod Marking
+pub mod Cutting
 pub mod Writing
 pub mod Bringing
 pub mod Relinking
 pub mod Framing
 pub mod Copying
 pub mod Placing
+pub mod Beginning
 pub mod Collecting
 pub mod Tidying
 pub mod Finishing

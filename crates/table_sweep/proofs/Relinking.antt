@@ -22,19 +22,18 @@ pub record Relinking (w t : List ℕ) (i : ℕ) : Type 0 where
   pub heads : (h : ℕ) → h < 4096 → bucket t h ≡ lastOf (hashAt w) h i
   pub after : (j : ℕ) → 8192 + 16 * count w ≤ j → getD t j 0 ≡ getD w j 0
 
-pub relinking-none : {w : List ℕ} → Bare w → Relinking w w 0
-unfolding lastOf
+pub relinking-none : {w : List ℕ} {a : ℕ} → Bare w a → Relinking w w a
 relinking-none {w} b =
     record {
       long = refl;
       front = λ j h. refl;
       words = λ n r h g q. refl;
-      links = λ n h. absurd (omega arith);
-      heads = b .bare;
+      links = b .links;
+      heads = b .heads;
       after = λ j h. refl;
     }
 
-module _ {w t : List ℕ} {i : ℕ} (h x y : ℕ) (b : Bare w) (k : Relinking w t i) (hi : i < count w) (eh : h ≡ hashAt t i) (hh : h < 4096) (ex : x ≡ bucket t h) (ey : y ≡ i + 1) where
+module _ {w t : List ℕ} {a i : ℕ} (h x y : ℕ) (b : Bare w a) (k : Relinking w t i) (hi : i < count w) (eh : h ≡ hashAt t i) (hh : h < 4096) (ex : x ≡ bucket t h) (ey : y ≡ i + 1) where
   abbrev linked : List ℕ
   linked = set t (8192 + 16 * i + 13) x
 

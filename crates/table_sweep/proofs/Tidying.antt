@@ -22,7 +22,7 @@ use Rattle.promises.specs.Words.{head, capacity, count, sizes, hashAt, lastOf}
 
 module _ {K : Kind} {T : Table K} (L : Regular T) where
   -- in range at every setting, and as the shares ask
-  module _ {w t : List ℕ} (u : Untidy T w) (range : (p : ℕ) → p < T .places → (s : List ℕ) → Valid (sizes w) s → T .InRange (funAt T w p s))
+  module _ {p₀ : ℕ} {w t : List ℕ} (u : Untidy T p₀ w) (range : (p : ℕ) → p < T .places → (s : List ℕ) → Valid (sizes w) s → T .InRange (funAt T w p s))
       (shared : T .Shared (capacity w) (sizes w) (T .said w)) (c : Collected T w t) where
     holds-said : table (sizes w) (T .said w) ≡ (rootsOf T t, nodes T t)
     holds-said = ap (λ (gs : List (Fun K)). table (sizes w) gs) (L .said w) ∙ c .holds

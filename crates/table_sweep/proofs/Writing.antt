@@ -1,16 +1,17 @@
 -- What the stores of one copy leave. Assumes nothing.
-use mathlib.Core.Path.{_≡_, _∙_}
+use mathlib.Core.Path.{_≡_, sym, ap, _∙_}
 use mathlib.Core.Logic.{⊎-elim}
 use mathlib.Core.List.{List}
-use Prim.Native.Nat.{ℕ, zero, suc, _+_, _-_, _*_, _≤_, _<_}
+use Prim.Native.Nat.{ℕ, zero, suc, _+_, _-_, _*_, _/_, _%_, _≤_, _<_}
 use native.Mathlib.Omega.{arith}
 use lib.ListN.{length, getD, set, length-set}
 use lib.Seq.{getD-set-same, getD-set-other}
 use Rattle.table_words.proofs.Tab.{same}
-use Rattle.table_sweep.specs.Marks.{done, mark}
+use Rattle.table_sweep.specs.Marks.{kept, done, mark}
 use Rattle.table_sweep.specs.Sweeping.{Spare, Put}
-use Rattle.table_sweep.specs.Collecting.{Steady}
-use Rattle.promises.specs.Words.{word, head, capacity}
+use Rattle.table_sweep.specs.Collecting.{Steady, Firm}
+use Rattle.table_sweep.proofs.Marking.{mark-link, mark-none, mark-same}
+use Rattle.promises.specs.Words.{word, head, capacity, count}
 
 -- one more of a run of stores
 pub run-more : (t l : List ℕ) (b v : ℕ) → b + v < length t
@@ -35,7 +36,7 @@ module _ (w t l : List ℕ) (base i k x y a b : ℕ) (eb : base ≡ 8192 + 16 * 
   s₂ = set s₁ (base + 15) b
 
   abbrev marked : List ℕ
-  marked = set s₂ (4096 + i) x
+  marked = set s₂ (8192 + 16 * i + 13) x
 
   abbrev out : List ℕ
   out = set marked 31 y
@@ -49,10 +50,10 @@ module _ (w t l : List ℕ) (base i k x y a b : ℕ) (eb : base ≡ 8192 + 16 * 
   longs : length s₂ ≡ length w
   longs = length-set s₁ (base + 15) b ∙ length-set t (base + 14) a ∙ long
 
-  above : (j : ℕ) → (j ≡ 4096 + i → ⊥) → (j ≡ 31 → ⊥) → getD out j 0 ≡ getD s₂ j 0
-  above j p q = getD-set-other marked 31 j y 0 q ∙ getD-set-other s₂ (4096 + i) j x 0 p
+  above : (j : ℕ) → (j ≡ 8192 + 16 * i + 13 → ⊥) → (j ≡ 31 → ⊥) → getD out j 0 ≡ getD s₂ j 0
+  above j p q = getD-set-other marked 31 j y 0 q ∙ getD-set-other s₂ (8192 + 16 * i + 13) j x 0 p
 
-  outside : (j : ℕ) → (j ≡ 4096 + i → ⊥) → (j ≡ 31 → ⊥) → (base + 14 ≤ j → j < base + 16 → ⊥) → getD out j 0 ≡ getD t j 0
+  outside : (j : ℕ) → (j ≡ 8192 + 16 * i + 13 → ⊥) → (j ≡ 31 → ⊥) → (base + 14 ≤ j → j < base + 16 → ⊥) → getD out j 0 ≡ getD t j 0
   outside j p q n =
       above j p q ∙ getD-set-other s₁ (base + 15) j b 0 (λ e. n (omega arith) (omega arith)) ∙ getD-set-other t (base + 14) j a 0 (λ e. n (omega arith) (omega arith))
 
@@ -64,7 +65,7 @@ module _ (w t l : List ℕ) (base i k x y a b : ℕ) (eb : base ≡ 8192 + 16 * 
       above (base + 15) (omega (arith, s .there, s .most)) (omega arith) ∙ getD-set-same s₁ (base + 15) b 0 (omega (arith, within, long, length-set t (base + 14) a)) ∙ eB
   spares (suc (suc j)) g = absurd (omega arith)
 
-  before : (j : ℕ) → j < base → (j ≡ 4096 + i → ⊥) → (j ≡ 31 → ⊥) → getD out j 0 ≡ getD w j 0
+  before : (j : ℕ) → j < base → (j ≡ 8192 + 16 * i + 13 → ⊥) → (j ≡ 31 → ⊥) → getD out j 0 ≡ getD w j 0
   before j h p q = outside j p q (λ c d. omega arith) ∙ front j (omega arith) ∙ getD-set-other w base j k 0 (omega arith)
 
   pub put : Put w out i l
@@ -72,13 +73,13 @@ module _ (w t l : List ℕ) (base i k x y a b : ℕ) (eb : base ≡ 8192 + 16 * 
   put =
       let lw = within in
       let lt = longs in
-      let c : i < 4096 = omega (arith, s .there, s .most) in
+      let c : i < getD w 1 0 = s .there in
       record {
-        long = length-set marked 31 y ∙ length-set s₂ (4096 + i) x ∙ longs;
-        low = λ j h p q. before j (omega arith) q p;
-        more = getD-set-same marked 31 y 0 (omega (arith, length-set s₂ (4096 + i) x)) ∙ ey;
-        noted = getD-set-other marked 31 (4096 + i) y 0 (omega arith) ∙ getD-set-same s₂ (4096 + i) x 0 (omega arith) ∙ ex;
-        near = λ n j hn hj. before (8192 + 16 * n + j) (omega arith) (omega arith) (omega arith);
+        long = length-set marked 31 y ∙ length-set s₂ (8192 + 16 * i + 13) x ∙ longs;
+        low = λ j h p. before j (omega arith) (omega arith) p;
+        more = getD-set-same marked 31 y 0 (omega (arith, length-set s₂ (8192 + 16 * i + 13) x)) ∙ ey;
+        noted = getD-set-other marked 31 (8192 + 16 * i + 13) y 0 (omega arith) ∙ getD-set-same s₂ (8192 + 16 * i + 13) x 0 (omega arith) ∙ ex;
+        near = λ n j hn hj q. before (8192 + 16 * n + j) (omega arith) (omega (arith, q)) (omega arith);
         old = λ n j hn hj. before (8192 + 16 * (getD w 1 0 + n) + j) (omega arith) (omega arith) (omega arith);
         feature =
             let e : 8192 + 16 * (getD w 1 0 + getD w 31 0) + 0 ≡ base = omega arith in
@@ -90,17 +91,36 @@ module _ (w t l : List ℕ) (base i k x y a b : ℕ) (eb : base ≡ 8192 + 16 * 
         after = λ j h. outside j (omega arith) (omega arith) (λ c d. omega arith) ∙ rest j (omega arith) ∙ getD-set-other w base j k 0 (omega arith);
       }
 
--- one copy keeps the other marks
-pub put-marks : {w w′ : List ℕ} {i : ℕ} {l : List ℕ} → Put w w′ i l → (n : ℕ) → n < 4096 → (n ≡ i → ⊥) → mark w′ n ≡ mark w n
-put-marks p n h q = p .low (4096 + n) (omega arith) (omega arith) (omega (arith, q))
+-- one copy more: its node has a mark, and the other marks are kept
+module _ {w w′ : List ℕ} {i : ℕ} {l : List ℕ} (p : Put w w′ i l) where
+  pub put-stay : kept w′ ≡ kept w
+  put-stay = p .low 30 (omega arith) (omega arith)
+
+  pub put-noted : mark w i ≡ 0 → mark w′ i ≡ suc (done w)
+  put-noted z = mark-link w′ i (omega (arith, put-stay, mark-none w i z)) ∙ p .noted
+
+  pub put-marks : (n : ℕ) → n < capacity w → (n ≡ i → ⊥) → mark w′ n ≡ mark w n
+  put-marks n h q = mark-same w w′ put-stay n (λ g. p .near n 13 h (omega arith) (omega (arith, q)))
 
 -- .. and the near records and the header
-pub put-steady : {w w′ : List ℕ} {i : ℕ} {l : List ℕ} → Spare w i → Put w w′ i l → Steady w w′
-put-steady s p =
+pub put-steady : {w w′ : List ℕ} {i : ℕ} {l : List ℕ} → Spare w i → i < count w → count w ≤ capacity w → Put w w′ i l → Steady w w′
+unfolding word
+put-steady {w} {w′} {i} s h g p =
     record {
       long = p .long;
-      low = λ j hj. p .low j (omega arith) (omega arith) (omega arith);
-      middle = λ j hj g. p .low j (omega arith) (omega arith) (omega arith);
-      near = p .near;
+      low = λ j hj. p .low j (omega arith) (omega arith);
+      middle = λ j hj k. p .low j (omega arith) (omega arith);
+      near = λ n j hn hj q. p .near n j hn hj (omega (arith, q));
+      free = λ j hj k.
+          let e : j ≡ 8192 + 16 * ((j - 8192) / 16) + (j - 8192) % 16 = omega arith in
+          ap (λ (x : ℕ). getD w′ x 0) e ∙ p .near ((j - 8192) / 16) ((j - 8192) % 16) (omega arith) (omega arith) (omega arith) ∙ ap (λ (x : ℕ). getD w x 0) (sym e);
       past = λ j hj. p .after j (omega (arith, s .free));
+    }
+
+pub put-firm : {w w′ : List ℕ} {i : ℕ} {l : List ℕ} → Spare w i → mark w i ≡ 0 → Put w w′ i l → Firm w w′
+put-firm {w} {w′} {i} s z p =
+    record {
+      stay = put-stay p;
+      heads = λ h g. p .low (4096 + h) (omega arith) (omega arith);
+      links = λ n h. p .near n 13 (omega (arith, mark-none w i z, s .there)) (omega arith) (omega (arith, mark-none w i z));
     }

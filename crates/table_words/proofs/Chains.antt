@@ -1,5 +1,5 @@
 -- Chains: 1 + the last index of a hash. Assumes nothing.
-use mathlib.Core.Path.{_≡_, refl}
+use mathlib.Core.Path.{_≡_, refl, sym, _∙_}
 use mathlib.Core.Logic.{⊎-elim}
 use Prim.Native.Nat.{ℕ, zero, suc, _-_, _≤_, _<_}
 use native.Mathlib.Omega.{arith}
@@ -39,3 +39,14 @@ last-is f h (suc e) = ⊎-elim
     (let r = last-is f h e in
     record { within = omega (arith, r .within); hash = r .hash; gap = λ j a b x. ⊎-elim (λ l. r .gap j a l x) (λ l. q (let d : j ≡ e = omega arith in rw d at x)) (split j e) }))
     (same (f e) h)
+
+-- what is last below e and lies below a is last below a
+pub last-down : (f : ℕ → ℕ) (h a e : ℕ) → a ≤ e → lastOf f h e ≤ a → lastOf f h a ≡ lastOf f h e
+last-down f h a zero l u = let q : a ≡ 0 = omega arith in rw q refl
+last-down f h a (suc e) l u = ⊎-elim
+    (λ k. ⊎-elim
+    (λ q. absurd (omega (arith, last-here f h e q)))
+    (λ q. let n = last-not f h e q in last-down f h a e (omega arith) (omega arith) ∙ sym n)
+    (same (f e) h))
+    (λ k. let q : a ≡ suc e = omega arith in rw q refl)
+    (split a (suc e))

@@ -5,22 +5,22 @@ use Prim.Native.Nat.{ℕ, zero, suc, _+_, _-_, _≤_, _<_}
 use native.Mathlib.Nat.{not-suc-le-zero, zero-add, le-refl}
 use native.Mathlib.Decide.{ℕ-discrete, decLt}
 use native.Mathlib.Omega.{arith}
-use lib.ListN.{length, getD, drop}
-use lib.Seq.{drop-cons, getD-append-seam}
+use lib.ListN.{length, getD, take, drop, take-append-drop}
+use lib.Seq.{drop-cons, getD-append-seam, getD-take, length-take-le}
 use Rattle.theory.specs.Kind.{Kind}
 use Rattle.theory.specs.Deciding.{Alike, In}
 use Rattle.theory.specs.Settings.{Pos, zeros}
 use Rattle.theory.specs.Functions.{Amount, Fun, held, lift, parts, zero-fun}
 use Rattle.theory.specs.Diagrams.{Branch, Node, Target, at, base, blank, empty, ending, leaf, node, plain, up, value}
 use Rattle.theory.specs.WellFormed.{Mean, Under, WF}
-use Rattle.theory.specs.Build.{Built, build, each, make}
+use Rattle.theory.specs.Build.{Built, Ext, build, each, make}
 use Rattle.theory.specs.Copying.{Copies, Half, Lists, Twin, counted, marked}
 use Rattle.theory.proofs.Lists.{pos-drop}
 use Rattle.theory.proofs.Ranges.{zeros-valid}
 use Rattle.theory.proofs.Offsets.{Level, level-node}
 use Rattle.theory.proofs.Growing.{build-cons, each-last, parts-snoc}
-use Rattle.theory.proofs.WellFormed.{at-more, length-snoc, under-weaken, wf-empty}
-use Rattle.theory.proofs.Values.{mean-more, means-at, means-length, node-mean, value-ending, value-here, value-plain, value-zeros}
+use Rattle.theory.proofs.WellFormed.{at-more, length-snoc, under-weaken, wf-empty, wf-take}
+use Rattle.theory.proofs.Values.{mean-more, means-at, means-length, node-mean, value-ending, value-ext, value-here, value-plain, value-zeros}
 use Rattle.theory.proofs.Meaning.{Right, Rights, build-right, each-right}
 use Rattle.theory.proofs.Making.{make-last}
 use Rattle.theory.proofs.Canonical.{build-agree, canonical, canonical-unique}
@@ -242,6 +242,28 @@ module _ {K : Kind} where
   pub half-none : {S : List ℕ} {O : List (Node K)} {f : ℕ → ℕ} → ((i : ℕ) → i < length O → f i ≡ 0) → Half S O [] f
   half-none {S} z = record { wf = wf-empty S; twin = λ i j h e. absurd (let q = z i h in omega arith); from = λ j h. absurd (not-suc-le-zero h) }
 
+  -- or the first a nodes are their own copies, and the others have none
+  pub half-kept : {S : List ℕ} {O : List (Node K)} {f : ℕ → ℕ} (a : ℕ) → WF S O → a ≤ length O → ((i : ℕ) → i < a → f i ≡ suc i) → ((i : ℕ) → a ≤ i → i < length O → f i ≡ 0)
+      → Half S O (take a O) f
+  half-kept {S} {O} {f} a w h own none =
+      record { wf = wf-take S O a w; twin = λ i j hi e. twin i j hi e (decLt i a); from = λ j hj. (j, omega (arith, long), own j (omega (arith, long))) }
+    where
+      long : length (take a O) ≡ a
+      long = length-take-le a O h
+
+      ext : Ext (take a O) O
+      ext = record { more = drop a O; ends = sym (take-append-drop a O) }
+
+      self : (i : ℕ) → i < a → Twin S O (take a O) i i
+      self i l =
+          let e : at (take a O) i .feature ≡ at O i .feature = ap (λ (x : Node K). x .feature) (getD-take a O i empty l) in
+          let ok : Under (take a O) (length (take a O)) (at O i .feature) (node i) = (omega (arith, long), omega arith) in
+          record { alike = e; mean = record { ok = ok; says = λ s x. sym (value-ext S (take a O) O (at O i .feature) (plain i) s (wf-take S O a w) ext ok) } }
+
+      twin : (i j : ℕ) → i < length O → f i ≡ suc j → Dec (i < a) → Twin S O (take a O) i j
+      twin i j hi e (yes l) = let q : j ≡ i = omega (arith, own i l) in rw q (self i l)
+      twin i j hi e (no l) = absurd (omega (arith, none i (omega arith) hi))
+
 -- how many nodes have a copy
 counted-le : (x : ℕ) → counted x ≤ 1
 counted-le zero = omega arith
@@ -261,6 +283,21 @@ pub marked-none : (f : ℕ → ℕ) (n : ℕ) → ((x : ℕ) → x < n → f x �
 unfolding marked
 marked-none f zero e = refl
 marked-none f (suc n) e = omega (arith, marked-none f n (λ x h. e x (omega arith)), ap counted (e n (omega arith)))
+
+marked-all : (f : ℕ → ℕ) (n : ℕ) → ((x : ℕ) → x < n → f x ≡ suc x) → marked f n ≡ n
+unfolding marked
+marked-all f zero e = refl
+marked-all f (suc n) e = omega (arith, marked-all f n (λ x h. e x (omega arith)), ap counted (e n (omega arith)))
+
+-- the first a have, the others have none
+pub marked-kept : (f : ℕ → ℕ) (a n : ℕ) → a ≤ n → ((x : ℕ) → x < a → f x ≡ suc x) → ((x : ℕ) → a ≤ x → x < n → f x ≡ 0) → marked f n ≡ a
+unfolding marked
+marked-kept f a zero h own none = omega arith
+marked-kept f a (suc n) h own none = go (decLt n a) (λ l. marked-kept f a n l own (λ x g k. none x g (omega arith)))
+  where
+    go : Dec (n < a) → (a ≤ n → marked f n ≡ a) → marked f n + counted (f n) ≡ a
+    go (yes l) ih = let e : a ≡ suc n = omega arith in omega (arith, marked-all f n (λ x k. own x (omega arith)), ap counted (own n l))
+    go (no l) ih = omega (arith, ih (omega arith), ap counted (none n (omega arith) (omega arith)))
 
 -- one copy more
 pub marked-more : (f g : ℕ → ℕ) (n i j : ℕ) → i < n → f i ≡ 0 → g i ≡ suc j → ((x : ℕ) → x < n → ¬ (x ≡ i) → g x ≡ f x) → marked g n ≡ suc (marked f n)

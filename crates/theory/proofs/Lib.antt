@@ -12,6 +12,7 @@ pub mod Canonical
 pub mod Rests
 pub mod Counting
 pub mod Tables
+pub mod Topping
 pub mod Walking
 pub mod Ordering
 pub mod Operations

@@ -6,7 +6,6 @@ use native.Mathlib.Numerals.{add-one}
 use native.Mathlib.Omega.{arith}
 use Prim.Native.Nat.{ℕ, _+_, _-_, _<_}
 use mathlib.Core.Logic.{⊎-elim}
-use mathlib.Core.Path.{_≡_, sym, ap}
 use borrow.Author.Needs.{needs}
 use borrow.Fn.Kinds.{In}
 use borrow.Fn.PlainCycle.{Measures, is, falls, and}
@@ -24,7 +23,7 @@ use Rattle.table_collect.proofs.+copy_node.{statement}
 use Rattle.table_collect.proofs.+copy_node.Tie.{close}
 
 abbrev μ-copy-node : Measures 1 kinds.ps ℕ
-μ-copy-node κs a = a .1 .1 .0
+μ-copy-node κs a = a .1 .1 .1 .0
 
 abbrev asked : ℕ → In 1 kinds.ps
 asked t = and 1 kinds.ps (is 1 kinds.ps μ-copy-node t) own.Pre
@@ -36,10 +35,10 @@ abbrev claims : ℕ → lts.Claims
 claims t = (size.Asked, size.Learnt, way.Asked, way.Learnt, copy.Asked, copy.Learnt, wide.Asked, wide.Learnt, lower t, own.Post, lay.Asked, lay.Learnt, add.Asked, add.Learnt, word.Asked, word.Learnt)
 
 abbrev Inv-loop : lts.InvT-loop
-Inv-loop t₀ first i m list₀ v₀ t list v = Filling first t₀ t i m v list
+Inv-loop t₀ first low i m list₀ v₀ t list v = Filling first low t₀ t i m v list
 
 abbrev μ-loop : lts.MeasureT-loop
-μ-loop t₀ first i m list₀ v₀ t list v = m - v
+μ-loop t₀ first low i m list₀ v₀ t list v = m - v
 
 width-requires : (t : ℕ) → lts.Need-width-requires (claims t) (asked t) own.Post Inv-loop μ-loop
 width-requires t c κs =
@@ -51,6 +50,7 @@ loop-holds t c =
     let a = c .before .before .before in
     record {
       opened = a .pre .1 .0;
+      lowest = a .pre .1 .3;
       there = a .pre .1 .1;
       none = a .pre .1 .2;
       many = c .width .ensures;
@@ -72,7 +72,7 @@ copy-node-requires : (t : ℕ) → lts.Need-copy-node-requires (claims t) (asked
 copy-node-requires t c κs =
     let c5 = c .before .before .before .before .before in let g = goes (c5 .before .before .before .loop .inv) (omega arith) (c5 .way-word .ensures) (c .before .before .before .here .ensures)
     (c .before .before .if1 .taken) (c .wide .ensures .0) in
-    (omega (arith, g .0), (g .1, g .2, g .3))
+    (omega (arith, g .0), (g .1, g .2, g .3, g .4))
 
 -- by either way the next branch's word becomes r
 made : (t : ℕ) (c : lts.Joined1 (claims t) (asked t) own.Post Inv-loop μ-loop) → let s = c .before .before .before .before .before .before in

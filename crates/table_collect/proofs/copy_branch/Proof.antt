@@ -11,7 +11,7 @@ sub-wide c = c .before .before .here .ensures .none (c .before .if1 .taken) .0
 copy-node-requires : tie.Need-copy-node-requires
 copy-node-requires c κs =
     let a = c .before .before .before .before .before .before in let n = c .before .before .before .here .ensures .none (c .before .before .if1 .taken) in
-    (a .pre .0, omega (arith, a .pre .1, n .0), n .1 (c .wide .result) (omega (arith, n .0)))
+    (a .pre .0, omega (arith, a .pre .1, n .0), n .1 (c .wide .result) (omega (arith, n .0)), a .pre .2)
 
 returns : tie.Need-returns
 returns c =

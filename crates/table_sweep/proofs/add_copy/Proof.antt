@@ -96,6 +96,8 @@ add-copy-spec =
     (λ c κs. search needs)
     (λ c. search needs)
     (λ c. search needs)
+    (λ c. search needs)
+    (λ c. search needs)
     slice-write-t-5
     (λ c. search needs)
     (λ c κs. search needs)

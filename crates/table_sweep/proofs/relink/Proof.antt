@@ -10,16 +10,16 @@ use Rattle.table_sweep.proofs.relink.Tie as tie
 use Rattle.promises.specs.Words.{head, count}
 
 abbrev Inv-loop : tie.InvT-loop
-Inv-loop t₀ n i₀ t i = (n ≡ count t₀) × (i ≤ n) × Relinking t₀ t i
+Inv-loop t₀ a n i₀ t i = (n ≡ count t₀) × (i ≤ n) × Relinking t₀ t i
 
 abbrev μ-loop : tie.MeasureT-loop
-μ-loop t₀ n i₀ t i = n - i
+μ-loop t₀ a n i₀ t i = n - i
 
 count-word-requires : tie.Need-count-word-requires Inv-loop μ-loop
 count-word-requires c κs = omega (arith, (c .before .before) .pre .room)
 
 loop-holds : tie.Need-loop-holds Inv-loop μ-loop
-loop-holds c = (omega arith, omega arith, relinking-none ((c .before .before .before .before) .pre))
+loop-holds c = let p = c .before .before .before .before .pre in (omega arith, omega (arith, p .upto), relinking-none p)
 
 hash-at-requires : tie.Need-hash-at-requires Inv-loop μ-loop
 hash-at-requires c κs =

@@ -35,9 +35,10 @@ finish-requires c κs =
     let e = toZ-ofZ (a .fits .amount) in
     let f : Fit costMost (a .args .amount) = subst (Fit costMost) e (granted (c .before .before .before .amount-ok .result) (c .before .before .if1 .left)
     (c .before .before .before .amount-ok .ensures)) in
-    let s = c6 .door .ensures .sound (c .before .before .before .before .enum-told .given .1) in (
-      sound-untidy s,
-      c6 .door .ensures .there (c .before .before .before .before .enum-told .given .1) .each 0 (omega arith),
+    let s = c6 .door .ensures .sound (c .before .before .before .before .enum-told .given .1) in
+    let q = c6 .door .ensures .there (c .before .before .before .before .enum-told .given .1) .each 0 (omega arith) in (
+      sound-untidy s (a .args .place) q,
+      q,
       constant-ok (c .before .word-of .result) (a .args .amount) (c .before .word-of .ensures ∙ e) (a .args .t .now),
       constant-within (c .before .word-of .result) (a .args .amount) (c .before .word-of .ensures ∙ e) (a .args .t .now) f,
     )

@@ -27,7 +27,7 @@ finish-requires c κs =
     let c7 = c .before .before .before .before .before .before .before in let a = c7 .before .before .before .before in
     let e = c7 .door .ensures in
     let t = c .before .before .before .before .before .enum-told .given .1 in (
-      sound-untidy (e .sound t),
+      sound-untidy (e .sound t) (a .args .place) (e .there t .each 0 (omega arith)),
       e .there t .each 0 (omega arith),
       copy-ok (a .args .t .now) (a .args .from) (c .before .before .before .root-word .result)
           (c .before .base-word .result) (c .before .before .before .root-word .ensures) (c .before .base-word .ensures) (e .sound t) (e .there t .each 1 (omega arith)),

@@ -26,9 +26,10 @@ finish-requires : tie.Need-finish-requires
 finish-requires c κs =
     let a = c .before .before .before .before .before .before .before .before in
     let s = c .before .before .before .before .door .ensures .sound (c .before .before .enum-told .given .1) in
-    let h : a .args .number < 65536 = omega arith in (
-      sound-untidy s,
-      c .before .before .before .before .door .ensures .there (c .before .before .enum-told .given .1) .each 0 (omega arith),
+    let h : a .args .number < 65536 = omega arith in
+    let q = c .before .before .before .before .door .ensures .there (c .before .before .enum-told .given .1) .each 0 (omega arith) in (
+      sound-untidy s (a .args .place) q,
+      q,
       subst (Ok (ruleNodes (a .args .t .now)) 0) (sym (decode-phrase (a .args .number) h)) tt,
     )
 

@@ -24,7 +24,7 @@ finish-requires : tie.Need-finish-requires
 finish-requires c κs = let a = (c .before .before .before .before .before .before .before .before .before) in
     let e = (c .before .before .before .before .before .door) .ensures in
     let t = (c .before .before .before .enum-told) .given .1 in (
-      sound-untidy (e .sound t),
+      sound-untidy (e .sound t) (a .args .place) (e .there t .each 0 (omega arith)),
       e .there t .each 0 (omega arith),
       subst (λ (x : ℕ). Ok (ruleNodes (a .args .t .now)) 0 (decode x)) (sym ((c .before .root-word) .ensures)) (sound-root (e .sound t) (a .args .from) (e .there t .each 1 (omega arith))),
     )
