@@ -28,20 +28,13 @@ ghost use Rattle.theory.specs.Diagrams.{meaning};
 ghost use Rattle.table_records.specs.Laid.{Laid};
 ghost use Rattle.table_notes.specs.Plain.{plain};
 ghost use Rattle.rule_lending.specs.Lending.{lent, Lends, keyOf, keys};
-ghost use Rattle.cost_nodes.specs.Nodes.{Result, Fills};
+ghost use Rattle.cost_nodes.specs.Nodes.{Result, Empty, Fills};
 ghost use Rattle.both_choose.specs.Choice.{Choosable, choice, choiceOf, endOf, Choices, Branches, Lowest};
 ghost use Rattle.both_choose.specs.Memory.{tagOf, Noted, Still, StillIf};
 ghost use Rattle.promises.specs.Integers.{int};
 ghost use Rattle.promises.specs.CostOperations.{chosen};
 ghost use Rattle.promises.specs.Words.{features, count};
 ghost use Rattle.promises.specs.CostWords.{target, costBranch as branch, costNodes as nodes};
-
-// The lists of a node's branches, or that there was no room for them.
-struct Filled {
-    ok: bool,
-    goes: [u32; 8],
-    adds: [u32; 8],
-}
 
 // The smaller of two features.
 fn lower(a: usize, b: usize) -> usize
@@ -106,10 +99,9 @@ fn rest_result(
     if let Memo::Known(z, e) = memo {
         return Answer::Is(z, e);
     }
-    let filled = fill_branches(r, t, s, k, b, x, y, d);
-    if filled.ok {
-        let goes = filled.goes;
-        let adds = filled.adds;
+    let mut goes = [0u32; 8];
+    let mut adds = [0u32; 8];
+    if fill_branches(r, t, s, k, b, x, y, d, &mut goes, &mut adds) {
         let Answer::Is(z, e) = make_in(t, k, goes, adds) else {
             return Answer::NoRoom;
         };
@@ -119,7 +111,7 @@ fn rest_result(
     Answer::NoRoom
 }
 
-// The lists of its branches: the results for the values of feature k in turn.
+// Lays its branches into two empty lists: the results for the values of feature k in turn. False where there was no room for them.
 fn fill_branches(
     r: &[u32],
     t: &mut [u32],
@@ -129,36 +121,28 @@ fn fill_branches(
     x: u32,
     y: u32,
     d: u32,
-) -> Filled
-    requires { ⌜ (Choices (now r) (plain (now t)) k b x y (int d)) × (Noted (now r) (now t) (now s)) × (k < features (plain (now t))) ⌝ }
+    goes: &mut [u32; 8],
+    adds: &mut [u32; 8],
+) -> bool
+    requires { ⌜ (Choices (now r) (plain (now t)) k b x y (int d)) × (Noted (now r) (now t) (now s)) × (k < features (plain (now t))) × (Empty (now goes) (now adds)) ⌝ }
     ensures { λ a. ⌜ (Fills (plain (now (t .entry))) (plain (now (t .exit))) k
-        (choice (lent (now (r .entry)) k b) (nodes (plain (now (t .entry)))) k (target x) (target y) (int d)) (a .ok) (a .goes) (a .adds))
-        × (StillIf (now (r .entry)) (now (t .exit)) (now (s .exit)) (a .ok)) ⌝ }
+        (choice (lent (now (r .entry)) k b) (nodes (plain (now (t .entry)))) k (target x) (target y) (int d)) a (now (goes .exit)) (now (adds .exit)))
+        × (StillIf (now (r .entry)) (now (t .exit)) (now (s .exit)) a) ⌝ }
 {
     let n = wide(size_word(t, k));
-    let mut goes = [0u32; 8];
-    let mut adds = [0u32; 8];
     let mut v: usize = 0;
     while v < n {
         let c = branch_at(r, k, b, v);
         let p = arm_in(t, k, x, v);
         let q = arm_in(t, k, y, v);
         let Answer::Is(z, e) = branch_result(r, t, s, k + 1, c, p, q, d) else {
-            return Filled {
-                ok: false,
-                goes,
-                adds,
-            };
+            return false;
         };
         goes[v] = z;
         adds[v] = e;
         v += 1;
     }
-    Filled {
-        ok: true,
-        goes,
-        adds,
-    }
+    true
 }
 
 // The choice of two branches from feature k on: that of their targets, with what the first adds put before it.

@@ -24,19 +24,12 @@ use table_words::wide;
 ghost use Prim.Native.Nat.{_<_};
 ghost use Rattle.theory.specs.Diagrams.{meaning};
 ghost use Rattle.table_notes.specs.Plain.{plain};
-ghost use Rattle.cost_nodes.specs.Nodes.{Result, Fills};
+ghost use Rattle.cost_nodes.specs.Nodes.{Result, Empty, Fills};
 ghost use Rattle.cost_engine.specs.Joint.{together, Joinable, joint, jointFrom, Operands, Branches};
 ghost use Rattle.cost_engine.specs.Memory.{Noted, Still, StillIf};
 ghost use Rattle.promises.specs.Integers.{int};
 ghost use Rattle.promises.specs.Words.{features};
 ghost use Rattle.promises.specs.CostWords.{target, costBranch as branch, costNodes as nodes};
-
-// The lists of a node's branches, or that there was no room for them.
-struct Filled {
-    ok: bool,
-    goes: [u32; 8],
-    adds: [u32; 8],
-}
 
 // The result for two targets from feature k on, where the second has d more on it: one node's result.
 fn rest_result(
@@ -68,10 +61,9 @@ fn rest_result(
     if let Memo::Known(z, e) = memo {
         return Answer::Is(z, e);
     }
-    let filled = fill_branches(t, s, o, k, x, y, d);
-    if filled.ok {
-        let goes = filled.goes;
-        let adds = filled.adds;
+    let mut goes = [0u32; 8];
+    let mut adds = [0u32; 8];
+    if fill_branches(t, s, o, k, x, y, d, &mut goes, &mut adds) {
         let Answer::Is(z, e) = make_in(t, k, goes, adds) else {
             return Answer::NoRoom;
         };
@@ -81,7 +73,7 @@ fn rest_result(
     Answer::NoRoom
 }
 
-// The lists of its branches: the results for the values of feature k in turn.
+// Lays its branches into two empty lists: the results for the values of feature k in turn. False where there was no room for them.
 fn fill_branches(
     t: &mut [u32],
     s: &mut [u32],
@@ -90,34 +82,26 @@ fn fill_branches(
     x: u32,
     y: u32,
     d: u32,
-) -> Filled
-    requires { ⌜ (Operands (plain (now t)) o k x y (int d)) × (Noted (now t) o (now s)) × (k < features (plain (now t))) ⌝ }
-    ensures { λ r. ⌜ (Fills (plain (now (t .entry))) (plain (now (t .exit))) k (jointFrom o (nodes (plain (now (t .entry)))) k (target x) (target y) (int d)) (r .ok)
-        (r .goes) (r .adds)) × (StillIf (now (t .exit)) o (now (s .exit)) (r .ok)) ⌝ }
+    goes: &mut [u32; 8],
+    adds: &mut [u32; 8],
+) -> bool
+    requires { ⌜ (Operands (plain (now t)) o k x y (int d)) × (Noted (now t) o (now s)) × (k < features (plain (now t))) × (Empty (now goes) (now adds)) ⌝ }
+    ensures { λ r. ⌜ (Fills (plain (now (t .entry))) (plain (now (t .exit))) k (jointFrom o (nodes (plain (now (t .entry)))) k (target x) (target y) (int d)) r
+        (now (goes .exit)) (now (adds .exit))) × (StillIf (now (t .exit)) o (now (s .exit)) r) ⌝ }
 {
     let m = wide(size_word(t, k));
-    let mut goes = [0u32; 8];
-    let mut adds = [0u32; 8];
     let mut v: usize = 0;
     while v < m {
         let a = arm_in(t, k, x, v);
         let b = arm_in(t, k, y, v);
         let Answer::Is(z, e) = branch_result(t, s, o, k + 1, a, b, d) else {
-            return Filled {
-                ok: false,
-                goes,
-                adds,
-            };
+            return false;
         };
         goes[v] = z;
         adds[v] = e;
         v += 1;
     }
-    Filled {
-        ok: true,
-        goes,
-        adds,
-    }
+    true
 }
 
 // The result for two branches from feature k on: that of their targets, with what both add put before it.

@@ -7,7 +7,7 @@ use native.Mathlib.Nat.{le-refl, zero-add}
 use native.Mathlib.Numerals.{add-one}
 use native.Mathlib.Omega.{arith}
 use lib.IntN.{_-ℤ_}
-use lib.ListN.{length, getD, drop, set, length-set}
+use lib.ListN.{length, getD, drop, set, length-set, replicate, getD-replicate}
 use lib.Seq.{getD-set-same, getD-set-other, drop-cons}
 use Rattle.theory.specs.Build.{Built, Ext, build, make}
 use Rattle.theory.specs.Costs.{costs, Cost}
@@ -32,7 +32,7 @@ use Rattle.table_words.specs.Words.{listed}
 use Rattle.table_words.proofs.Filling as F
 use Rattle.table_words.proofs.Tab.{tab-none, tab-snoc, tab-ext, getD-tab}
 use Rattle.table_words.proofs.Words.{length-sizes, at-sizes, kept-size}
-use Rattle.cost_nodes.specs.Nodes.{layout, Holds, told, Gives, Result, Makes, built, arms, Armed, Filling, Stopped, Fills}
+use Rattle.cost_nodes.specs.Nodes.{layout, Holds, told, Gives, Result, Makes, built, arms, Armed, Filling, Empty, Stopped, Fills}
 use Rattle.cost_nodes.specs.declared.Answer.{Answer}
 use Rattle.cost_nodes.specs.declared.Answer.the-variants.{Is, NoRoom}
 use Rattle.cost_nodes.proofs.Reading.{lawful, holds-passed}
@@ -42,6 +42,10 @@ use Rattle.promises.specs.CostSound.{kept, sideOf}
 use Rattle.promises.specs.Words.{features, size, sizes}
 use Rattle.promises.specs.CostWords.{costBranch as branch, costNodes as nodes}
 
+-- lists of 0 are empty
+pub empty : Empty (replicate 8 0) (replicate 8 0)
+empty = record { targets = refl; addeds = refl; blank = λ u h. getD-replicate 8 u 0 0 h }
+
 module _ (w : List ℕ) (k : ℕ) (g : Cost) (ok : Holds w) (hk : k < features w) where
   hs : k < length (sizes w)
   hs = omega (arith, length-sizes w)
@@ -49,13 +53,13 @@ module _ (w : List ℕ) (k : ℕ) (g : Cost) (ok : Holds w) (hk : k < features w
   most : size w k ≤ 8
   most = ok .laid .laid .large k hk .1
 
-  pub fill-start : (x a : List ℕ) → length x ≡ 8 → length a ≡ 8 → ((u : ℕ) → u < 8 → listed x u ≡ 0) → Filling w w k g 0 x a
-  fill-start x a ex ea z =
+  pub fill-start : (x a : List ℕ) → Empty x a → Filling w w k g 0 x a
+  fill-start x a z =
       record {
         filled = subst (H.Filled layout w w k g 0) (sym (tab-none (λ v. branch (listed x v) (listed a v)))) (F.fill-start lawful w k g ok hs);
-        pad = λ u l h. z u h;
-        targets = ex;
-        addeds = ea;
+        pad = λ u l h. z .blank u h;
+        targets = z .targets;
+        addeds = z .addeds;
       }
 
   one-more : (v y b : ℕ) (x a : List ℕ) → v < length x → v < length a → arms v x a ++ (branch y b ∷ []) ≡ arms (v + 1) (set x v y) (set a v b)

@@ -119,6 +119,12 @@ pub record Filling (w t : List ℕ) (k : ℕ) (g : Cost) (v : ℕ) (x a : List �
   pub targets : length x ≡ 8
   pub addeds : length a ≡ 8
 
+-- the lists before the first branch is laid in
+pub record Empty (x a : List ℕ) : Type 0 where
+  pub targets : length x ≡ 8
+  pub addeds : length a ≡ 8
+  pub blank : (u : ℕ) → u < 8 → listed x u ≡ 0
+
 -- there was no room for all branches
 abbrev pub Stopped : List ℕ → List ℕ → ℕ → Cost → Type 0
 Stopped w t k g = H.Stopped layout w t k g (getD (sizes w) k 0)

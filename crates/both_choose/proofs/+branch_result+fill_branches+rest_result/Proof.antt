@@ -9,7 +9,7 @@ use Rattle.both_choose.proofs.Walking.{skip-most, choices-skip, choice-
 use Rattle.both_choose.proofs.Walking.{choices-step, choices-ext, more-fits, more-is, targets, sum-fits, choice-raised, choice-stopped}
 use Rattle.both_choose.specs.Memory.{Noted, Still, StillIf}
 use Rattle.both_choose.specs.Choice.{choice}
-use Rattle.cost_nodes.proofs.Filling.{gives-is, gives-none, fill-start, fill-more, fill-stop, stop-result, fill-armed, fill-make, filled, not-filled, filling-ext}
+use Rattle.cost_nodes.proofs.Filling.{gives-is, gives-none, empty, fill-start, fill-more, fill-stop, stop-result, fill-armed, fill-make, filled, not-filled, filling-ext}
 use Rattle.cost_nodes.proofs.Stepping.{good-small}
 use Rattle.cost_nodes.specs.Nodes.{Filling}
 use Rattle.cost_notes.proofs.Reading.{plain-head}
@@ -20,7 +20,7 @@ use Rattle.rule_lending.proofs.Lending.{key-small}
 use Rattle.rule_lending.specs.Lending.{lent}
 use Rattle.settings.proofs.Answers.{sure, sure-not}
 use Rattle.table_words.proofs.Words.{kept-features, kept-size}
-use lib.ListN.{length, getD-replicate}
+use lib.ListN.{length}
 use native.Mathlib.Omega.{arith}
 use Prim.Native.Nat.{ℕ, _+_, _-_, _*_, _≤_, _<_}
 use mathlib.Core.Path.{_≡_, refl, sym, subst, _∙_}
@@ -59,7 +59,7 @@ use Rattle.promises.specs.Integers.{int}
 abbrev μ-branch-result : Measures 3 branch-result-kinds.ps ℕ
 μ-branch-result κs a = 3 * (features (plain (a .1 .0 .now)) - a .1 .1 .1 .0) + 1
 
-abbrev μ-fill-branches : Measures 3 fill-branches-kinds.ps ℕ
+abbrev μ-fill-branches : Measures 5 fill-branches-kinds.ps ℕ
 μ-fill-branches κs a = 3 * (features (plain (a .1 .0 .now)) - a .1 .1 .1 .0) - 1
 
 abbrev μ-rest-result : Measures 3 rest-result-kinds.ps ℕ
@@ -71,11 +71,11 @@ branch-result-at t = and 3 branch-result-kinds.ps (is 3 branch-result-kinds.ps �
 abbrev branch-result-below : ℕ → In 3 branch-result-kinds.ps
 branch-result-below t = and 3 branch-result-kinds.ps (falls 3 branch-result-kinds.ps _<_ μ-branch-result t) branch-result.Pre
 
-abbrev fill-branches-at : ℕ → In 3 fill-branches-kinds.ps
-fill-branches-at t = and 3 fill-branches-kinds.ps (is 3 fill-branches-kinds.ps μ-fill-branches t) fill-branches.Pre
+abbrev fill-branches-at : ℕ → In 5 fill-branches-kinds.ps
+fill-branches-at t = and 5 fill-branches-kinds.ps (is 5 fill-branches-kinds.ps μ-fill-branches t) fill-branches.Pre
 
-abbrev fill-branches-below : ℕ → In 3 fill-branches-kinds.ps
-fill-branches-below t = and 3 fill-branches-kinds.ps (falls 3 fill-branches-kinds.ps _<_ μ-fill-branches t) fill-branches.Pre
+abbrev fill-branches-below : ℕ → In 5 fill-branches-kinds.ps
+fill-branches-below t = and 5 fill-branches-kinds.ps (falls 5 fill-branches-kinds.ps _<_ μ-fill-branches t) fill-branches.Pre
 
 abbrev rest-result-at : ℕ → In 3 rest-result-kinds.ps
 rest-result-at t = and 3 rest-result-kinds.ps (is 3 rest-result-kinds.ps μ-rest-result t) rest-result.Pre
@@ -168,11 +168,11 @@ branch-result-returns-2 t c =
     )
 
 abbrev fill-branches-Inv-loop : fill-branches-lts.InvT-loop
-fill-branches-Inv-loop r t₀ s₀ k b x y d n goes₀ adds₀ v₀ t s goes adds v = (n ≡ size (plain t₀) k) × (v ≤ n) × Filling (plain t₀) (plain t) k
+fill-branches-Inv-loop r t₀ s₀ k b x y d goes₀ adds₀ n v₀ t s goes adds v = (n ≡ size (plain t₀) k) × (v ≤ n) × Filling (plain t₀) (plain t) k
     (choice (lent r k b) (nodes (plain t₀)) k (target x) (target y) (int d)) v goes adds × Noted r t s × (length t ≡ length t₀) × (length s ≡ length s₀)
 
 abbrev fill-branches-μ-loop : fill-branches-lts.MeasureT-loop
-fill-branches-μ-loop r t₀ s₀ k b x y d n goes₀ adds₀ v₀ t s goes adds v = n - v
+fill-branches-μ-loop r t₀ s₀ k b x y d goes₀ adds₀ n v₀ t s goes adds v = n - v
 
 fill-branches-size-word-requires : (t : ℕ) → fill-branches-lts.Need-size-word-requires (fill-branches-claims t) (fill-branches-at t) fill-branches.Post fill-branches-Inv-loop fill-branches-μ-loop
 fill-branches-size-word-requires t c κs =
@@ -184,7 +184,7 @@ fill-branches-loop-holds t c =
     let a = c .before .before .before .before .before .before in
     let e : c .wide .result ≡ size (plain (a .args .t .now)) (a .args .k) = c .wide .ensures .0 ∙ c .before .size-word .ensures
     ∙ sym (plain-head (a .args .t .now) (3 + a .args .k) (omega (arith, a .pre .1 .0 .holds .laid .laid .few, a .pre .1 .2))) in
-    (e, omega arith, fill-start _ (a .args .k) _ (a .pre .1 .0 .holds) (a .pre .1 .2) _ _ refl refl (λ u h. getD-replicate 8 u 0 0 h), a .pre .1 .1, refl, refl)
+    (e, omega arith, fill-start _ (a .args .k) _ (a .pre .1 .0 .holds) (a .pre .1 .2) _ _ (a .pre .1 .3), a .pre .1 .1, refl, refl)
 
 fill-branches-branch-at-requires : (t : ℕ) → fill-branches-lts.Need-branch-at-requires (fill-branches-claims t) (fill-branches-at t) fill-branches.Post fill-branches-Inv-loop fill-branches-μ-loop
 fill-branches-branch-at-requires t c κs =
@@ -253,14 +253,14 @@ fill-branches-returns t c =
       tt,
     )
 
-fill-branches-array-write-goes : (t : ℕ) → fill-branches-lts.Need-array-write-goes (fill-branches-claims t) (fill-branches-at t) fill-branches.Post fill-branches-Inv-loop fill-branches-μ-loop
-fill-branches-array-write-goes t c =
+fill-branches-element-write-goes : (t : ℕ) → fill-branches-lts.Need-element-write-goes (fill-branches-claims t) (fill-branches-at t) fill-branches.Post fill-branches-Inv-loop fill-branches-μ-loop
+fill-branches-element-write-goes t c =
     let c15 = c .before .before .before .before .before .before .before .before .before .before .before .before .before .before .before in let c16 = c15 .before in
     let a = c16 .before .before .before .before .before .before .before in
     omega (arith, a .pre .1 .0 .holds .laid .laid .large (a .args .k) (a .pre .1 .2), c16 .loop .inv .0, c16 .loop .inv .2 .targets, c15 .loop-test)
 
-fill-branches-array-write-adds : (t : ℕ) → fill-branches-lts.Need-array-write-adds (fill-branches-claims t) (fill-branches-at t) fill-branches.Post fill-branches-Inv-loop fill-branches-μ-loop
-fill-branches-array-write-adds t c =
+fill-branches-element-write-adds : (t : ℕ) → fill-branches-lts.Need-element-write-adds (fill-branches-claims t) (fill-branches-at t) fill-branches.Post fill-branches-Inv-loop fill-branches-μ-loop
+fill-branches-element-write-adds t c =
     let c15 = c .before .before .before .before .before .before .before .before .before .before .before .before .before .before .before in let c16 = c15 .before in
     let a = c16 .before .before .before .before .before .before .before in
     omega (arith, a .pre .1 .0 .holds .laid .laid .large (a .args .k) (a .pre .1 .2), c16 .loop .inv .0, c16 .loop .inv .2 .addeds, c15 .loop-test)
@@ -354,19 +354,19 @@ rest-result-returns-4 t c =
 
 rest-result-fill-branches-requires : (t : ℕ) → rest-result-lts.Need-fill-branches-requires (rest-result-claims t) (rest-result-at t) rest-result.Post
 rest-result-fill-branches-requires t c κs =
-    let c11 = c .before .before .before .before .before .before .before .before .before .before .before in let c12 = c11 .before in let c16 = c12 .before .before .before .before in
-    let p = c16 .pre .1 in
-    let hk = still-left _ _ _ _ _ _ _ (p .0) (sure-not (c11 .if1 .left) (c12 .is-number .ensures)) in
-    (omega arith, (p .0, p .1, hk))
+    let c13 = c .before .before .before .before .before .before .before .before .before .before .before .before .before in let c14 = c13 .before in let c18 = c14 .before .before .before .before in
+    let p = c18 .pre .1 in
+    let hk = still-left _ _ _ _ _ _ _ (p .0) (sure-not (c13 .if1 .left) (c14 .is-number .ensures)) in
+    (omega arith, (p .0, p .1, hk, empty))
 
 rest-result-make-in-requires : (t : ℕ) → rest-result-lts.Need-make-in-requires (rest-result-claims t) (rest-result-at t) rest-result.Post
 rest-result-make-in-requires t c κs =
-    let c8 = c .before .before .before .before .before .before .before .before in let c20 = c8 .before .before .before .before .before .before .before .before .before .before .before .before in
+    let c6 = c .before .before .before .before .before .before in let c20 = c6 .before .before .before .before .before .before .before .before .before .before .before .before .before .before in
     let c21 = c20 .before in let a = c21 .before .before .before .before in
     let p = a .pre .1 .0 in
     let hk = still-left _ _ _ _ _ _ _ p (sure-not (c20 .if1 .left) (c21 .is-number .ensures)) in
-    let fl = filled _ _ _ _ _ _ _ (c .before .before .before .if3 .taken) (c8 .fill-branches .ensures .0) in (
-      subst (StillIf _ _ _) (c .before .before .before .if3 .taken) (c8 .fill-branches .ensures .1) .room,
+    let fl = filled _ _ _ _ _ _ _ (c .before .if3 .taken) (c6 .fill-branches .ensures .0) in (
+      subst (StillIf _ _ _) (c .before .if3 .taken) (c6 .fill-branches .ensures .1) .room,
       fl .filled .grown .well,
       omega (arith, kept-features _ _ (fl .filled .grown .kept)),
       fill-armed _ _ _ (p .holds) hk _ _ _ fl (choice-near _ _ _ _ _ _ _ p) (p .narrow),
@@ -374,42 +374,43 @@ rest-result-make-in-requires t c κs =
 
 rest-result-returns-5 : (t : ℕ) → rest-result-lts.Need-returns-5 (rest-result-claims t) (rest-result-at t) rest-result.Post
 rest-result-returns-5 t c =
-    let c8 = c .before .before .before .before .before .before .before .before in let c13 = c8 .before .before .before .before .before in
-    let c25 = c13 .before .before .before .before .before .before .before .before .before .before .before .before in let c26 = c25 .before in let a = c26 .before .before .before .before in
+    let c6 = c .before .before .before .before .before .before in let c11 = c6 .before .before .before .before .before in
+    let c25 = c11 .before .before .before .before .before .before .before .before .before .before .before .before .before .before in let c26 = c25 .before in
+    let a = c26 .before .before .before .before in
     let p = a .pre .1 .0 in
     let hk = still-left _ _ _ _ _ _ _ p (sure-not (c25 .if1 .left) (c26 .is-number .ensures)) in
-    let fl = filled _ _ _ _ _ _ _ (c8 .if3 .taken) (c13 .fill-branches .ensures .0) in
+    let fl = filled _ _ _ _ _ _ _ (c6 .if3 .taken) (c11 .fill-branches .ensures .0) in
     let m = c .before .before .before .before .make-in in
     (gives-none (c .enum-told3 .given .1) (fill-make _ _ _ (p .holds) hk _ _ _ _ (m .result) fl (m .ensures .0)), tt)
 
 rest-result-remember-in-requires : (t : ℕ) → rest-result-lts.Need-remember-in-requires (rest-result-claims t) (rest-result-at t) rest-result.Post
 rest-result-remember-in-requires t c κs =
-    let c7 = c .before .before .before .before .before .before .before in let c11 = c7 .before .before .before .before in let c16 = c11 .before .before .before .before .before in
-    let c24 = c16 .before .before .before .before .before .before .before .before in
-    (grown-roomy _ _ (c7 .make-in .ensures .0 .grown .kept) (subst (StillIf _ _ _) (c11 .if3 .taken) (c16 .fill-branches .ensures .1) .room), omega (arith, c24 .tag-of .ensures))
+    let c7 = c .before .before .before .before .before .before .before in let c9 = c7 .before .before in let c14 = c9 .before .before .before .before .before in
+    let c24 = c14 .before .before .before .before .before .before .before .before .before .before in
+    (grown-roomy _ _ (c7 .make-in .ensures .0 .grown .kept) (subst (StillIf _ _ _) (c9 .if3 .taken) (c14 .fill-branches .ensures .1) .room), omega (arith, c24 .tag-of .ensures))
 
 rest-result-returns-6 : (t : ℕ) → rest-result-lts.Need-returns-6 (rest-result-claims t) (rest-result-at t) rest-result.Post
 rest-result-returns-6 t c =
-    let c8 = c .before .before .before .before .before .before .before .before in let c12 = c8 .before .before .before .before in let c16 = c12 .before .before .before .before in
-    let c21 = c16 .before .before .before .before .before in let c29 = c21 .before .before .before .before .before .before .before .before in let c33 = c29 .before .before .before .before in
-    let c34 = c33 .before in let a = c34 .before .before .before .before in
+    let c8 = c .before .before .before .before .before .before .before .before in let c12 = c8 .before .before .before .before in let c14 = c12 .before .before in
+    let c19 = c14 .before .before .before .before .before in let c29 = c19 .before .before .before .before .before .before .before .before .before .before in
+    let c33 = c29 .before .before .before .before in let c34 = c33 .before in let a = c34 .before .before .before .before in
     let p = a .pre .1 .0 in
     let hk = still-left _ _ _ _ _ _ _ p (sure-not (c33 .if1 .left) (c34 .is-number .ensures)) in
-    let fl = filled _ _ _ _ _ _ _ (c16 .if3 .taken) (c21 .fill-branches .ensures .0) in
+    let fl = filled _ _ _ _ _ _ _ (c14 .if3 .taken) (c19 .fill-branches .ensures .0) in
     let m = c12 .make-in in
     let re = gives-is (c8 .z2 .given .1) (fill-make _ _ _ (p .holds) hk _ _ _ _ (m .result) fl (m .ensures .0)) in (
       rw (c .before .before .before .before .remember-in .ensures .0) re,
       noted-result costTable (says-more (a .args .r .now)) (fl .filled .grown .well) (m .ensures .0 .grown) (make-grows _ _ _) (m .ensures .1)
-          (subst (StillIf _ _ _) (c16 .if3 .taken) (c21 .fill-branches .ensures .1)) refl (c .before .before .before .before .remember-in .ensures)
+          (subst (StillIf _ _ _) (c14 .if3 .taken) (c19 .fill-branches .ensures .1)) refl (c .before .before .before .before .remember-in .ensures)
           (result-says _ _ _ (a .args .k) (a .args .b) _ _ _ p (omega (arith, p .holds .laid .laid .few)) (c29 .tag-of .ensures) re),
     )
 
 rest-result-returns-7 : (t : ℕ) → rest-result-lts.Need-returns-7 (rest-result-claims t) (rest-result-at t) rest-result.Post
 rest-result-returns-7 t c =
-    let c17 = c .before .before .before .before .before .before .before .before .before .before .before .before .before .before .before .before .before in let c18 = c17 .before in
-    let a = c18 .before .before .before .before in
+    let c19 = c .before .before .before .before .before .before .before .before .before .before .before .before .before .before .before .before .before .before .before in let c20 = c19 .before in
+    let a = c20 .before .before .before .before in
     let p = a .pre .1 .0 in
-    let hk = still-left _ _ _ _ _ _ _ p (sure-not (c17 .if1 .left) (c18 .is-number .ensures)) in
+    let hk = still-left _ _ _ _ _ _ _ p (sure-not (c19 .if1 .left) (c20 .is-number .ensures)) in
     (stop-result _ _ _ (p .holds) hk _ (not-filled _ _ _ _ _ _ _ (c .if3 .left) (c .before .before .before .before .before .fill-branches .ensures .0)), tt)
 
 pub +branch-result+fill-branches+rest-result-spec : {M : Type 1} → statement M
@@ -448,9 +449,9 @@ pub +branch-result+fill-branches+rest-result-spec : {M : Type 1} → statement M
     (λ c. search needs)
     (fill-branches-returns t)
     (λ c. search needs)
-    (fill-branches-array-write-goes t)
+    (fill-branches-element-write-goes t)
     (λ c. search needs)
-    (fill-branches-array-write-adds t)
+    (fill-branches-element-write-adds t)
     (λ c. search needs)
     (λ c. search needs)
     (fill-branches-loop-again t)

@@ -4,12 +4,12 @@ use mathlib.Core.Path.{_≡_, refl, sym, subst, _∙_}
 use Prim.Native.Nat.{ℕ, _+_, _-_, _*_, _≤_, _<_}
 use native.Mathlib.Omega.{arith}
 use lib.IntN.{ℤ}
-use lib.ListN.{length, getD-replicate}
+use lib.ListN.{length}
 use Rattle.table_words.proofs.Words.{kept-features, kept-size}
 use Rattle.table_notes.specs.Plain.{plain}
 use Rattle.table_notes.proofs.Plain.{length-plain}
 use Rattle.cost_nodes.specs.Nodes.{Filling}
-use Rattle.cost_nodes.proofs.Filling.{gives-is, gives-none, fill-start, fill-more, fill-stop, stop-result, fill-armed, fill-make, filled, not-filled, filling-ext}
+use Rattle.cost_nodes.proofs.Filling.{gives-is, gives-none, empty, fill-start, fill-more, fill-stop, stop-result, fill-armed, fill-make, filled, not-filled, filling-ext}
 use Rattle.cost_nodes.proofs.Stepping.{good-small}
 use Rattle.theory.proofs.Growing.{make-grows}
 use Rattle.cost_words.specs.Table.{costTable}
@@ -56,7 +56,7 @@ use Rattle.promises.specs.CostWords.{target, costNodes as nodes}
 abbrev μ-branch-result : Measures 2 branch-result-kinds.ps ℕ
 μ-branch-result κs a = 3 * (features (plain (a .0 .now)) - a .1 .1 .1 .0) + 1
 
-abbrev μ-fill-branches : Measures 2 fill-branches-kinds.ps ℕ
+abbrev μ-fill-branches : Measures 4 fill-branches-kinds.ps ℕ
 μ-fill-branches κs a = 3 * (features (plain (a .0 .now)) - a .1 .1 .1 .0) - 1
 
 abbrev μ-rest-result : Measures 2 rest-result-kinds.ps ℕ
@@ -68,11 +68,11 @@ branch-result-at t = and 2 branch-result-kinds.ps (is 2 branch-result-kinds.ps �
 abbrev branch-result-below : ℕ → In 2 branch-result-kinds.ps
 branch-result-below t = and 2 branch-result-kinds.ps (falls 2 branch-result-kinds.ps _<_ μ-branch-result t) branch-result.Pre
 
-abbrev fill-branches-at : ℕ → In 2 fill-branches-kinds.ps
-fill-branches-at t = and 2 fill-branches-kinds.ps (is 2 fill-branches-kinds.ps μ-fill-branches t) fill-branches.Pre
+abbrev fill-branches-at : ℕ → In 4 fill-branches-kinds.ps
+fill-branches-at t = and 4 fill-branches-kinds.ps (is 4 fill-branches-kinds.ps μ-fill-branches t) fill-branches.Pre
 
-abbrev fill-branches-below : ℕ → In 2 fill-branches-kinds.ps
-fill-branches-below t = and 2 fill-branches-kinds.ps (falls 2 fill-branches-kinds.ps _<_ μ-fill-branches t) fill-branches.Pre
+abbrev fill-branches-below : ℕ → In 4 fill-branches-kinds.ps
+fill-branches-below t = and 4 fill-branches-kinds.ps (falls 4 fill-branches-kinds.ps _<_ μ-fill-branches t) fill-branches.Pre
 
 abbrev rest-result-at : ℕ → In 2 rest-result-kinds.ps
 rest-result-at t = and 2 rest-result-kinds.ps (is 2 rest-result-kinds.ps μ-rest-result t) rest-result.Pre
@@ -158,11 +158,11 @@ branch-result-returns-2 t c =
     )
 
 abbrev fill-branches-Inv-loop : fill-branches-lts.InvT-loop
-fill-branches-Inv-loop t₀ s₀ o k x y d m goes₀ adds₀ v₀ t s goes adds v = (m ≡ size (plain t₀) k) × (v ≤ m) × Filling (plain t₀) (plain t) k
+fill-branches-Inv-loop t₀ s₀ o k x y d goes₀ adds₀ m v₀ t s goes adds v = (m ≡ size (plain t₀) k) × (v ≤ m) × Filling (plain t₀) (plain t) k
     (jointFrom o (nodes (plain t₀)) k (target x) (target y) (int d)) v goes adds × Noted t o s × (length t ≡ length t₀) × (length s ≡ length s₀)
 
 abbrev fill-branches-μ-loop : fill-branches-lts.MeasureT-loop
-fill-branches-μ-loop t₀ s₀ o k x y d m goes₀ adds₀ v₀ t s goes adds v = m - v
+fill-branches-μ-loop t₀ s₀ o k x y d goes₀ adds₀ m v₀ t s goes adds v = m - v
 
 fill-branches-size-word-requires : (t : ℕ) → fill-branches-lts.Need-size-word-requires (fill-branches-claims t) (fill-branches-at t) fill-branches.Post fill-branches-Inv-loop fill-branches-μ-loop
 fill-branches-size-word-requires t c κs =
@@ -174,7 +174,7 @@ fill-branches-loop-holds t c =
     let a = c .before .before .before .before .before in
     let e : c .wide .result ≡ size (plain (a .args .t .now)) (a .args .k) = c .wide .ensures .0 ∙ c .before .size-word .ensures
     ∙ sym (plain-head (a .args .t .now) (3 + a .args .k) (omega (arith, a .pre .1 .0 .holds .laid .laid .few, a .pre .1 .2))) in
-    (e, omega arith, fill-start _ (a .args .k) _ (a .pre .1 .0 .holds) (a .pre .1 .2) _ _ refl refl (λ u h. getD-replicate 8 u 0 0 h), a .pre .1 .1, refl, refl)
+    (e, omega arith, fill-start _ (a .args .k) _ (a .pre .1 .0 .holds) (a .pre .1 .2) _ _ (a .pre .1 .3), a .pre .1 .1, refl, refl)
 
 fill-branches-arm-in-requires : (t : ℕ) → fill-branches-lts.Need-arm-in-requires (fill-branches-claims t) (fill-branches-at t) fill-branches.Post fill-branches-Inv-loop fill-branches-μ-loop
 fill-branches-arm-in-requires t c κs =
@@ -230,14 +230,14 @@ fill-branches-returns t c =
       tt,
     )
 
-fill-branches-array-write-goes : (t : ℕ) → fill-branches-lts.Need-array-write-goes (fill-branches-claims t) (fill-branches-at t) fill-branches.Post fill-branches-Inv-loop fill-branches-μ-loop
-fill-branches-array-write-goes t c =
+fill-branches-element-write-goes : (t : ℕ) → fill-branches-lts.Need-element-write-goes (fill-branches-claims t) (fill-branches-at t) fill-branches.Post fill-branches-Inv-loop fill-branches-μ-loop
+fill-branches-element-write-goes t c =
     let c14 = c .before .before .before .before .before .before .before .before .before .before .before .before .before .before in let c15 = c14 .before in
     let a = c15 .before .before .before .before .before .before in
     omega (arith, a .pre .1 .0 .holds .laid .laid .large (a .args .k) (a .pre .1 .2), c15 .loop .inv .0, c15 .loop .inv .2 .targets, c14 .loop-test)
 
-fill-branches-array-write-adds : (t : ℕ) → fill-branches-lts.Need-array-write-adds (fill-branches-claims t) (fill-branches-at t) fill-branches.Post fill-branches-Inv-loop fill-branches-μ-loop
-fill-branches-array-write-adds t c =
+fill-branches-element-write-adds : (t : ℕ) → fill-branches-lts.Need-element-write-adds (fill-branches-claims t) (fill-branches-at t) fill-branches.Post fill-branches-Inv-loop fill-branches-μ-loop
+fill-branches-element-write-adds t c =
     let c14 = c .before .before .before .before .before .before .before .before .before .before .before .before .before .before in let c15 = c14 .before in
     let a = c15 .before .before .before .before .before .before in
     omega (arith, a .pre .1 .0 .holds .laid .laid .large (a .args .k) (a .pre .1 .2), c15 .loop .inv .0, c15 .loop .inv .2 .addeds, c14 .loop-test)
@@ -322,17 +322,17 @@ rest-result-returns-4 t c =
 
 rest-result-fill-branches-requires : (t : ℕ) → rest-result-lts.Need-fill-branches-requires (rest-result-claims t) (rest-result-at t) rest-result.Post
 rest-result-fill-branches-requires t c κs =
-    let c12 = c .before .before .before .before .before .before .before .before .before .before .before .before in let a = c12 .before .before .before in
-    let hk = still-left _ _ _ _ _ _ (a .pre .1 .0) (c12 .if1 .left) in
-    (omega arith, (a .pre .1 .0, a .pre .1 .1, hk))
+    let c14 = c .before .before .before .before .before .before .before .before .before .before .before .before .before .before in let a = c14 .before .before .before in
+    let hk = still-left _ _ _ _ _ _ (a .pre .1 .0) (c14 .if1 .left) in
+    (omega arith, (a .pre .1 .0, a .pre .1 .1, hk, empty))
 
 rest-result-make-in-requires : (t : ℕ) → rest-result-lts.Need-make-in-requires (rest-result-claims t) (rest-result-at t) rest-result.Post
 rest-result-make-in-requires t c κs =
-    let c8 = c .before .before .before .before .before .before .before .before in
-    let c21 = c8 .before .before .before .before .before .before .before .before .before .before .before .before .before in let a = c21 .before .before .before in
+    let c6 = c .before .before .before .before .before .before in
+    let c21 = c6 .before .before .before .before .before .before .before .before .before .before .before .before .before .before .before in let a = c21 .before .before .before in
     let hk = still-left _ _ _ _ _ _ (a .pre .1 .0) (c21 .if1 .left) in
-    let fl = filled _ _ _ _ _ _ _ (c .before .before .before .if3 .taken) (c8 .fill-branches .ensures .0) in (
-      subst (StillIf _ _ _) (c .before .before .before .if3 .taken) (c8 .fill-branches .ensures .1) .room,
+    let fl = filled _ _ _ _ _ _ _ (c .before .if3 .taken) (c6 .fill-branches .ensures .0) in (
+      subst (StillIf _ _ _) (c .before .if3 .taken) (c6 .fill-branches .ensures .1) .room,
       fl .filled .grown .well,
       omega (arith, kept-features _ _ (fl .filled .grown .kept)),
       fill-armed _ _ _ (a .pre .1 .0 .holds) hk _ _ _ fl (a .pre .1 .0 .bounded .spread) (a .pre .1 .0 .narrow),
@@ -340,39 +340,39 @@ rest-result-make-in-requires t c κs =
 
 rest-result-returns-5 : (t : ℕ) → rest-result-lts.Need-returns-5 (rest-result-claims t) (rest-result-at t) rest-result.Post
 rest-result-returns-5 t c =
-    let c8 = c .before .before .before .before .before .before .before .before in let c13 = c8 .before .before .before .before .before in
-    let c26 = c13 .before .before .before .before .before .before .before .before .before .before .before .before .before in let a = c26 .before .before .before in
+    let c6 = c .before .before .before .before .before .before in let c11 = c6 .before .before .before .before .before in
+    let c26 = c11 .before .before .before .before .before .before .before .before .before .before .before .before .before .before .before in let a = c26 .before .before .before in
     let hk = still-left _ _ _ _ _ _ (a .pre .1 .0) (c26 .if1 .left) in
-    let fl = filled _ _ _ _ _ _ _ (c8 .if3 .taken) (c13 .fill-branches .ensures .0) in
+    let fl = filled _ _ _ _ _ _ _ (c6 .if3 .taken) (c11 .fill-branches .ensures .0) in
     let m = c .before .before .before .before .make-in in
     (gives-none (c .enum-told3 .given .1) (fill-make _ _ _ (a .pre .1 .0 .holds) hk _ _ _ _ (m .result) fl (m .ensures .0)), tt)
 
 rest-result-remember-in-requires : (t : ℕ) → rest-result-lts.Need-remember-in-requires (rest-result-claims t) (rest-result-at t) rest-result.Post
 rest-result-remember-in-requires t c κs =
-    let c7 = c .before .before .before .before .before .before .before in let c11 = c7 .before .before .before .before in let c16 = c11 .before .before .before .before .before in
-    let c24 = c16 .before .before .before .before .before .before .before .before in
-    (grown-roomy _ _ (c7 .make-in .ensures .0 .grown .kept) (subst (StillIf _ _ _) (c11 .if3 .taken) (c16 .fill-branches .ensures .1) .room), omega (arith, c24 .narrow .ensures))
+    let c7 = c .before .before .before .before .before .before .before in let c9 = c7 .before .before in let c14 = c9 .before .before .before .before .before in
+    let c24 = c14 .before .before .before .before .before .before .before .before .before .before in
+    (grown-roomy _ _ (c7 .make-in .ensures .0 .grown .kept) (subst (StillIf _ _ _) (c9 .if3 .taken) (c14 .fill-branches .ensures .1) .room), omega (arith, c24 .narrow .ensures))
 
 rest-result-returns-6 : (t : ℕ) → rest-result-lts.Need-returns-6 (rest-result-claims t) (rest-result-at t) rest-result.Post
 rest-result-returns-6 t c =
-    let c8 = c .before .before .before .before .before .before .before .before in let c12 = c8 .before .before .before .before in let c16 = c12 .before .before .before .before in
-    let c21 = c16 .before .before .before .before .before in let c29 = c21 .before .before .before .before .before .before .before .before in
+    let c8 = c .before .before .before .before .before .before .before .before in let c12 = c8 .before .before .before .before in let c14 = c12 .before .before in
+    let c19 = c14 .before .before .before .before .before in let c29 = c19 .before .before .before .before .before .before .before .before .before .before in
     let c34 = c29 .before .before .before .before .before in let a = c34 .before .before .before in
     let hk = still-left _ _ _ _ _ _ (a .pre .1 .0) (c34 .if1 .left) in
-    let fl = filled _ _ _ _ _ _ _ (c16 .if3 .taken) (c21 .fill-branches .ensures .0) in
+    let fl = filled _ _ _ _ _ _ _ (c14 .if3 .taken) (c19 .fill-branches .ensures .0) in
     let m = c12 .make-in in
     let re = gives-is (c8 .z2 .given .1) (fill-make _ _ _ (a .pre .1 .0 .holds) hk _ _ _ _ (m .result) fl (m .ensures .0)) in (
       rw (c .before .before .before .before .remember-in .ensures .0) re,
       noted-result costTable (right-more (a .args .o)) (fl .filled .grown .well) (m .ensures .0 .grown) (make-grows _ _ _) (m .ensures .1)
-          (subst (StillIf _ _ _) (c16 .if3 .taken) (c21 .fill-branches .ensures .1)) refl (c .before .before .before .before .remember-in .ensures)
+          (subst (StillIf _ _ _) (c14 .if3 .taken) (c19 .fill-branches .ensures .1)) refl (c .before .before .before .before .remember-in .ensures)
           (right-here _ _ (a .args .k) _ _ _ (c29 .narrow .ensures) (result-recalled _ _ _ (a .args .k) _ _ (a .args .d) _ _ (a .pre .1 .0) re)),
     )
 
 rest-result-returns-7 : (t : ℕ) → rest-result-lts.Need-returns-7 (rest-result-claims t) (rest-result-at t) rest-result.Post
 rest-result-returns-7 t c =
-    let c18 = c .before .before .before .before .before .before .before .before .before .before .before .before .before .before .before .before .before .before in
-    let a = c18 .before .before .before in
-    let hk = still-left _ _ _ _ _ _ (a .pre .1 .0) (c18 .if1 .left) in
+    let c20 = c .before .before .before .before .before .before .before .before .before .before .before .before .before .before .before .before .before .before .before .before in
+    let a = c20 .before .before .before in
+    let hk = still-left _ _ _ _ _ _ (a .pre .1 .0) (c20 .if1 .left) in
     (stop-result _ _ _ (a .pre .1 .0 .holds) hk _ (not-filled _ _ _ _ _ _ _ (c .if3 .left) (c .before .before .before .before .before .fill-branches .ensures .0)), tt)
 
 pub +branch-result+fill-branches+rest-result-spec : {M : Type 1} → statement M
@@ -410,9 +410,9 @@ pub +branch-result+fill-branches+rest-result-spec : {M : Type 1} → statement M
     (λ c. search needs)
     (fill-branches-returns t)
     (λ c. search needs)
-    (fill-branches-array-write-goes t)
+    (fill-branches-element-write-goes t)
     (λ c. search needs)
-    (fill-branches-array-write-adds t)
+    (fill-branches-element-write-adds t)
     (λ c. search needs)
     (λ c. search needs)
     (fill-branches-loop-again t)
