@@ -102,7 +102,7 @@ fn rest_result(
     let mut goes = [0u32; 8];
     let mut adds = [0u32; 8];
     if fill_branches(r, t, s, k, b, x, y, d, &mut goes, &mut adds) {
-        let Answer::Is(z, e) = make_in(t, k, goes, adds) else {
+        let Answer::Is(z, e) = make_in(t, k, &goes, &adds) else {
             return Answer::NoRoom;
         };
         remember_in(t, s, CHOOSE, tag, x, y, d, z, e);
@@ -124,7 +124,7 @@ fn fill_branches(
     goes: &mut [u32; 8],
     adds: &mut [u32; 8],
 ) -> bool
-    requires { ⌜ (Choices (now r) (plain (now t)) k b x y (int d)) × (Noted (now r) (now t) (now s)) × (k < features (plain (now t))) × (Empty (now goes) (now adds)) ⌝ }
+    requires { ⌜ (Choices (now r) (plain (now t)) k b x y (int d)) × (Noted (now r) (now t) (now s)) × (k < features (plain (now t))) × (Empty (now goes)) × (Empty (now adds)) ⌝ }
     ensures { λ a. ⌜ (Fills (plain (now (t .entry))) (plain (now (t .exit))) k
         (choice (lent (now (r .entry)) k b) (nodes (plain (now (t .entry)))) k (target x) (target y) (int d)) a (now (goes .exit)) (now (adds .exit)))
         × (StillIf (now (r .entry)) (now (t .exit)) (now (s .exit)) a) ⌝ }

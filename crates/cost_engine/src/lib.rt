@@ -64,7 +64,7 @@ fn rest_result(
     let mut goes = [0u32; 8];
     let mut adds = [0u32; 8];
     if fill_branches(t, s, o, k, x, y, d, &mut goes, &mut adds) {
-        let Answer::Is(z, e) = make_in(t, k, goes, adds) else {
+        let Answer::Is(z, e) = make_in(t, k, &goes, &adds) else {
             return Answer::NoRoom;
         };
         remember_in(t, s, number, tag, x, y, d, z, e);
@@ -85,7 +85,7 @@ fn fill_branches(
     goes: &mut [u32; 8],
     adds: &mut [u32; 8],
 ) -> bool
-    requires { ⌜ (Operands (plain (now t)) o k x y (int d)) × (Noted (now t) o (now s)) × (k < features (plain (now t))) × (Empty (now goes) (now adds)) ⌝ }
+    requires { ⌜ (Operands (plain (now t)) o k x y (int d)) × (Noted (now t) o (now s)) × (k < features (plain (now t))) × (Empty (now goes)) × (Empty (now adds)) ⌝ }
     ensures { λ r. ⌜ (Fills (plain (now (t .entry))) (plain (now (t .exit))) k (jointFrom o (nodes (plain (now (t .entry)))) k (target x) (target y) (int d)) r
         (now (goes .exit)) (now (adds .exit))) × (StillIf (now (t .exit)) o (now (s .exit)) r) ⌝ }
 {

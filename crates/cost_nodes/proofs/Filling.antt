@@ -42,9 +42,9 @@ use Rattle.promises.specs.CostSound.{kept, sideOf}
 use Rattle.promises.specs.Words.{features, size, sizes}
 use Rattle.promises.specs.CostWords.{costBranch as branch, costNodes as nodes}
 
--- lists of 0 are empty
-pub empty : Empty (replicate 8 0) (replicate 8 0)
-empty = record { targets = refl; addeds = refl; blank = λ u h. getD-replicate 8 u 0 0 h }
+-- a list of 0 is empty
+pub empty : Empty (replicate 8 0)
+empty = record { long = refl; blank = λ u h. getD-replicate 8 u 0 0 h }
 
 module _ (w : List ℕ) (k : ℕ) (g : Cost) (ok : Holds w) (hk : k < features w) where
   hs : k < length (sizes w)
@@ -53,13 +53,13 @@ module _ (w : List ℕ) (k : ℕ) (g : Cost) (ok : Holds w) (hk : k < features w
   most : size w k ≤ 8
   most = ok .laid .laid .large k hk .1
 
-  pub fill-start : (x a : List ℕ) → Empty x a → Filling w w k g 0 x a
-  fill-start x a z =
+  pub fill-start : (x a : List ℕ) → Empty x → Empty a → Filling w w k g 0 x a
+  fill-start x a ex ea =
       record {
         filled = subst (H.Filled layout w w k g 0) (sym (tab-none (λ v. branch (listed x v) (listed a v)))) (F.fill-start lawful w k g ok hs);
-        pad = λ u l h. z .blank u h;
-        targets = z .targets;
-        addeds = z .addeds;
+        pad = λ u l h. ex .blank u h;
+        targets = ex .long;
+        addeds = ea .long;
       }
 
   one-more : (v y b : ℕ) (x a : List ℕ) → v < length x → v < length a → arms v x a ++ (branch y b ∷ []) ≡ arms (v + 1) (set x v y) (set a v b)

@@ -86,6 +86,11 @@ pub record Armed (w : List ℕ) (k : ℕ) (x a : List ℕ) : Type 0 where
   pub sums : (up : Bool) (v : ℕ) → v < size w k → Fit addMost (along (kept up w) (branch (listed x v) (listed a v)) -ℤ int (listed a 0))
   pub paired : (up : Bool) → Passed (sideOf up) (nodes w) (length (nodes w)) (kept up w)
 
+-- a list for the words of a node's branches that nothing is laid in
+pub record Empty (l : List ℕ) : Type 0 where
+  pub long : length l ≡ 8
+  pub blank : (v : ℕ) → v < 8 → listed l v ≡ 0
+
 -- r has what the added words a add more than the first, and 0 past the first m
 pub record Lowered (m : ℕ) (a r : List ℕ) : Type 0 where
   pub each : (v : ℕ) → v < m → int (listed r v) ≡ int (listed a v) -ℤ int (listed a 0)
@@ -118,12 +123,6 @@ pub record Filling (w t : List ℕ) (k : ℕ) (g : Cost) (v : ℕ) (x a : List �
   pub pad : (u : ℕ) → v ≤ u → u < 8 → listed x u ≡ 0
   pub targets : length x ≡ 8
   pub addeds : length a ≡ 8
-
--- the lists before the first branch is laid in
-pub record Empty (x a : List ℕ) : Type 0 where
-  pub targets : length x ≡ 8
-  pub addeds : length a ≡ 8
-  pub blank : (u : ℕ) → u < 8 → listed x u ≡ 0
 
 -- there was no room for all branches
 abbrev pub Stopped : List ℕ → List ℕ → ℕ → Cost → Type 0

@@ -28,7 +28,7 @@ ghost use Rattle.theory_costs.specs.Relative.{branchAt};
 ghost use Rattle.table_words.specs.Words.{listed};
 ghost use Rattle.table_records.specs.Laid.{Laid};
 ghost use Rattle.settings.specs.Tells.{Tells};
-ghost use Rattle.cost_nodes.specs.Nodes.{Holds, Levelled, AllSame, Finds, Armed, Lowered, Makes, top, Place};
+ghost use Rattle.cost_nodes.specs.Nodes.{Holds, Levelled, AllSame, Finds, Armed, Empty, Lowered, Makes, top, Place};
 ghost use Rattle.promises.specs.Integers.{Fit, int};
 ghost use Rattle.promises.specs.Range.{addMost};
 ghost use Rattle.promises.specs.Words.{features, size, count};
@@ -47,9 +47,9 @@ pub enum Answer {
 }
 
 // Whether the first m targets and added words of a body are all equal to the first.
-fn all_same(list: [u32; 12], m: usize) -> bool
+fn all_same(list: &[u32; 12], m: usize) -> bool
     requires { ⌜ m ≤ 8 ⌝ }
-    ensures { λ r. ⌜ Tells r (AllSame m list) ⌝ }
+    ensures { λ r. ⌜ Tells r (AllSame m (now (list .entry))) ⌝ }
 {
     let goes = half_of(list[0], 0);
     let adds = list[4];
@@ -67,43 +67,44 @@ fn all_same(list: [u32; 12], m: usize) -> bool
 }
 
 // The unique search: the branch that has the body's branches at feature k, the first of which adds nothing. Equal branches need no node.
-pub fn find(t: &[u32], k: usize, list: [u32; 12]) -> Found
-    requires { ⌜ (Holds (now t)) × (k < features (now t)) × (Levelled (now t) k list) ⌝ }
-    ensures { λ r. ⌜ Finds (now (t .entry)) k list r ⌝ }
+pub fn find(t: &[u32], k: usize, list: &[u32; 12]) -> Found
+    requires { ⌜ (Holds (now t)) × (k < features (now t)) × (Levelled (now t) k (now list)) ⌝ }
+    ensures { λ r. ⌜ Finds (now (t .entry)) k (now (list .entry)) r ⌝ }
 {
     if all_same(list, wide(size_word(t, k))) {
         return Found::At(target_at(half_of(list[0], 0)));
     }
-    let c = find_record(t, k, list);
+    let c = find_record(t, k, *list);
     if 0 < c {
         return Found::At(Target::Node(narrow(c - 1)));
     }
     Found::Missing
 }
 
-// What the first m add more than the first; 0 past them.
-fn lowered(adds: [u32; 8], m: usize) -> [u32; 8]
-    requires { ⌜ (m ≤ 8) × ((v : ℕ) → v < m → Fit addMost (int (listed adds v) -ℤ int (listed adds 0))) ⌝ }
-    ensures { λ r. ⌜ Lowered m adds r ⌝ }
+// Lays what the first m add more than the first into an empty list.
+fn lowered(adds: &[u32; 8], m: usize, list: &mut [u32; 8])
+    requires { ⌜ (m ≤ 8) × ((v : ℕ) → v < m → Fit addMost (int (listed (now adds) v) -ℤ int (listed (now adds) 0))) × (Empty (now list)) ⌝ }
+    ensures { λ _. ⌜ Lowered m (now (adds .entry)) (now (list .exit)) ⌝ }
 {
-    let mut list = [0u32; 8];
     let mut v: usize = 0;
     while v < m {
         list[v] = difference_word(adds[v], adds[0]);
         v += 1;
     }
-    list
 }
 
 // The branch that has these branches at feature k; its node is made where there is none. What the first branch adds is added above the node.
-pub fn make(t: &mut [u32], k: usize, goes: [u32; 8], adds: [u32; 8]) -> Answer
-    requires { ⌜ (Holds (now t)) × (k < features (now t)) × (Armed (now t) k goes adds) ⌝ }
-    ensures { λ r. ⌜ Makes (now (t .entry)) (now (t .exit)) k goes adds r ⌝ }
+pub fn make(t: &mut [u32], k: usize, goes: &[u32; 8], adds: &[u32; 8]) -> Answer
+    requires { ⌜ (Holds (now t)) × (k < features (now t)) × (Armed (now t) k (now goes) (now adds)) ⌝ }
+    ensures { λ r. ⌜ Makes (now (t .entry)) (now (t .exit)) k (now (goes .entry)) (now (adds .entry)) r ⌝ }
 {
     let m = wide(size_word(t, k));
-    let list = pack(goes, lowered(adds, m));
+    let mut less = [0u32; 8];
+    lowered(adds, m, &mut less);
+    let mut list = [0u32; 12];
+    pack(goes, &less, &mut list);
     let base = adds[0];
-    let Found::At(x) = find(t, k, list) else {
+    let Found::At(x) = find(t, k, &list) else {
         if count_word(t) < capacity_word(t) {
             let pair = sides_of(t, list, m);
             let i = narrow(push(t, k, list, pair.low, pair.high));

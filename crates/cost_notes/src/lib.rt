@@ -57,9 +57,9 @@ pub fn kept_in(t: &[u32], x: u32) -> Span
 }
 
 // The branch that has these branches at feature k; what is remembered stays.
-pub fn make_in(t: &mut [u32], k: usize, goes: [u32; 8], adds: [u32; 8]) -> Answer
-    requires { ⌜ (Roomy (now t)) × (Holds (plain (now t))) × (k < features (plain (now t))) × (Armed (plain (now t)) k goes adds) ⌝ }
-    ensures { λ r. ⌜ (Makes (plain (now (t .entry))) (plain (now (t .exit))) k goes adds r) × (Aside (now (t .entry)) (now (t .exit))) ⌝ }
+pub fn make_in(t: &mut [u32], k: usize, goes: &[u32; 8], adds: &[u32; 8]) -> Answer
+    requires { ⌜ (Roomy (now t)) × (Holds (plain (now t))) × (k < features (plain (now t))) × (Armed (plain (now t)) k (now goes) (now adds)) ⌝ }
+    ensures { λ r. ⌜ (Makes (plain (now (t .entry))) (plain (now (t .exit))) k (now (goes .entry)) (now (adds .entry)) r) × (Aside (now (t .entry)) (now (t .exit))) ⌝ }
 {
     make(t, k, goes, adds)
 }

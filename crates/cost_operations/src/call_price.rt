@@ -55,8 +55,9 @@ fn put_prices(t: &mut [u32], place: usize, feature: usize, prices: &[i64]) -> Ou
     ensures { λ r. ⌜ Puts place (priced feature (now (prices .entry))) (now (t .entry)) (now (t .exit)) r ⌝ }
 {
     let used = wide(count_word(t));
+    let goes = [0u32; 8];
     let adds = words_of(prices);
-    let r = make(t, feature, [0u32; 8], adds);
+    let r = make(t, feature, &goes, &adds);
     settle(t, place, used, r)
 }
 

@@ -115,9 +115,9 @@ pub fn difference_word(a: u32, b: u32) -> u32
 }
 
 // Body word v of a record with these targets and added words.
-fn packed_word(to: [u32; 8], adds: [u32; 8], v: usize) -> u32
-    requires { ⌜ ((u : ℕ) → u < 8 → listed to u < 65536) × (v < 12) ⌝ }
-    ensures { λ r. ⌜ r ≡ packed (listed to) (listed adds) v ⌝ }
+fn packed_word(to: &[u32; 8], adds: &[u32; 8], v: usize) -> u32
+    requires { ⌜ ((u : ℕ) → u < 8 → listed (now to) u < 65536) × (v < 12) ⌝ }
+    ensures { λ r. ⌜ r ≡ packed (listed (now (to .entry))) (listed (now (adds .entry))) v ⌝ }
 {
     if v < 4 {
         to[2 * v] + HALF * to[2 * v + 1]
@@ -126,16 +126,14 @@ fn packed_word(to: [u32; 8], adds: [u32; 8], v: usize) -> u32
     }
 }
 
-// The body of a record with these targets and added words.
-pub fn pack(to: [u32; 8], adds: [u32; 8]) -> [u32; 12]
-    requires { ⌜ ((u : ℕ) → u < 8 → listed to u < 65536) ⌝ }
-    ensures { λ r. ⌜ ((v : ℕ) → v < 12 → getD r v 0 ≡ packed (listed to) (listed adds) v) ⌝ }
+// Lays the body of a record with these targets and added words into a list.
+pub fn pack(to: &[u32; 8], adds: &[u32; 8], list: &mut [u32; 12])
+    requires { ⌜ (length (now list) ≡ 12) × ((u : ℕ) → u < 8 → listed (now to) u < 65536) ⌝ }
+    ensures { λ _. ⌜ ((v : ℕ) → v < 12 → getD (now (list .exit)) v 0 ≡ packed (listed (now (to .entry))) (listed (now (adds .entry))) v) ⌝ }
 {
-    let mut list = [0u32; 12];
     let mut v: usize = 0;
     while v < 12 {
         list[v] = packed_word(to, adds, v);
         v += 1;
     }
-    list
 }

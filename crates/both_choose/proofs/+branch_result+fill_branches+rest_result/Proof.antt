@@ -184,7 +184,7 @@ fill-branches-loop-holds t c =
     let a = c .before .before .before .before .before .before in
     let e : c .wide .result ≡ size (plain (a .args .t .now)) (a .args .k) = c .wide .ensures .0 ∙ c .before .size-word .ensures
     ∙ sym (plain-head (a .args .t .now) (3 + a .args .k) (omega (arith, a .pre .1 .0 .holds .laid .laid .few, a .pre .1 .2))) in
-    (e, omega arith, fill-start _ (a .args .k) _ (a .pre .1 .0 .holds) (a .pre .1 .2) _ _ (a .pre .1 .3), a .pre .1 .1, refl, refl)
+    (e, omega arith, fill-start _ (a .args .k) _ (a .pre .1 .0 .holds) (a .pre .1 .2) _ _ (a .pre .1 .3) (a .pre .1 .4), a .pre .1 .1, refl, refl)
 
 fill-branches-branch-at-requires : (t : ℕ) → fill-branches-lts.Need-branch-at-requires (fill-branches-claims t) (fill-branches-at t) fill-branches.Post fill-branches-Inv-loop fill-branches-μ-loop
 fill-branches-branch-at-requires t c κs =
@@ -357,16 +357,17 @@ rest-result-fill-branches-requires t c κs =
     let c13 = c .before .before .before .before .before .before .before .before .before .before .before .before .before in let c14 = c13 .before in let c18 = c14 .before .before .before .before in
     let p = c18 .pre .1 in
     let hk = still-left _ _ _ _ _ _ _ (p .0) (sure-not (c13 .if1 .left) (c14 .is-number .ensures)) in
-    (omega arith, (p .0, p .1, hk, empty))
+    (omega arith, (p .0, p .1, hk, empty, empty))
 
 rest-result-make-in-requires : (t : ℕ) → rest-result-lts.Need-make-in-requires (rest-result-claims t) (rest-result-at t) rest-result.Post
 rest-result-make-in-requires t c κs =
-    let c6 = c .before .before .before .before .before .before in let c20 = c6 .before .before .before .before .before .before .before .before .before .before .before .before .before .before in
-    let c21 = c20 .before in let a = c21 .before .before .before .before in
+    let c8 = c .before .before .before .before .before .before .before .before in
+    let c22 = c8 .before .before .before .before .before .before .before .before .before .before .before .before .before .before in let c23 = c22 .before in
+    let a = c23 .before .before .before .before in
     let p = a .pre .1 .0 in
-    let hk = still-left _ _ _ _ _ _ _ p (sure-not (c20 .if1 .left) (c21 .is-number .ensures)) in
-    let fl = filled _ _ _ _ _ _ _ (c .before .if3 .taken) (c6 .fill-branches .ensures .0) in (
-      subst (StillIf _ _ _) (c .before .if3 .taken) (c6 .fill-branches .ensures .1) .room,
+    let hk = still-left _ _ _ _ _ _ _ p (sure-not (c22 .if1 .left) (c23 .is-number .ensures)) in
+    let fl = filled _ _ _ _ _ _ _ (c .before .before .before .if3 .taken) (c8 .fill-branches .ensures .0) in (
+      subst (StillIf _ _ _) (c .before .before .before .if3 .taken) (c8 .fill-branches .ensures .1) .room,
       fl .filled .grown .well,
       omega (arith, kept-features _ _ (fl .filled .grown .kept)),
       fill-armed _ _ _ (p .holds) hk _ _ _ fl (choice-near _ _ _ _ _ _ _ p) (p .narrow),
@@ -374,35 +375,35 @@ rest-result-make-in-requires t c κs =
 
 rest-result-returns-5 : (t : ℕ) → rest-result-lts.Need-returns-5 (rest-result-claims t) (rest-result-at t) rest-result.Post
 rest-result-returns-5 t c =
-    let c6 = c .before .before .before .before .before .before in let c11 = c6 .before .before .before .before .before in
-    let c25 = c11 .before .before .before .before .before .before .before .before .before .before .before .before .before .before in let c26 = c25 .before in
-    let a = c26 .before .before .before .before in
+    let c8 = c .before .before .before .before .before .before .before .before in let c13 = c8 .before .before .before .before .before in
+    let c27 = c13 .before .before .before .before .before .before .before .before .before .before .before .before .before .before in let c28 = c27 .before in
+    let a = c28 .before .before .before .before in
     let p = a .pre .1 .0 in
-    let hk = still-left _ _ _ _ _ _ _ p (sure-not (c25 .if1 .left) (c26 .is-number .ensures)) in
-    let fl = filled _ _ _ _ _ _ _ (c6 .if3 .taken) (c11 .fill-branches .ensures .0) in
+    let hk = still-left _ _ _ _ _ _ _ p (sure-not (c27 .if1 .left) (c28 .is-number .ensures)) in
+    let fl = filled _ _ _ _ _ _ _ (c8 .if3 .taken) (c13 .fill-branches .ensures .0) in
     let m = c .before .before .before .before .make-in in
     (gives-none (c .enum-told3 .given .1) (fill-make _ _ _ (p .holds) hk _ _ _ _ (m .result) fl (m .ensures .0)), tt)
 
 rest-result-remember-in-requires : (t : ℕ) → rest-result-lts.Need-remember-in-requires (rest-result-claims t) (rest-result-at t) rest-result.Post
 rest-result-remember-in-requires t c κs =
-    let c7 = c .before .before .before .before .before .before .before in let c9 = c7 .before .before in let c14 = c9 .before .before .before .before .before in
-    let c24 = c14 .before .before .before .before .before .before .before .before .before .before in
-    (grown-roomy _ _ (c7 .make-in .ensures .0 .grown .kept) (subst (StillIf _ _ _) (c9 .if3 .taken) (c14 .fill-branches .ensures .1) .room), omega (arith, c24 .tag-of .ensures))
+    let c7 = c .before .before .before .before .before .before .before in let c11 = c7 .before .before .before .before in let c16 = c11 .before .before .before .before .before in
+    let c26 = c16 .before .before .before .before .before .before .before .before .before .before in
+    (grown-roomy _ _ (c7 .make-in .ensures .0 .grown .kept) (subst (StillIf _ _ _) (c11 .if3 .taken) (c16 .fill-branches .ensures .1) .room), omega (arith, c26 .tag-of .ensures))
 
 rest-result-returns-6 : (t : ℕ) → rest-result-lts.Need-returns-6 (rest-result-claims t) (rest-result-at t) rest-result.Post
 rest-result-returns-6 t c =
-    let c8 = c .before .before .before .before .before .before .before .before in let c12 = c8 .before .before .before .before in let c14 = c12 .before .before in
-    let c19 = c14 .before .before .before .before .before in let c29 = c19 .before .before .before .before .before .before .before .before .before .before in
-    let c33 = c29 .before .before .before .before in let c34 = c33 .before in let a = c34 .before .before .before .before in
+    let c8 = c .before .before .before .before .before .before .before .before in let c12 = c8 .before .before .before .before in let c16 = c12 .before .before .before .before in
+    let c21 = c16 .before .before .before .before .before in let c31 = c21 .before .before .before .before .before .before .before .before .before .before in
+    let c35 = c31 .before .before .before .before in let c36 = c35 .before in let a = c36 .before .before .before .before in
     let p = a .pre .1 .0 in
-    let hk = still-left _ _ _ _ _ _ _ p (sure-not (c33 .if1 .left) (c34 .is-number .ensures)) in
-    let fl = filled _ _ _ _ _ _ _ (c14 .if3 .taken) (c19 .fill-branches .ensures .0) in
+    let hk = still-left _ _ _ _ _ _ _ p (sure-not (c35 .if1 .left) (c36 .is-number .ensures)) in
+    let fl = filled _ _ _ _ _ _ _ (c16 .if3 .taken) (c21 .fill-branches .ensures .0) in
     let m = c12 .make-in in
     let re = gives-is (c8 .z2 .given .1) (fill-make _ _ _ (p .holds) hk _ _ _ _ (m .result) fl (m .ensures .0)) in (
       rw (c .before .before .before .before .remember-in .ensures .0) re,
       noted-result costTable (says-more (a .args .r .now)) (fl .filled .grown .well) (m .ensures .0 .grown) (make-grows _ _ _) (m .ensures .1)
-          (subst (StillIf _ _ _) (c14 .if3 .taken) (c19 .fill-branches .ensures .1)) refl (c .before .before .before .before .remember-in .ensures)
-          (result-says _ _ _ (a .args .k) (a .args .b) _ _ _ p (omega (arith, p .holds .laid .laid .few)) (c29 .tag-of .ensures) re),
+          (subst (StillIf _ _ _) (c16 .if3 .taken) (c21 .fill-branches .ensures .1)) refl (c .before .before .before .before .remember-in .ensures)
+          (result-says _ _ _ (a .args .k) (a .args .b) _ _ _ p (omega (arith, p .holds .laid .laid .few)) (c31 .tag-of .ensures) re),
     )
 
 rest-result-returns-7 : (t : ℕ) → rest-result-lts.Need-returns-7 (rest-result-claims t) (rest-result-at t) rest-result.Post

@@ -174,7 +174,7 @@ fill-branches-loop-holds t c =
     let a = c .before .before .before .before .before in
     let e : c .wide .result ≡ size (plain (a .args .t .now)) (a .args .k) = c .wide .ensures .0 ∙ c .before .size-word .ensures
     ∙ sym (plain-head (a .args .t .now) (3 + a .args .k) (omega (arith, a .pre .1 .0 .holds .laid .laid .few, a .pre .1 .2))) in
-    (e, omega arith, fill-start _ (a .args .k) _ (a .pre .1 .0 .holds) (a .pre .1 .2) _ _ (a .pre .1 .3), a .pre .1 .1, refl, refl)
+    (e, omega arith, fill-start _ (a .args .k) _ (a .pre .1 .0 .holds) (a .pre .1 .2) _ _ (a .pre .1 .3) (a .pre .1 .4), a .pre .1 .1, refl, refl)
 
 fill-branches-arm-in-requires : (t : ℕ) → fill-branches-lts.Need-arm-in-requires (fill-branches-claims t) (fill-branches-at t) fill-branches.Post fill-branches-Inv-loop fill-branches-μ-loop
 fill-branches-arm-in-requires t c κs =
@@ -324,15 +324,15 @@ rest-result-fill-branches-requires : (t : ℕ) → rest-result-lts.Need-fill-bra
 rest-result-fill-branches-requires t c κs =
     let c14 = c .before .before .before .before .before .before .before .before .before .before .before .before .before .before in let a = c14 .before .before .before in
     let hk = still-left _ _ _ _ _ _ (a .pre .1 .0) (c14 .if1 .left) in
-    (omega arith, (a .pre .1 .0, a .pre .1 .1, hk, empty))
+    (omega arith, (a .pre .1 .0, a .pre .1 .1, hk, empty, empty))
 
 rest-result-make-in-requires : (t : ℕ) → rest-result-lts.Need-make-in-requires (rest-result-claims t) (rest-result-at t) rest-result.Post
 rest-result-make-in-requires t c κs =
-    let c6 = c .before .before .before .before .before .before in
-    let c21 = c6 .before .before .before .before .before .before .before .before .before .before .before .before .before .before .before in let a = c21 .before .before .before in
-    let hk = still-left _ _ _ _ _ _ (a .pre .1 .0) (c21 .if1 .left) in
-    let fl = filled _ _ _ _ _ _ _ (c .before .if3 .taken) (c6 .fill-branches .ensures .0) in (
-      subst (StillIf _ _ _) (c .before .if3 .taken) (c6 .fill-branches .ensures .1) .room,
+    let c8 = c .before .before .before .before .before .before .before .before in
+    let c23 = c8 .before .before .before .before .before .before .before .before .before .before .before .before .before .before .before in let a = c23 .before .before .before in
+    let hk = still-left _ _ _ _ _ _ (a .pre .1 .0) (c23 .if1 .left) in
+    let fl = filled _ _ _ _ _ _ _ (c .before .before .before .if3 .taken) (c8 .fill-branches .ensures .0) in (
+      subst (StillIf _ _ _) (c .before .before .before .if3 .taken) (c8 .fill-branches .ensures .1) .room,
       fl .filled .grown .well,
       omega (arith, kept-features _ _ (fl .filled .grown .kept)),
       fill-armed _ _ _ (a .pre .1 .0 .holds) hk _ _ _ fl (a .pre .1 .0 .bounded .spread) (a .pre .1 .0 .narrow),
@@ -340,32 +340,32 @@ rest-result-make-in-requires t c κs =
 
 rest-result-returns-5 : (t : ℕ) → rest-result-lts.Need-returns-5 (rest-result-claims t) (rest-result-at t) rest-result.Post
 rest-result-returns-5 t c =
-    let c6 = c .before .before .before .before .before .before in let c11 = c6 .before .before .before .before .before in
-    let c26 = c11 .before .before .before .before .before .before .before .before .before .before .before .before .before .before .before in let a = c26 .before .before .before in
-    let hk = still-left _ _ _ _ _ _ (a .pre .1 .0) (c26 .if1 .left) in
-    let fl = filled _ _ _ _ _ _ _ (c6 .if3 .taken) (c11 .fill-branches .ensures .0) in
+    let c8 = c .before .before .before .before .before .before .before .before in let c13 = c8 .before .before .before .before .before in
+    let c28 = c13 .before .before .before .before .before .before .before .before .before .before .before .before .before .before .before in let a = c28 .before .before .before in
+    let hk = still-left _ _ _ _ _ _ (a .pre .1 .0) (c28 .if1 .left) in
+    let fl = filled _ _ _ _ _ _ _ (c8 .if3 .taken) (c13 .fill-branches .ensures .0) in
     let m = c .before .before .before .before .make-in in
     (gives-none (c .enum-told3 .given .1) (fill-make _ _ _ (a .pre .1 .0 .holds) hk _ _ _ _ (m .result) fl (m .ensures .0)), tt)
 
 rest-result-remember-in-requires : (t : ℕ) → rest-result-lts.Need-remember-in-requires (rest-result-claims t) (rest-result-at t) rest-result.Post
 rest-result-remember-in-requires t c κs =
-    let c7 = c .before .before .before .before .before .before .before in let c9 = c7 .before .before in let c14 = c9 .before .before .before .before .before in
-    let c24 = c14 .before .before .before .before .before .before .before .before .before .before in
-    (grown-roomy _ _ (c7 .make-in .ensures .0 .grown .kept) (subst (StillIf _ _ _) (c9 .if3 .taken) (c14 .fill-branches .ensures .1) .room), omega (arith, c24 .narrow .ensures))
+    let c7 = c .before .before .before .before .before .before .before in let c11 = c7 .before .before .before .before in let c16 = c11 .before .before .before .before .before in
+    let c26 = c16 .before .before .before .before .before .before .before .before .before .before in
+    (grown-roomy _ _ (c7 .make-in .ensures .0 .grown .kept) (subst (StillIf _ _ _) (c11 .if3 .taken) (c16 .fill-branches .ensures .1) .room), omega (arith, c26 .narrow .ensures))
 
 rest-result-returns-6 : (t : ℕ) → rest-result-lts.Need-returns-6 (rest-result-claims t) (rest-result-at t) rest-result.Post
 rest-result-returns-6 t c =
-    let c8 = c .before .before .before .before .before .before .before .before in let c12 = c8 .before .before .before .before in let c14 = c12 .before .before in
-    let c19 = c14 .before .before .before .before .before in let c29 = c19 .before .before .before .before .before .before .before .before .before .before in
-    let c34 = c29 .before .before .before .before .before in let a = c34 .before .before .before in
-    let hk = still-left _ _ _ _ _ _ (a .pre .1 .0) (c34 .if1 .left) in
-    let fl = filled _ _ _ _ _ _ _ (c14 .if3 .taken) (c19 .fill-branches .ensures .0) in
+    let c8 = c .before .before .before .before .before .before .before .before in let c12 = c8 .before .before .before .before in let c16 = c12 .before .before .before .before in
+    let c21 = c16 .before .before .before .before .before in let c31 = c21 .before .before .before .before .before .before .before .before .before .before in
+    let c36 = c31 .before .before .before .before .before in let a = c36 .before .before .before in
+    let hk = still-left _ _ _ _ _ _ (a .pre .1 .0) (c36 .if1 .left) in
+    let fl = filled _ _ _ _ _ _ _ (c16 .if3 .taken) (c21 .fill-branches .ensures .0) in
     let m = c12 .make-in in
     let re = gives-is (c8 .z2 .given .1) (fill-make _ _ _ (a .pre .1 .0 .holds) hk _ _ _ _ (m .result) fl (m .ensures .0)) in (
       rw (c .before .before .before .before .remember-in .ensures .0) re,
       noted-result costTable (right-more (a .args .o)) (fl .filled .grown .well) (m .ensures .0 .grown) (make-grows _ _ _) (m .ensures .1)
-          (subst (StillIf _ _ _) (c14 .if3 .taken) (c19 .fill-branches .ensures .1)) refl (c .before .before .before .before .remember-in .ensures)
-          (right-here _ _ (a .args .k) _ _ _ (c29 .narrow .ensures) (result-recalled _ _ _ (a .args .k) _ _ (a .args .d) _ _ (a .pre .1 .0) re)),
+          (subst (StillIf _ _ _) (c16 .if3 .taken) (c21 .fill-branches .ensures .1)) refl (c .before .before .before .before .remember-in .ensures)
+          (right-here _ _ (a .args .k) _ _ _ (c31 .narrow .ensures) (result-recalled _ _ _ (a .args .k) _ _ (a .args .d) _ _ (a .pre .1 .0) re)),
     )
 
 rest-result-returns-7 : (t : ℕ) → rest-result-lts.Need-returns-7 (rest-result-claims t) (rest-result-at t) rest-result.Post

@@ -12,39 +12,39 @@ use Rattle.promises.specs.Words.{size}
 use Rattle.promises.specs.CostWords.{target}
 
 all-same-requires : tie.Need-all-same-requires
-all-same-requires c κs = omega (arith, (c .before .before .before) .pre .0 .laid .laid .large ((c .before .before .before) .args .k) ((c .before .before .before) .pre .1))
+all-same-requires c κs = let a = c .before .before .before in omega (arith, a .pre .0 .laid .laid .large (a .args .k) (a .pre .1))
 
 returns : tie.Need-returns
 returns c =
-    let a = c .before .before .before .before .before .before .before in
-    let w = a .args .t .now in
-    let k = a .args .k in
-    let l = a .args .t3 in
-    let e : (c .before .before .before .before .wide) .result ≡ size w k = c .before .before .before .before .wide .ensures .0 ∙ c .before .before .before .before .before .size-word .ensures in
-    found-same w k l (a .pre .0) (a .pre .1) (a .pre .2) (c .target-at .result) (c .target-at .ensures ∙ ap target (c .before .half-of .ensures))
-    (subst (λ (n : ℕ). AllSame n l) e (sure (c .before .before .if1 .taken) (c .before .before .before .all-same .ensures)))
-
-returns-2 : tie.Need-returns-2
-returns-2 c =
     let c6 = c .before .before .before .before .before .before in let a = c6 .before .before in
     let w = a .args .t .now in
     let k = a .args .k in
-    let l = a .args .t3 in
-    let e : (c .before .before .before .before .before .wide) .result ≡ size w k = c .before .before .before .before .before .wide .ensures .0 ∙ c6 .size-word .ensures in
+    let l = a .args .list .now in
+    let e : c .before .before .before .before .before .wide .result ≡ size w k = c .before .before .before .before .before .wide .ensures .0 ∙ c6 .size-word .ensures in
+    found-same w k l (a .pre .0) (a .pre .1) (a .pre .2) (c .target-at .result) (c .target-at .ensures ∙ ap target (c .before .half-of .ensures))
+    (subst (λ (n : ℕ). AllSame n l) e (sure (c .before .before .before .if1 .taken) (c .before .before .before .before .all-same .ensures)))
+
+returns-2 : tie.Need-returns-2
+returns-2 c =
+    let c6 = c .before .before .before .before .before .before in let c7 = c6 .before in let a = c7 .before .before in
+    let w = a .args .t .now in
+    let k = a .args .k in
+    let l = a .args .list .now in
+    let e : c6 .wide .result ≡ size w k = c6 .wide .ensures .0 ∙ c7 .size-word .ensures in
     let f = c .before .before .find-record .ensures in
     rw (c .narrow .ensures)
     (found-node w k l (a .pre .0) (a .pre .1) (a .pre .2) (c .before .before .find-record .result - 1) (omega (arith, f .within))
-    (λ s. sure-not (c .before .before .before .if1 .left) (c .before .before .before .before .all-same .ensures) (subst (λ (n : ℕ). AllSame n l) (sym e) s)) (f .there (omega arith)))
+    (λ s. sure-not (c .before .before .before .before .if1 .left) (c .before .before .before .before .before .all-same .ensures) (subst (λ (n : ℕ). AllSame n l) (sym e) s)) (f .there (omega arith)))
 
 returns-3 : tie.Need-returns-3
-returns-3 c = let a = (c .before .before .before .before .before .before .before) in
+returns-3 c =
+    let c6 = c .before .before .before .before .before .before in let a = c6 .before .before in
     let w = a .args .t .now in
     let k = a .args .k in
-    let l = a .args .t3 in
-    let e : (c .before .before .before .before .wide) .result ≡ size w k = (c .before .before .before .before .wide) .ensures .0 ∙ (c .before .before .before .before .before .size-word) .ensures in
-    let d = a .pre .0 .laid .laid in
-    found-none w k l (a .pre .0) (a .pre .1) (a .pre .2) ((c .before .find-record) .result) (omega arith)
-    (λ s. sure-not ((c .before .before .if1) .left) ((c .before .before .before .all-same) .ensures) (subst (λ (n : ℕ). AllSame n l) (sym e) s)) ((c .before .find-record) .ensures)
+    let l = a .args .list .now in
+    let e : c .before .before .before .before .before .wide .result ≡ size w k = c .before .before .before .before .before .wide .ensures .0 ∙ c6 .size-word .ensures in
+    found-none w k l (a .pre .0) (a .pre .1) (a .pre .2) (c .before .find-record .result) (omega arith)
+    (λ s. sure-not (c .before .before .before .if1 .left) (c .before .before .before .before .all-same .ensures) (subst (λ (n : ℕ). AllSame n l) (sym e) s)) (c .before .find-record .ensures)
 
 pub find-spec : {M : Type 1} → statement M
 find-spec =

@@ -14,7 +14,7 @@ make-requires c κs = let a = (c .before .before) in
 returns : tie.Need-returns
 returns c = let a = (c .before .before .before .before .before) in
     let m = (c .before .before .make) in
-    (plain-makes _ _ (a .args .k) (a .args .goes) (a .args .adds) (m .result) (a .pre .1) (a .pre .2) (m .ensures), kept-aside _ _ (a .pre .0) (m .ensures .grown .kept))
+    (plain-makes _ _ (a .args .k) (a .args .goes .now) (a .args .adds .now) (m .result) (a .pre .1) (a .pre .2) (m .ensures), kept-aside _ _ (a .pre .0) (m .ensures .grown .kept))
 
 pub make-in-spec : {M : Type 1} → statement M
 make-in-spec = tie.close (tie.spec make-requires (λ c. search needs) returns)

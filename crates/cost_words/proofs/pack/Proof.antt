@@ -18,15 +18,19 @@ Inv-loop to adds list₀ v₀ list v = (length list ≡ 12) × (v ≤ 12) × ((u
 abbrev μ-loop : tie.MeasureT-loop
 μ-loop to adds list₀ v₀ list v = 12 - v
 
+loop-holds : tie.Need-loop-holds Inv-loop μ-loop
+loop-holds c = (c .pre .0, omega arith, λ u h. absurd (omega arith))
+
 packed-word-requires : tie.Need-packed-word-requires Inv-loop μ-loop
-packed-word-requires c κs = (c .before .before .pre, omega arith)
+packed-word-requires c κs = (c .before .before .pre .1, omega arith)
 
 loop-again : tie.Need-loop-again Inv-loop μ-loop
-loop-again c = let l = c .before .before .loop in (
-  simp length-set (l .inv .0),
-  omega arith,
-  (λ u h. ⊎-elim (λ e. rw e (getD-set-same (l .list) _ _ 0 (omega arith) ∙ c .packed-word .ensures)) (λ n. getD-set-other (l .list) _ u _ 0 n ∙ l .inv .2 u (omega (arith, n))) (same u (l .v))),
-)
+loop-again c =
+    let l = c .before .before .loop in (
+      simp length-set (l .inv .0),
+      omega arith,
+      (λ u h. ⊎-elim (λ e. rw e (getD-set-same (l .list) _ _ 0 (omega arith) ∙ c .packed-word .ensures)) (λ n. getD-set-other (l .list) _ u _ 0 n ∙ l .inv .2 u (omega (arith, n))) (same u (l .v))),
+    )
 
 returns : tie.Need-returns Inv-loop μ-loop
 returns c = λ v h. c .before .loop .inv .2 v (omega arith)
@@ -37,7 +41,7 @@ pack-spec =
     (tie.spec
     Inv-loop
     μ-loop
-    (λ c. search needs)
+    loop-holds
     packed-word-requires
     (λ c. search needs)
     (λ c. search needs)

@@ -9,16 +9,16 @@ use Rattle.cost_words.proofs.packed_word.Statement.{statement}
 use Rattle.cost_words.proofs.packed_word.Tie as tie
 
 mul-result-5 : tie.Need-mul-result-5
-mul-result-5 c = let a = (c .before) in omega (arith, a .pre .0 (2 * a .args .v + 1) (omega arith))
+mul-result-5 c = let a = c .before .before .before in omega (arith, a .pre .0 (2 * a .args .v + 1) (omega arith))
 
 add-result-2 : tie.Need-add-result-2
-add-result-2 c = let a = (c .before) in omega (arith, a .pre .0 (2 * a .args .v) (omega arith), a .pre .0 (2 * a .args .v + 1) (omega arith))
+add-result-2 c = let a = c .before .before .before in omega (arith, a .pre .0 (2 * a .args .v) (omega arith), a .pre .0 (2 * a .args .v + 1) (omega arith))
 
 returns : tie.Need-returns
-returns c = let a = c .before .args in sym (packed-low (listed (a .t1)) (listed (a .t2)) (a .v) (omega arith))
+returns c = let a = c .before .before .before .args in sym (packed-low (listed (a .to .now)) (listed (a .adds .now)) (a .v) (omega arith))
 
 returns-2 : tie.Need-returns-2
-returns-2 c = let a = c .before .args in sym (packed-high (listed (a .t1)) (listed (a .t2)) (a .v) (omega arith))
+returns-2 c = let a = c .before .before .args in sym (packed-high (listed (a .to .now)) (listed (a .adds .now)) (a .v) (omega arith))
 
 pub packed-word-spec : {M : Type 1} → statement M
 packed-word-spec =
