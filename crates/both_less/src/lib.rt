@@ -20,6 +20,7 @@ ghost use mathlib.Core.Bool.{cond};
 ghost use mathlib.Core.Path.{_≡_};
 ghost use Prim.Native.Nat.{_<_};
 ghost use lib.IntN.{pos};
+ghost use lib.ListN.{replicate};
 ghost use lib.Signed.{ltZ};
 ghost use Rattle.theory.specs.Diagrams.{meaning};
 ghost use Rattle.rule_lending.specs.Building.{Result, Fills};
@@ -30,12 +31,6 @@ ghost use Rattle.promises.specs.Integers.{int};
 ghost use Rattle.promises.specs.CostOperations.{isBelow};
 ghost use Rattle.promises.specs.Words.{features};
 ghost use Rattle.promises.specs.CostWords.{costBranch as branch, costNodes as nodes};
-
-// The list of a node's branches, or that there was no room for them.
-struct Filled {
-    ok: bool,
-    list: [u32; 12],
-}
 
 // 1 where the difference is above 0, else 0.
 fn above_zero(d: u32) -> u32
@@ -54,7 +49,10 @@ fn rest_result(c: &[u32], t: &mut [u32], s: &mut [u32], k: usize, x: u32, y: u32
     }
     if k < top_of(c, x) {
         if k < top_of(c, y) {
-            return rest_result(c, t, s, k + 1, x, y, d);
+            let Answer::Is(z) = rest_result(c, t, s, k + 1, x, y, d) else {
+                return Answer::NoRoom;
+            };
+            return Answer::Is(z);
         }
     }
     let tag = narrow(k + 1);
@@ -63,9 +61,8 @@ fn rest_result(c: &[u32], t: &mut [u32], s: &mut [u32], k: usize, x: u32, y: u32
     if let Memo::Known(z, e) = memo {
         return Answer::Is(z);
     }
-    let filled = fill_branches(c, t, s, k, x, y, d);
-    if filled.ok {
-        let list = filled.list;
+    let mut list = [0u32; 12];
+    if fill_branches(c, t, s, k, x, y, d, &mut list) {
         let Answer::Is(z) = make(t, k, list) else {
             return Answer::NoRoom;
         };
@@ -75,7 +72,7 @@ fn rest_result(c: &[u32], t: &mut [u32], s: &mut [u32], k: usize, x: u32, y: u32
     Answer::NoRoom
 }
 
-// The list of its branches: the results for the values of feature k in turn, each with its own difference.
+// Lays its branches into a list of 0: the results for the values of feature k in turn, each with its own difference. False where there was no room for them.
 fn fill_branches(
     c: &[u32],
     t: &mut [u32],
@@ -84,24 +81,24 @@ fn fill_branches(
     x: u32,
     y: u32,
     d: u32,
-) -> Filled
-    requires { ⌜ (Operands (now c) k x y d) × (Beside (now c) (now t)) × (Remembers 4 (Recalled (now c) (now t)) (now s)) × (k < features (now c)) ⌝ }
-    ensures { λ r. ⌜ (Fills (now (t .entry)) (now (t .exit)) k (lessFrom (now (c .entry)) k x y d) (r .ok) (r .list)) × (StillIf (now (c .entry)) (now (t .exit)) (now (s .exit)) (r .ok)) ⌝ }
+    list: &mut [u32; 12],
+) -> bool
+    requires { ⌜ (Operands (now c) k x y d) × (Beside (now c) (now t)) × (Remembers 4 (Recalled (now c) (now t)) (now s)) × (k < features (now c)) × (now list ≡ replicate 12 0) ⌝ }
+    ensures { λ r. ⌜ (Fills (now (t .entry)) (now (t .exit)) k (lessFrom (now (c .entry)) k x y d) r (now (list .exit))) × (StillIf (now (c .entry)) (now (t .exit)) (now (s .exit)) r) ⌝ }
 {
     let m = wide(size_word(c, k));
-    let mut list = [0u32; 12];
     let mut v: usize = 0;
     while v < m {
         let a = arm_at(c, k, x, v);
         let b = arm_at(c, k, y, v);
         let g = difference_word(sum_word(d, b.adds), a.adds);
         let Answer::Is(z) = rest_result(c, t, s, k + 1, a.to, b.to, g) else {
-            return Filled { ok: false, list };
+            return false;
         };
         list[v] = z;
         v += 1;
     }
-    Filled { ok: true, list }
+    true
 }
 
 // The rule "first below second" of two branches of the cost table, built after the rule table's nodes. Scratch is emptied first; where it is short, the call has memory of its own.
