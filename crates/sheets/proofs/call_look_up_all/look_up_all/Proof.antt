@@ -38,8 +38,10 @@ returns-3 : tie.Need-returns-3
 returns-3 c =
     let c6 = c .before .before .before .before .before .before in let c9 = c6 .before .before .before in
     let v = granted (c6 .rows-ok .result) (c .before .before .before .before .before .if1 .left) (c6 .rows-ok .ensures) in
-    takes refl (pass (λ n. n tt) (read-on (record { ends = c9 .before .before .test-sheet .ensures; ready = λ e. c6 .before .note-places .ensures }) (c9 .enum-told .given .1) (pass (λ n. n v) refl))) tt
-    (c .before .before .fill .ensures)
+    takes refl
+    (pass (λ n. n tt)
+    (read-on (record { ends = c9 .before .before .test-sheet .ensures; ready = λ e. c6 .before .note-places .ensures }) (c9 .enum-told .given .1) (pass (λ n. n v) refl)))
+    tt (c .before .before .fill .ensures)
 
 pub look-up-all-spec : {M : Type 1} → statement M
 look-up-all-spec =
