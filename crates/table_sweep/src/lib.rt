@@ -19,6 +19,9 @@ fn last_below(t: &[u32], h: usize, a: usize) -> usize
     requires { ⌜ Chain (now t) h a ⌝ }
     ensures { λ r. ⌜ r ≡ lastOf (hashAt (now (t .entry))) (h - 4096) a ⌝ }
 {
+    if a == 0 {
+        return 0;
+    }
     let mut c = wide(head_word(t, h));
     while a < c {
         c = wide(record_word(t, c - 1, 13));
