@@ -156,11 +156,16 @@ static void compare(void) {
 
 static int alone;
 
+/* so many entries has the part of the scratch that is used: it goes by the nodes in use before the call */
+static uint32_t entries_used(void) {
+    size_t wanted = 1024 + 64 * (size_t)nodes_in_use();
+    return (uint32_t)((wanted < scratch_length ? wanted : scratch_length) / ENTRY);
+}
+
 /* the two rules, and their smaller */
 static void lay(size_t capacity, uint32_t first, uint32_t second, uint32_t a, uint32_t b) {
     length = LAMPGROTTO_WORDS(capacity);
     scratch_length = 16 * capacity;
-    slots = (uint32_t)(scratch_length / ENTRY);
     memset(features, 8, sizeof features);
     taken(lampgrotto_open(words, length, features, 16, capacity));
     number = 1;
@@ -175,6 +180,7 @@ static void row(size_t capacity, uint32_t first, uint32_t second, uint32_t a, ui
         printf("apply\t%u and %u, %u and %u, %zu\t%.1f\n", a, b, first, second, capacity, best(applying));
         return;
     }
+    slots = entries_used();
     uint64_t earlier = steps_by(&before), steps_now = steps_by(&library);
     applying();
     compare();

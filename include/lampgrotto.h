@@ -53,8 +53,9 @@ uint32_t lampgrotto_look_up_all(const uint8_t *sheet, size_t sheet_len, const ui
    65,535. Every call answers how it ended, and takes
      t         the table's words; words past LAMPGROTTO_WORDS(capacity) are neither read nor written;
      scratch   words for remembered results, any number of them, 0 too, with anything in them. No answer and no table depends on
-               them, only the time: all of them are cleared first. With fewer than 6,144 (5,632 in apply, case and forget) a call remembers on
-               its own stack instead, and in a large table that it writes in that table's spare words; so lending none does well;
+               them, only the time: as many as the nodes in use ask for (1,024, and 64 for each) are cleared first and used, in less and
+               lowest all of them. Where there are fewer (in less, lowest and small tables fewer than 6,144; 5,632 in apply, case and
+               forget) a call remembers on its own stack, or in spare words of a table that it writes; so lending none does well;
      place     the place that gets the result; it may be one of those that the call reads;
      out       words for results. They are laid over its front, as many as fit; a refused call lays 0s. Words past them stay.
    Every call but open refuses DAMAGED words. A call that is lent scratch takes up to 42 KB of stack, any other up to

@@ -308,14 +308,14 @@ module _ (v w : List ℕ) (b x a y c : ℕ) (p : Choosable v w b (branch x a) (b
   pub choice-start : (d : ℤ) → d ≡ pos 0 → (t : List ℕ) (r : Answer) → Result w t 0 (choiceOf (lent v 0 b) (nodes w) 0 (branch x a) (branch y c) d) r → Result w t 0 X r
   choice-start d e t r q = F.gives-eq lawful (built-start d e) q
 
--- at rest the walk starts from the words without notes ..
-pub choosable-plain : (v w : List ℕ) (b : ℕ) (x y : Branch costs) → Choosable v w b x y → Choosable v (plain w) b x y
-choosable-plain v w b x y p = subst (λ (u : List ℕ). Choosable v u b x y) (sym (plain-of w (p .first .rest .empty))) p
+-- from rest the walk starts with the words without notes, which are those of the table ..
+pub choosable-plain : (v w t : List ℕ) (b : ℕ) (x y : Branch costs) → Choosable v w b x y → plain t ≡ plain w → Choosable v (plain t) b x y
+choosable-plain v w t b x y p e = subst (λ (u : List ℕ). Choosable v u b x y) (sym (e ∙ plain-of w (p .first .rest .empty))) p
 
 -- .. and its result, with the far records 0 again, is that of the table
-pub choice-cleared : (v w t u : List ℕ) (b : ℕ) (x y : Branch costs) (r : Answer) → Resting w → u ≡ plain t
-    → Result (plain w) (plain t) 0 (chosen (lent v 0 b) (meaning (nodes (plain w)) x) (meaning (nodes (plain w)) y)) r →
+pub choice-cleared : (v w t′ t u : List ℕ) (b : ℕ) (x y : Branch costs) (r : Answer) → Resting w → plain t′ ≡ plain w → u ≡ plain t
+    → Result (plain t′) (plain t) 0 (chosen (lent v 0 b) (meaning (nodes (plain t′)) x) (meaning (nodes (plain t′)) y)) r →
     Result w u 0 (chosen (lent v 0 b) (meaning (nodes w) x) (meaning (nodes w) y)) r
-choice-cleared v w t u b x y r z e g =
+choice-cleared v w t′ t u b x y r z q e g =
     subst (λ (o : List ℕ). Result w o 0 (chosen (lent v 0 b) (meaning (nodes w) x) (meaning (nodes w) y)) r) (sym e)
-    (subst (λ (o : List ℕ). Result o (plain t) 0 (chosen (lent v 0 b) (meaning (nodes o) x) (meaning (nodes o) y)) r) (plain-of w (z .empty)) g)
+    (subst (λ (o : List ℕ). Result o (plain t) 0 (chosen (lent v 0 b) (meaning (nodes o) x) (meaning (nodes o) y)) r) (q ∙ plain-of w (z .empty)) g)

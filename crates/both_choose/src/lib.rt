@@ -16,8 +16,10 @@ use rule_lending::key_of;
 use rule_lending::number_of;
 use rule_lending::top_at;
 use table_memory::Memo;
+use table_notes::begin;
 use table_notes::clear;
 use table_notes::clear_far;
+use table_notes::clear_window;
 use table_words::capacity_word;
 use table_words::narrow;
 use table_words::size_word;
@@ -175,10 +177,14 @@ fn choose_in(r: &[u32], t: &mut [u32], s: &mut [u32], b: u32, x: Arm, y: Arm) ->
     ensures { λ a. ⌜ Result (now (t .entry)) (now (t .exit)) 0
         (chosen (lent (now (r .entry)) 0 b) (meaning (nodes (now (t .entry))) (branch (x .to) (x .adds))) (meaning (nodes (now (t .entry))) (branch (y .to) (y .adds)))) a ⌝ }
 {
-    clear(s);
-    let a = branch_result(r, t, s, 0, b, x, y, ZERO);
-    clear_far(t);
-    a
+    let lent = begin(t, s.len());
+    clear(&mut s[0..lent]);
+    let Answer::Is(z, e) = branch_result(r, t, &mut s[0..lent], 0, b, x, y, ZERO) else {
+        clear_far(t);
+        return Answer::NoRoom;
+    };
+    clear_window(t);
+    Answer::Is(z, e)
 }
 
 // The same; where the scratch and the far records are short, own words stand in for the scratch.

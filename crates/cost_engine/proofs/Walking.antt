@@ -252,14 +252,14 @@ module _ (w : List ℕ) (o : Operator) (x a y b : ℕ) (p : Joinable w o (branch
       (build-agree 0 (sizes w) (together o (meaning (nodes w) (branch x a)) (meaning (nodes w) (branch y b))) (joint o (nodes w) 0 (branch x a) (branch y b) d)
       (λ s v. sym (ap (λ (z : ℤ). joint o (nodes w) 0 (branch x a) (branch y b) z s) e ∙ joint-none o (nodes w) 0 (branch x a) (branch y b) d s)) (nodes w)) g
 
--- at rest the walk starts from the words without notes ..
-pub joinable-plain : (w : List ℕ) (o : Operator) (b c : Branch costs) → Joinable w o b c → Joinable (plain w) o b c
-joinable-plain w o b c p = subst (λ (u : List ℕ). Joinable u o b c) (sym (plain-of w (p .first .rest .empty))) p
+-- from rest the walk starts with the words without notes, which are those of the table ..
+pub joinable-plain : (w v : List ℕ) (o : Operator) (b c : Branch costs) → Joinable w o b c → plain v ≡ plain w → Joinable (plain v) o b c
+joinable-plain w v o b c p e = subst (λ (u : List ℕ). Joinable u o b c) (sym (e ∙ plain-of w (p .first .rest .empty))) p
 
 -- .. and its result, with the far records 0 again, is that of the table
-pub joint-cleared : (w t u : List ℕ) (o : Operator) (b c : Branch costs) (r : Answer) → Resting w → u ≡ plain t
-    → Result (plain w) (plain t) 0 (together o (meaning (nodes (plain w)) b) (meaning (nodes (plain w)) c)) r →
+pub joint-cleared : (w v t u : List ℕ) (o : Operator) (b c : Branch costs) (r : Answer) → Resting w → plain v ≡ plain w → u ≡ plain t
+    → Result (plain v) (plain t) 0 (together o (meaning (nodes (plain v)) b) (meaning (nodes (plain v)) c)) r →
     Result w u 0 (together o (meaning (nodes w) b) (meaning (nodes w) c)) r
-joint-cleared w t u o b c r z e g =
-    subst (λ (v : List ℕ). Result w v 0 (together o (meaning (nodes w) b) (meaning (nodes w) c)) r) (sym e)
-    (subst (λ (v : List ℕ). Result v (plain t) 0 (together o (meaning (nodes v) b) (meaning (nodes v) c)) r) (plain-of w (z .empty)) g)
+joint-cleared w v t u o b c r z q e g =
+    subst (λ (x : List ℕ). Result w x 0 (together o (meaning (nodes w) b) (meaning (nodes w) c)) r) (sym e)
+    (subst (λ (x : List ℕ). Result x (plain t) 0 (together o (meaning (nodes x) b) (meaning (nodes x) c)) r) (q ∙ plain-of w (z .empty)) g)

@@ -16,8 +16,10 @@ use operators::end_word;
 use operators::gap_word;
 use operators::number_of;
 use table_memory::Memo;
+use table_notes::begin;
 use table_notes::clear;
 use table_notes::clear_far;
+use table_notes::clear_window;
 use table_words::narrow;
 use table_words::size_word;
 use table_words::wide;
@@ -131,8 +133,12 @@ pub fn join_costs(t: &mut [u32], s: &mut [u32], o: Operator, a: Arm, b: Arm) -> 
     ensures { λ r. ⌜ Result (now (t .entry)) (now (t .exit)) 0
         (together o (meaning (nodes (now (t .entry))) (branch (a .to) (a .adds))) (meaning (nodes (now (t .entry))) (branch (b .to) (b .adds)))) r ⌝ }
 {
-    clear(s);
-    let r = branch_result(t, s, o, 0, a, b, ZERO);
-    clear_far(t);
-    r
+    let lent = begin(t, s.len());
+    clear(&mut s[0..lent]);
+    let Answer::Is(z, e) = branch_result(t, &mut s[0..lent], o, 0, a, b, ZERO) else {
+        clear_far(t);
+        return Answer::NoRoom;
+    };
+    clear_window(t);
+    Answer::Is(z, e)
 }

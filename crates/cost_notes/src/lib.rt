@@ -22,7 +22,7 @@ ghost use mathlib.Core.List.{[], _∷_};
 ghost use Prim.Native.Nat.{ℕ, _≤_, _<_};
 ghost use Rattle.theory_costs.specs.Relative.{branchAt};
 ghost use Rattle.table_records.specs.Laid.{Laid};
-ghost use Rattle.table_notes.specs.Far.{memory, Aside};
+ghost use Rattle.table_notes.specs.Far.{memory, Aside, Windowed};
 ghost use Rattle.table_notes.specs.Plain.{Roomy, plain};
 ghost use Rattle.table_memory.specs.Memory.{Recalls, Stored};
 ghost use Rattle.cost_words.specs.Sides.{Keeps};
@@ -66,7 +66,7 @@ pub fn make_in(t: &mut [u32], k: usize, goes: &[u32; 8], adds: &[u32; 8]) -> Ans
 
 // What is remembered under a tag for two targets and their difference. Keys of four words are lent here alone, so that they have one length for the compiler.
 pub fn recall_in(t: &[u32], s: &[u32], o: u32, tag: u32, x: u32, y: u32, d: u32) -> Memo
-    requires { ⌜ Roomy (now t) ⌝ }
+    requires { ⌜ Windowed (now t) ⌝ }
     ensures { λ r. ⌜ Recalls (memory (now (t .entry)) (now (s .entry))) (tag ∷ x ∷ y ∷ d ∷ []) r ⌝ }
 {
     let key = [tag, x, y, d];
@@ -85,8 +85,9 @@ pub fn remember_in(
     z: u32,
     e: u32,
 )
-    requires { ⌜ (Roomy (now t)) × (0 < tag) ⌝ }
-    ensures { λ _. ⌜ (plain (now (t .exit)) ≡ plain (now (t .entry))) × (Stored (memory (now (t .entry)) (now (s .entry))) (memory (now (t .exit)) (now (s .exit))) (tag ∷ x ∷ y ∷ d ∷ []) z e) ⌝ }
+    requires { ⌜ (Windowed (now t)) × (0 < tag) ⌝ }
+    ensures { λ _. ⌜ (plain (now (t .exit)) ≡ plain (now (t .entry))) × (Stored (memory (now (t .entry)) (now (s .entry))) (memory (now (t .exit)) (now (s .exit))) (tag ∷ x ∷ y ∷ d ∷ []) z e)
+        × (Windowed (now (t .exit))) ⌝ }
 {
     let key = [tag, x, y, d];
     table_memory::remember_in(t, s, o, &key, z, e);

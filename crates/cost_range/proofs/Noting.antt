@@ -7,7 +7,7 @@ use lib.ListN.{length, drop}
 use Rattle.theory.specs.Functions.{held}
 use Rattle.theory_costs.specs.Relative.{branchAt}
 use Rattle.table_notes.specs.Plain.{Resting, plain}
-use Rattle.table_notes.specs.Far.{memory}
+use Rattle.table_notes.specs.Far.{memory, Windowed}
 use Rattle.table_notes.proofs.Plain.{plain-of}
 use Rattle.table_memory.specs.Memory.{Stored}
 use Rattle.table_memory.proofs.Remembering.{noted-stored}
@@ -19,9 +19,9 @@ use Rattle.promises.specs.Words.{features, size, sizes}
 use Rattle.promises.specs.CostWords.{target, costBranch as branch, costNodes as nodes}
 
 -- one result more, right for the table w without notes
-pub noted-more : (minus : Bool) (w t t′ s s′ key : List ℕ) (l h : ℕ) → length key ≡ 4 → plain t ≡ w → plain t′ ≡ plain t → Noted minus t s → Stored (memory t s) (memory t′ s′) key l h
-    → Right minus w key l h → Noted minus t′ s′
-noted-more minus w t t′ s s′ key l h z f e n st q = noted-stored t t′ s s′ key l h z n (e, st) (rw f q)
+pub noted-more : (minus : Bool) (w t t′ s s′ key : List ℕ) (l h : ℕ) → length key ≡ 4 → plain t ≡ w
+    → (plain t′ ≡ plain t) × Stored (memory t s) (memory t′ s′) key l h × Windowed t′ → Noted minus t s → Right minus w key l h → Noted minus t′ s′
+noted-more minus w t t′ s s′ key l h z f e n q = noted-stored t t′ s s′ key l h z n e (rw f q)
 
 -- ---- a step on words u that are those without notes, w
 pub features-over : {w u : List ℕ} → u ≡ w → features u ≡ features w
@@ -49,17 +49,17 @@ module _ {w u : List ℕ} (e : u ≡ w) (k x y : ℕ) (p : Pair w k x y) (hk : k
         branches-at w k x y p minus v xa a yb b first-arm second-arm r
         (subst (λ (z : List ℕ). Reaches (drop (k + 1) (sizes z)) (ofBranches minus z (k + 1) xa a yb b) r) e q)
 
--- ---- the whole walk, over a table at rest
-module _ (t : List ℕ) (r : Resting t) where
-  at-rest : plain t ≡ t
-  at-rest = plain-of t (r .empty)
+-- ---- the whole walk, from a table at rest; t′ is the table with the choice of where it remembers
+module _ (t t′ : List ℕ) (r : Resting t) (q : plain t′ ≡ plain t) where
+  at-rest : plain t′ ≡ t
+  at-rest = q ∙ plain-of t (r .empty)
 
-  pub rest-pair : (x y : ℕ) → Pair t 0 x y → Pair (plain t) 0 x y
+  pub rest-pair : (x y : ℕ) → Pair t 0 x y → Pair (plain t′) 0 x y
   rest-pair x y p = rw at-rest p
 
   -- the notes are taken away
-  pub rest-again : (t′ t″ : List ℕ) → plain t′ ≡ plain t → t″ ≡ plain t′ → t″ ≡ t
-  rest-again t′ t″ e f = f ∙ e ∙ at-rest
+  pub rest-again : (u v : List ℕ) → plain u ≡ plain t′ → v ≡ plain u → v ≡ t
+  rest-again u v e f = f ∙ e ∙ at-rest
 
-  pub rest-reaches : (minus : Bool) (x a y b : ℕ) (o : Ends) → Reaches (drop 0 (sizes (plain t))) (ofBranches minus (plain t) 0 x a y b) o → Reaches (sizes t) (ofBranches minus t 0 x a y b) o
-  rest-reaches minus x a y b o q = subst (λ (z : List ℕ). Reaches (sizes z) (ofBranches minus z 0 x a y b) o) at-rest q
+  pub rest-reaches : (minus : Bool) (x a y b : ℕ) (o : Ends) → Reaches (drop 0 (sizes (plain t′))) (ofBranches minus (plain t′) 0 x a y b) o → Reaches (sizes t) (ofBranches minus t 0 x a y b) o
+  rest-reaches minus x a y b o z = subst (λ (w : List ℕ). Reaches (sizes w) (ofBranches minus w 0 x a y b) o) at-rest z

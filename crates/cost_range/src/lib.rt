@@ -18,8 +18,9 @@ use cost_words::kept_span;
 use cost_words::sum_or_lost;
 use cost_words::sum_word;
 use table_memory::Memo;
+use table_notes::begin;
 use table_notes::clear;
-use table_notes::clear_far;
+use table_notes::clear_window;
 use table_words::narrow;
 use table_words::size_word;
 use table_words::wide;
@@ -196,9 +197,10 @@ fn whole_ends(t: &mut [u32], s: &mut [u32], minus: bool, a: Arm, b: Arm) -> Ends
     requires { ⌜ (Pair (now t) 0 (a .to) (b .to)) × (Resting (now t)) ⌝ }
     ensures { λ r. ⌜ (now (t .exit) ≡ now (t .entry)) × (Reaches (sizes (now (t .entry))) (ofBranches minus (now (t .entry)) 0 (a .to) (a .adds) (b .to) (b .adds)) r) ⌝ }
 {
-    clear(s);
-    let r = branch_ends(t, s, minus, 0, a, b);
-    clear_far(t);
+    let lent = begin(t, s.len());
+    clear(&mut s[0..lent]);
+    let r = branch_ends(t, &mut s[0..lent], minus, 0, a, b);
+    clear_window(t);
     r
 }
 

@@ -21,6 +21,7 @@ use Rattle.promises.specs.CostSound.{CostSound as Sound}
 pub sound-rest : {w : List ℕ} → Sound w → Resting w
 sound-rest s = record {
   roomy = record { room = s .header .room; most = s .header .most };
+  some = s .header .some;
   empty = record { zeros = λ j h l. s .header .clean .zeros j (omega (arith, s .header .within)) l };
 }
 

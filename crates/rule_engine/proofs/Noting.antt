@@ -1,5 +1,5 @@
 -- The words with notes: what the word of a walk tells, where the walk starts from, and what it ends with. Assumes nothing.
-use mathlib.Core.Path.{_≡_, refl, sym, subst}
+use mathlib.Core.Path.{_≡_, refl, sym, subst, _∙_}
 use mathlib.Core.List.{List}
 use Prim.Native.Nat.{ℕ, _≤_, _<_}
 use native.Mathlib.Omega.{arith}
@@ -47,12 +47,13 @@ none-left w t k g u s o f n r =
     let e = sym (told-none 131072 (omega arith)) in
     (subst (Result w t k g) e r, subst (Still u o f n s) e tt)
 
--- ---- at rest the walk starts from the words without notes ..
-pub operands-plain : (w : List ℕ) (f n k : ℕ) (l : List ℕ) → Operands w f n k l → Resting w → Operands (plain w) f n k l
-operands-plain w f n k l p r = subst (λ (u : List ℕ). Operands u f n k l) (sym (plain-of w (r .empty))) p
+-- ---- from rest the walk starts with the words without notes, which are those of the table ..
+pub operands-plain : (w v : List ℕ) (f n k : ℕ) (l : List ℕ) → Operands w f n k l → Resting w → plain v ≡ plain w → Operands (plain v) f n k l
+operands-plain w v f n k l p r e = subst (λ (u : List ℕ). Operands u f n k l) (sym (e ∙ plain-of w (r .empty))) p
 
 -- .. and its result, with the far records 0 again, is that of the table
-pub joint-cleared : (w t u : List ℕ) (o f n k : ℕ) (l : List ℕ) (r : Answer) → Resting w → u ≡ plain t → Result (plain w) (plain t) k (joint (plain w) o f n k l) r → Result w u k (joint w o f n k l) r
-joint-cleared w t u o f n k l r z e g =
-    subst (λ (v : List ℕ). Result w v k (joint w o f n k l) r) (sym e)
-    (subst (λ (v : List ℕ). Result v (plain t) k (joint v o f n k l) r) (plain-of w (z .empty)) g)
+pub joint-cleared : (w v t u : List ℕ) (o f n k : ℕ) (l : List ℕ) (r : Answer) → Resting w → plain v ≡ plain w → u ≡ plain t → Result (plain v) (plain t) k (joint (plain v) o f n k l) r
+    → Result w u k (joint w o f n k l) r
+joint-cleared w v t u o f n k l r z q e g =
+    subst (λ (x : List ℕ). Result w x k (joint w o f n k l) r) (sym e)
+    (subst (λ (x : List ℕ). Result x (plain t) k (joint x o f n k l) r) (q ∙ plain-of w (z .empty)) g)

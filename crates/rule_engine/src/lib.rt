@@ -12,8 +12,10 @@ use shortcuts::shortcut;
 use table_memory::Memo;
 use table_memory::recall_in;
 use table_memory::remember_in;
+use table_notes::begin;
 use table_notes::clear;
 use table_notes::clear_far;
+use table_notes::clear_window;
 use table_words::capacity_word;
 use table_words::features_word;
 use table_words::size_word;
@@ -122,25 +124,20 @@ fn fill_branches(
     true
 }
 
-// The answer that a word tells.
-fn answer_of(r: u32) -> Answer
-    ensures { λ a. ⌜ a ≡ answerOf r ⌝ }
-{
-    if r < NO_ROOM {
-        return Answer::Is(r);
-    }
-    Answer::NoRoom
-}
-
 // The joint rule of the first n operands, built after the table's nodes, with remembered results in s or in the far records, which are 0 again.
 fn join_in(t: &mut [u32], s: &mut [u32], o: u32, f: usize, n: usize, ops: &[u32; 9]) -> Answer
     requires { ⌜ (Operands (now t) f n 0 (now ops)) × (Resting (now t)) ⌝ }
     ensures { λ r. ⌜ Result (now (t .entry)) (now (t .exit)) 0 (joint (now (t .entry)) o f n 0 (now (ops .entry))) r ⌝ }
 {
-    clear(s);
-    let r = rest_result(t, s, o, f, n, 0, ops);
-    clear_far(t);
-    answer_of(r)
+    let lent = begin(t, s.len());
+    clear(&mut s[0..lent]);
+    let r = rest_result(t, &mut s[0..lent], o, f, n, 0, ops);
+    if NO_ROOM <= r {
+        clear_far(t);
+        return Answer::NoRoom;
+    }
+    clear_window(t);
+    Answer::Is(r)
 }
 
 // The same; where the scratch and the far records are short, own words stand in for the scratch.

@@ -62,6 +62,7 @@ module _ {w : List ℕ} (s : Sound w) where
   pub at-rest : Resting w
   at-rest = record {
     roomy = record { room = s .header .room; most = sound-holds s .laid .laid .most };
+    some = s .header .some;
     empty = record { zeros = λ j h l. s .header .clean .zeros j (omega (arith, s .header .within)) l };
   }
 

@@ -13,7 +13,7 @@ use Rattle.table_words.specs.Table.{Table, nodes}
 use Rattle.table_words.proofs.Filling.{grown-ext}
 use Rattle.table_records.specs.Nodes.{layoutOf}
 use Rattle.table_records.proofs.Making.{lawful}
-use Rattle.table_notes.specs.Far.{memory, Aside}
+use Rattle.table_notes.specs.Far.{memory, Aside, Windowed}
 use Rattle.table_notes.specs.Plain.{plain}
 use Rattle.table_memory.specs.Memory.{Stored, Noted}
 use Rattle.table_memory.proofs.Remembering as M
@@ -34,5 +34,6 @@ module _ {K : Kind} (T : Table K) {n : ℕ} {R : List ℕ → List ℕ → ℕ �
       (more (plain w) (plain w′) ok (lawful T .kept-sizes (plain w) (plain w′) (ok .laid) (g .kept)) (grown-ext (lawful T) (plain w) (plain w′) N ok g e))
 
   -- and its result is remembered, which leaves the table w″
-  pub noted-result : {w″ s″ key : List ℕ} {x y : ℕ} → length key ≡ n → (plain w″ ≡ plain w′) × Stored (memory w′ s) (memory w″ s″) key x y → R (plain w′) key x y → Noted n R w″ s″
+  pub noted-result : {w″ s″ key : List ℕ} {x y : ℕ} → length key ≡ n → (plain w″ ≡ plain w′) × Stored (memory w′ s) (memory w″ s″) key x y × Windowed w″ → R (plain w′) key x y
+      → Noted n R w″ s″
   noted-result {w″} {s″} {key} {x} {y} l m c = M.noted-stored w′ w″ s s″ key x y l noted-made m c

@@ -1,17 +1,16 @@
--- The laws of what walks remember, for anything that its entries may say: none, a hit, one result more, nodes added; in the scratch, or in the far records. Assumes nothing.
+-- The laws of what walks remember, for anything that its entries may say: none, a hit, one result more, nodes added; in the scratch, or in the window. Assumes nothing.
 use mathlib.Core.Path.{_≡_, sym, ap, subst, _∙_}
 use mathlib.Core.Logic.{⊎-elim}
 use mathlib.Core.List.{List, _++_}
 use Prim.Native.Nat.{ℕ, _+_, _*_, _≤_, _<_}
 use native.Mathlib.Omega.{arith}
 use lib.ListN.{length, getD, take, drop, replicate, length-replicate, getD-replicate, List·getD-eq-default}
+use lib.Seq.{length-take-le}
 use Rattle.table_words.specs.Words.{Kept}
 use Rattle.table_words.proofs.Tab.{split}
-use Rattle.table_notes.specs.Plain.{Roomy, Resting, Cleared, plain}
-use Rattle.table_notes.specs.Far.{far, memory, Aside}
-use Rattle.table_notes.proofs.Plain.{plain-roomy}
-use Rattle.table_notes.proofs.Alike.{grown-roomy}
-use Rattle.table_notes.proofs.Far.{memory-far, memory-scratch, aside-memory, length-far, far-part, back-plain, back-memory, rest-cleared}
+use Rattle.table_notes.specs.Plain.{Cleared, plain}
+use Rattle.table_notes.specs.Far.{far, window, memory, Aside, Windowed, Begun}
+use Rattle.table_notes.proofs.Far.{memory-far, memory-scratch, aside-memory, grown-windowed, length-far, far-part, back-plain, back-memory, back-windowed}
 use Rattle.table_memory.specs.Memory.{noted, keyAt, Inside, Remembers, Entry, Recalls, Stored, Noted}
 use Rattle.table_memory.specs.declared.Memo.{Memo}
 use Rattle.table_memory.specs.declared.Memo.the-variants.{Known}
@@ -70,46 +69,52 @@ module _ {n : ℕ} {R : List ℕ → ℕ → ℕ → Type 0} (key : List ℕ) (e
   pub remembers-stored : (s s′ : List ℕ) (x y : ℕ) → Remembers n R s → Stored s s′ key x y → R key x y → Remembers n R s′
   remembers-stored s s′ x y m st c = subst (λ (k : ℕ). Remembers k R s′) e (more s s′ key x y (subst (λ (k : ℕ). Remembers k R s) (sym e) m) st c)
 
--- ---- the scratch, or the far records
--- one result more, in the far records ..
-pub stored-far : (w s ys : List ℕ) (room from m : ℕ) (key : List ℕ) (x y : ℕ) → Roomy w → room ≡ 16 * capacity w → from ≡ 8192 + room → m ≡ room → length s < room
-    → Stored (take m (drop from w)) ys key x y
+-- ---- the scratch, or the window
+-- one result more, in the window, lent as a part ..
+pub stored-far : (w s ys : List ℕ) (from m : ℕ) (key : List ℕ) (x y : ℕ) → Windowed w → from ≡ 8192 + 16 * capacity w → m ≡ window w → 0 < m → Stored (take m (drop from w)) ys key x y
     → (plain (take from w ++ (ys ++ drop m (drop from w))) ≡ plain w) × Stored (memory w s) (memory (take from w ++ (ys ++ drop m (drop from w))) s) key x y
-stored-far w s ys room from m key x y r a b c h st =
-    let f : from ≡ 8192 + 16 * capacity w = omega arith in
-    let g : m ≡ 16 * capacity w = omega arith in
-    let p : take m (drop from w) ≡ far w = far-part w m from g (omega arith) in
-    let l : length ys ≡ 16 * capacity w = st .long ∙ ap length p ∙ length-far w r in
-    rw (f, g) (back-plain w ys r l, rw (back-memory w ys r l s (omega arith), memory-far w s (omega arith)) (subst (λ (u : List ℕ). Stored u ys key x y) p st))
+    × Windowed (take from w ++ (ys ++ drop m (drop from w)))
+stored-far w s ys from m key x y d a e h st =
+    let f : m ≤ 16 * capacity w = omega (arith, d .short) in
+    let p : take m (drop from w) ≡ take m (far w) = far-part w m from a f in
+    let l : length ys ≡ m = st .long ∙ ap length p ∙ length-take-le m (far w) (omega (arith, length-far w (d .roomy))) in
+    let q : memory w s ≡ take m (far w) = memory-far w s (omega (arith, e)) ∙ ap (λ (i : ℕ). take i (far w)) (sym e) in
+    rw a (
+      back-plain w ys m (d .roomy) f l,
+      rw (back-memory w ys m (d .roomy) f l d e s h, q) (subst (λ (u : List ℕ). Stored u ys key x y) p st),
+      back-windowed w ys m (d .roomy) f l d e,
+    )
 
 -- .. or in the scratch
-pub stored-scratch : (w s s′ key : List ℕ) (x y : ℕ) → 16 * capacity w ≤ length s → Stored s s′ key x y → Stored (memory w s) (memory w s′) key x y
-stored-scratch w s s′ key x y h st = rw (memory-scratch w s h, memory-scratch w s′ (omega (arith, st .long))) st
+pub stored-scratch : (w s s′ key : List ℕ) (x y : ℕ) → window w ≡ 0 → Stored s s′ key x y → Stored (memory w s) (memory w s′) key x y
+stored-scratch w s s′ key x y h st = rw (memory-scratch w s (omega arith), memory-scratch w s′ (omega arith)) st
 
 -- what is recalled is what the memory has
-pub recalls-far : (w s : List ℕ) (room from m : ℕ) (key : List ℕ) (r : Memo) → room ≡ 16 * capacity w → from ≡ 8192 + room → m ≡ room → length s < room → Recalls (take m (drop from w)) key r
+pub recalls-far : (w s : List ℕ) (from m : ℕ) (key : List ℕ) (r : Memo) → Windowed w → from ≡ 8192 + 16 * capacity w → m ≡ window w → 0 < m → Recalls (take m (drop from w)) key r
     → Recalls (memory w s) key r
-recalls-far w s room from m key r a b c h q =
-    subst (λ (u : List ℕ). Recalls u key r) (far-part w m from (c ∙ a) (omega arith) ∙ sym (memory-far w s (omega arith))) q
+recalls-far w s from m key r d a e h q =
+    subst (λ (u : List ℕ). Recalls u key r)
+    (far-part w m from a (omega (arith, d .short)) ∙ ap (λ (i : ℕ). take i (far w)) e ∙ sym (memory-far w s (omega arith))) q
 
-pub recalls-scratch : (w s key : List ℕ) (r : Memo) → 16 * capacity w ≤ length s → Recalls s key r → Recalls (memory w s) key r
-recalls-scratch w s key r h q = subst (λ (u : List ℕ). Recalls u key r) (sym (memory-scratch w s h)) q
+pub recalls-scratch : (w s key : List ℕ) (r : Memo) → window w ≡ 0 → Recalls s key r → Recalls (memory w s) key r
+recalls-scratch w s key r h q = subst (λ (u : List ℕ). Recalls u key r) (sym (memory-scratch w s (omega arith))) q
 
 module _ {n : ℕ} {R : List ℕ → List ℕ → ℕ → ℕ → Type 0} where
-  -- at rest
-  pub noted-none : (w s : List ℕ) → Resting w → Cleared s → Noted n R w s
-  noted-none w s r z = record { room = r .roomy; right = remembers-none (memory w s) (rest-cleared w s r z) }
+  -- at the beginning, from a table at rest
+  pub noted-none : (w w′ s : List ℕ) (lent m : ℕ) → Begun w w′ lent m → Cleared s → Noted n R w′ s
+  noted-none w w′ s lent m b z = record { room = b .windowed; right = remembers-none (memory w′ s) (b .none s z) }
 
   -- what is known is right
   pub noted-hit : (w s key : List ℕ) (x y : ℕ) (r : Memo) → length key ≡ n → Noted n R w s → Recalls (memory w s) key r → r ≡ Known x y → 0 < getD key 0 0 → R (plain w) key x y
   noted-hit w s key x y r e d c q h = hit key e (memory w s) x y r (d .right) c q h
 
   -- after `remember_in`: one result more
-  pub noted-stored : (w w′ s s′ key : List ℕ) (x y : ℕ) → length key ≡ n → Noted n R w s → (plain w′ ≡ plain w) × Stored (memory w s) (memory w′ s′) key x y → R (plain w) key x y → Noted n R w′ s′
+  pub noted-stored : (w w′ s s′ key : List ℕ) (x y : ℕ) → length key ≡ n → Noted n R w s → (plain w′ ≡ plain w) × Stored (memory w s) (memory w′ s′) key x y × Windowed w′
+      → R (plain w) key x y → Noted n R w′ s′
   noted-stored w w′ s s′ key x y e d m c =
       let p = m .0 in
-      record { room = plain-roomy w w′ p (d .room); right = rw p (remembers-stored key e (memory w s) (memory w′ s′) x y (d .right) (m .1) c) }
+      record { room = m .2; right = rw p (remembers-stored key e (memory w s) (memory w′ s′) x y (d .right) (m .1) c) }
 
   -- after nodes were added, where what was said is said of more nodes
   pub noted-made : (w w′ s : List ℕ) → Noted n R w s → Kept (plain w) (plain w′) → Aside w w′ → ((key : List ℕ) (x y : ℕ) → R (plain w) key x y → R (plain w′) key x y) → Noted n R w′ s
-  noted-made w w′ s d k a f = let q = aside-memory w w′ s a in record { room = grown-roomy w w′ k (d .room); right = rw q (remembers-map (memory w s) f (d .right)) }
+  noted-made w w′ s d k a f = let q = aside-memory w w′ s a in record { room = grown-windowed w w′ k a (d .room); right = rw q (remembers-map (memory w s) f (d .right)) }

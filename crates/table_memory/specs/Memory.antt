@@ -4,8 +4,8 @@ use mathlib.Core.Logic.{_⊎_}
 use mathlib.Core.List.{List}
 use Prim.Native.Nat.{ℕ, _+_, _*_, _≤_, _<_}
 use lib.ListN.{length, getD, take, drop}
-use Rattle.table_notes.specs.Far.{memory}
-use Rattle.table_notes.specs.Plain.{Roomy, plain}
+use Rattle.table_notes.specs.Far.{memory, Windowed}
+use Rattle.table_notes.specs.Plain.{plain}
 use Rattle.table_memory.specs.declared.Memo.{Memo}
 use Rattle.table_memory.specs.declared.Memo.the-variants.{Known, Unknown}
 
@@ -44,5 +44,5 @@ pub record Stored (s s′ key : List ℕ) (x y : ℕ) : Type 0 where
 
 -- what a walk over the table w remembers, there or in the scratch s, is right: R says so of the words without notes
 pub record Noted (n : ℕ) (R : List ℕ → List ℕ → ℕ → ℕ → Type 0) (w s : List ℕ) : Type 0 where
-  pub room : Roomy w
+  pub room : Windowed w
   pub right : Remembers n (R (plain w)) (memory w s)

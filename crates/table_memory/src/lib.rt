@@ -1,18 +1,19 @@
-// What a walk over a table remembers, in lent scratch words or, where these are fewer, in the far records: entries of a key's words, the first of them not 0
-// (0: empty), and the two words of a result.
+// What a walk over a table remembers, in lent scratch words or in the far records' window: entries of a key's words, the first of them not 0 (0: empty),
+// and the two words of a result.
 mod slots; // slots.rt: which entries a result is remembered in
 
 use slots::mixed;
 use slots::slot_after;
 use slots::slot_at;
+use table_notes::window_word;
 use table_words::RECORDS;
 use table_words::capacity_word;
 use table_words::wide;
 ghost use mathlib.Core.Path.{_≡_};
 ghost use Prim.Native.Nat.{_<_};
 ghost use lib.ListN.{length, getD};
-ghost use Rattle.table_notes.specs.Far.{memory};
-ghost use Rattle.table_notes.specs.Plain.{Roomy, plain};
+ghost use Rattle.table_notes.specs.Far.{memory, Windowed};
+ghost use Rattle.table_notes.specs.Plain.{plain};
 ghost use Rattle.table_memory.specs.Memory.{Inside, Recalls, Stored};
 
 // A remembered result, or none.
@@ -103,29 +104,30 @@ pub fn remember(s: &mut [u32], o: u32, key: &[u32], x: u32, y: u32)
 
 // What is remembered for a key, of the table t with the scratch s.
 pub fn recall_in(t: &[u32], s: &[u32], o: u32, key: &[u32]) -> Memo
-    requires { ⌜ Roomy (now t) ⌝ }
+    requires { ⌜ Windowed (now t) ⌝ }
     ensures { λ r. ⌜ Recalls (memory (now (t .entry)) (now (s .entry))) (now (key .entry)) r ⌝ }
 {
-    let room = 16 * wide(capacity_word(t));
-    if s.len() < room {
-        let from = RECORDS + room;
-        let end = from + room;
-        return recall(&t[from..end], o, key);
+    let m = window_word(t);
+    if m == 0 {
+        return recall(s, o, key);
     }
-    recall(s, o, key)
+    let from = RECORDS + 16 * wide(capacity_word(t));
+    let end = from + m;
+    recall(&t[from..end], o, key)
 }
 
 // Remembers the result's words x and y for a key.
 pub fn remember_in(t: &mut [u32], s: &mut [u32], o: u32, key: &[u32], x: u32, y: u32)
-    requires { ⌜ (Roomy (now t)) × (0 < getD (now key) 0 0) ⌝ }
-    ensures { λ _. ⌜ (plain (now (t .exit)) ≡ plain (now (t .entry))) × (Stored (memory (now (t .entry)) (now (s .entry))) (memory (now (t .exit)) (now (s .exit))) (now (key .entry)) x y) ⌝ }
+    requires { ⌜ (Windowed (now t)) × (0 < getD (now key) 0 0) ⌝ }
+    ensures { λ _. ⌜ (plain (now (t .exit)) ≡ plain (now (t .entry))) × (Stored (memory (now (t .entry)) (now (s .entry))) (memory (now (t .exit)) (now (s .exit))) (now (key .entry)) x y)
+        × (Windowed (now (t .exit))) ⌝ }
 {
-    let room = 16 * wide(capacity_word(t));
-    if s.len() < room {
-        let from = RECORDS + room;
-        let end = from + room;
-        remember(&mut t[from..end], o, key, x, y);
+    let m = window_word(t);
+    if m == 0 {
+        remember(s, o, key, x, y);
         return;
     }
-    remember(s, o, key, x, y);
+    let from = RECORDS + 16 * wide(capacity_word(t));
+    let end = from + m;
+    remember(&mut t[from..end], o, key, x, y);
 }

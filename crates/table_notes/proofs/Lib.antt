@@ -1,3 +1,4 @@
 pub mod Plain
 pub mod Alike
 pub mod Far
+pub mod Windows

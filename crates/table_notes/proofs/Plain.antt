@@ -8,7 +8,7 @@ use borrow.Author.Tests.{lt-ltb, le-ltb}
 use lib.ListN.{length, getD, set, length-set, List·getD-eq-default}
 use lib.Seq.{getD-set-other, ext-getD}
 use Rattle.table_words.proofs.Tab.{split, length-tab, getD-tab}
-use Rattle.table_notes.specs.Plain.{Roomy, plainAt, plain}
+use Rattle.table_notes.specs.Plain.{plainAt, plain}
 use Rattle.promises.specs.Words.{head, capacity, bound, Zeros}
 
 -- ---- the words one by one
@@ -75,10 +75,3 @@ module _ (w : List ℕ) (p c : ℕ) (from : 8192 + 16 * capacity w ≤ p) (below
 pub plain-capacity : (w : List ℕ) → capacity (plain w) ≡ capacity w
 unfolding head
 plain-capacity w = plain-near w 1 (omega arith)
-
--- words with the same far records 0 have the same room
-pub plain-roomy : (w u : List ℕ) → plain u ≡ plain w → Roomy w → Roomy u
-plain-roomy w u e r =
-    let l : length u ≡ length w = sym (length-plain u) ∙ (λ i. length (e i)) ∙ length-plain w in
-    let c : capacity u ≡ capacity w = sym (plain-capacity u) ∙ (λ i. capacity (e i)) ∙ plain-capacity w in
-    record { room = omega (arith, l, c, r .room); most = omega (arith, c, r .most) }

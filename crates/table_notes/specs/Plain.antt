@@ -22,6 +22,7 @@ plain w = tab (plainAt w) (length w)
 -- the far records are there, and hold nothing
 pub record Resting (w : List ℕ) : Type 0 where
   pub roomy : Roomy w
+  pub some : 1 ≤ capacity w
   pub empty : Zeros w (8192 + 16 * capacity w) (bound (capacity w))
 
 -- all words are 0

@@ -4,7 +4,7 @@ use Rattle.both_choose.proofs.Recalling.{hit, says-more, result-says, s
 use Rattle.theory.proofs.Growing.{make-grows}
 use Rattle.cost_words.specs.Table.{costTable}
 use Rattle.table_memory.proofs.Building.{noted-result}
-use Rattle.table_notes.proofs.Alike.{grown-roomy}
+use Rattle.table_notes.proofs.Far.{grown-windowed}
 use Rattle.both_choose.proofs.Walking.{skip-most, choices-skip, choice-skip, first-place, second-place, choice-ends, still-left, choice-near, rule-step, choice-held}
 use Rattle.both_choose.proofs.Walking.{choices-step, choices-ext, more-fits, more-is, targets, sum-fits, choice-raised, choice-stopped}
 use Rattle.both_choose.specs.Memory.{Noted, Still, StillIf}
@@ -367,7 +367,7 @@ rest-result-make-in-requires t c κs =
     let p = a .pre .1 .0 in
     let hk = still-left _ _ _ _ _ _ _ p (sure-not (c22 .if1 .left) (c23 .is-number .ensures)) in
     let fl = filled _ _ _ _ _ _ _ (c .before .before .before .if3 .taken) (c8 .fill-branches .ensures .0) in (
-      subst (StillIf _ _ _) (c .before .before .before .if3 .taken) (c8 .fill-branches .ensures .1) .room,
+      subst (StillIf _ _ _) (c .before .before .before .if3 .taken) (c8 .fill-branches .ensures .1) .room .roomy,
       fl .filled .grown .well,
       omega (arith, kept-features _ _ (fl .filled .grown .kept)),
       fill-armed _ _ _ (p .holds) hk _ _ _ fl (choice-near _ _ _ _ _ _ _ p) (p .narrow),
@@ -388,7 +388,8 @@ rest-result-remember-in-requires : (t : ℕ) → rest-result-lts.Need-remember-i
 rest-result-remember-in-requires t c κs =
     let c7 = c .before .before .before .before .before .before .before in let c11 = c7 .before .before .before .before in let c16 = c11 .before .before .before .before .before in
     let c26 = c16 .before .before .before .before .before .before .before .before .before .before in
-    (grown-roomy _ _ (c7 .make-in .ensures .0 .grown .kept) (subst (StillIf _ _ _) (c11 .if3 .taken) (c16 .fill-branches .ensures .1) .room), omega (arith, c26 .tag-of .ensures))
+    let r = subst (StillIf _ _ _) (c11 .if3 .taken) (c16 .fill-branches .ensures .1) .room in
+    (grown-windowed _ _ (c7 .make-in .ensures .0 .grown .kept) (c7 .make-in .ensures .1) r, omega (arith, c26 .tag-of .ensures))
 
 rest-result-returns-6 : (t : ℕ) → rest-result-lts.Need-returns-6 (rest-result-claims t) (rest-result-at t) rest-result.Post
 rest-result-returns-6 t c =

@@ -15,7 +15,7 @@ use Rattle.theory.proofs.Growing.{make-grows}
 use Rattle.cost_words.specs.Table.{costTable}
 use Rattle.table_memory.proofs.Building.{noted-result}
 use Rattle.table_memory.proofs.Remembering.{noted-hit}
-use Rattle.table_notes.proofs.Alike.{grown-roomy}
+use Rattle.table_notes.proofs.Far.{grown-windowed}
 use Rattle.cost_notes.proofs.Reading.{plain-head}
 use Rattle.cost_engine.specs.Joint.{jointFrom, Operands}
 use Rattle.cost_engine.specs.Memory.{Noted, Still, StillIf}
@@ -198,6 +198,12 @@ fill-branches-arm-in-requires-2 t c κs =
       omega (arith, kept-size _ _ kp (a .pre .1 .0 .holds .laid .laid .few) (a .args .k) (a .pre .1 .2), l .inv .0, c .before .before .before .loop-test),
     )
 
+fill-branches-add-branch-result : (t : ℕ) → fill-branches-lts.Need-add-branch-result (fill-branches-claims t)
+    (fill-branches-at t) fill-branches.Post fill-branches-Inv-loop fill-branches-μ-loop
+fill-branches-add-branch-result t c =
+    let a = c .before .before .before .before .before .before .before .before .before .before .before .before .before in
+    omega (arith, a .pre .1 .0 .holds .laid .laid .few, a .pre .1 .2)
+
 fill-branches-branch-result-requires : (t : ℕ) → fill-branches-lts.Need-branch-result-requires (fill-branches-claims t)
     (fill-branches-at t) fill-branches.Post fill-branches-Inv-loop fill-branches-μ-loop
 fill-branches-branch-result-requires t c κs =
@@ -332,7 +338,7 @@ rest-result-make-in-requires t c κs =
     let c23 = c8 .before .before .before .before .before .before .before .before .before .before .before .before .before .before .before in let a = c23 .before .before .before in
     let hk = still-left _ _ _ _ _ _ (a .pre .1 .0) (c23 .if1 .left) in
     let fl = filled _ _ _ _ _ _ _ (c .before .before .before .if3 .taken) (c8 .fill-branches .ensures .0) in (
-      subst (StillIf _ _ _) (c .before .before .before .if3 .taken) (c8 .fill-branches .ensures .1) .room,
+      subst (StillIf _ _ _) (c .before .before .before .if3 .taken) (c8 .fill-branches .ensures .1) .room .roomy,
       fl .filled .grown .well,
       omega (arith, kept-features _ _ (fl .filled .grown .kept)),
       fill-armed _ _ _ (a .pre .1 .0 .holds) hk _ _ _ fl (a .pre .1 .0 .bounded .spread) (a .pre .1 .0 .narrow),
@@ -351,7 +357,8 @@ rest-result-remember-in-requires : (t : ℕ) → rest-result-lts.Need-remember-i
 rest-result-remember-in-requires t c κs =
     let c7 = c .before .before .before .before .before .before .before in let c11 = c7 .before .before .before .before in let c16 = c11 .before .before .before .before .before in
     let c26 = c16 .before .before .before .before .before .before .before .before .before .before in
-    (grown-roomy _ _ (c7 .make-in .ensures .0 .grown .kept) (subst (StillIf _ _ _) (c11 .if3 .taken) (c16 .fill-branches .ensures .1) .room), omega (arith, c26 .narrow .ensures))
+    let r = subst (StillIf _ _ _) (c11 .if3 .taken) (c16 .fill-branches .ensures .1) .room in
+    (grown-windowed _ _ (c7 .make-in .ensures .0 .grown .kept) (c7 .make-in .ensures .1) r, omega (arith, c26 .narrow .ensures))
 
 rest-result-returns-6 : (t : ℕ) → rest-result-lts.Need-returns-6 (rest-result-claims t) (rest-result-at t) rest-result.Post
 rest-result-returns-6 t c =
@@ -402,7 +409,7 @@ pub +branch-result+fill-branches+rest-result-spec : {M : Type 1} → statement M
     (fill-branches-loop-holds t)
     (fill-branches-arm-in-requires t)
     (fill-branches-arm-in-requires-2 t)
-    (λ c. search needs)
+    (fill-branches-add-branch-result t)
     (fill-branches-branch-result-requires t)
     (λ c. search needs)
     (λ c. search needs)

@@ -176,7 +176,7 @@ abbrev fold-branches-μ-loop : fold-branches-lts.MeasureT-loop
 fold-branches-μ-loop t₀ s₀ minus k x y m low₀ high₀ v₀ t s low high v = m - v
 
 fold-branches-size-word-requires : (t : ℕ) → fold-branches-lts.Need-size-word-requires (fold-branches-claims t) (fold-branches-at t) fold-branches.Post fold-branches-Inv-loop fold-branches-μ-loop
-fold-branches-size-word-requires t c κs = let a = (c .before .before .before) in omega (arith, a .pre .1 .1 .room .room, a .pre .1 .2, a .pre .1 .0 .holds .laid .laid .few)
+fold-branches-size-word-requires t c κs = let a = (c .before .before .before) in omega (arith, a .pre .1 .1 .room .roomy .room, a .pre .1 .2, a .pre .1 .0 .holds .laid .laid .few)
 
 fold-branches-loop-holds : (t : ℕ) → fold-branches-lts.Need-loop-holds (fold-branches-claims t) (fold-branches-at t) fold-branches.Post fold-branches-Inv-loop fold-branches-μ-loop
 fold-branches-loop-holds t c =
@@ -346,7 +346,7 @@ rest-ends-returns-5 t c =
     let q = ends-are (z .result) (c8 .l .given .1) (z .ensures .0) in (
       reaches-jump _ _ _ _ p (a .args .minus) j (m .ensures .0) (m .ensures .1) kj hj (Are _ _) q,
       u .ensures .0 ∙ z .ensures .1,
-      noted-more (a .args .minus) _ _ _ _ _ _ _ _ refl (z .ensures .1) (u .ensures .0) (z .ensures .2) (u .ensures .1) (right-here (a .args .minus) _ j _ _ _ (c22 .narrow .ensures) q),
+      noted-more (a .args .minus) _ _ _ _ _ _ _ _ refl (z .ensures .1) (u .ensures) (z .ensures .2) (right-here (a .args .minus) _ j _ _ _ (c22 .narrow .ensures) q),
     )
 
 pub +branch-ends+fold-branches+rest-ends-spec : {M : Type 1} → statement M

@@ -2,7 +2,7 @@
 use Rattle.theory.proofs.Growing.{make-grows}
 use Rattle.rule_words.specs.Table.{ruleTable}
 use Rattle.table_memory.proofs.Building.{noted-result}
-use Rattle.table_notes.proofs.Alike.{grown-roomy}
+use Rattle.table_notes.proofs.Far.{grown-windowed}
 use Rattle.rule_engine.proofs.Recalling.{key-part, right-here, right-more, hit, result-recalled}
 use Rattle.rule_engine.proofs.Noting.{plain-features, told-is, told-none, word-left, none-left}
 use Rattle.rule_engine.proofs.Joining.{joint-held, lowest-from, operands-next, operands-jump, operands-ext, joint-jump, joint-forget, joint-phrases, joint-short}
@@ -261,7 +261,7 @@ node-result-make-in-requires t c κs =
     let c6 = c .before .before .before .before .before .before in
     let a = c6 .before .before .before .before .before .before .before .before .before .before .before .before .before .before .before .before in
     let fl = filled _ _ _ _ _ _ (c .before .if2 .taken) (c6 .fill-branches .ensures .0) in (
-      subst (StillIf _ _ _ _ _) (c .before .if2 .taken) (c6 .fill-branches .ensures .1) .room,
+      subst (StillIf _ _ _ _ _) (c .before .if2 .taken) (c6 .fill-branches .ensures .1) .room .roomy,
       fl .filled .grown .well,
       omega (arith, kept-features _ _ (fl .filled .grown .kept), a .pre .1 .2),
       fill-listed _ _ _ (a .pre .1 .0 .holds) (a .pre .1 .2) _ _ fl,
@@ -285,7 +285,7 @@ node-result-remember-in-requires : (t : ℕ) → node-result-lts.Need-remember-i
 node-result-remember-in-requires t c κs =
     let c9 = c .before .before .before .before .before .before .before .before .before in let c11 = c9 .before .before in let c16 = c11 .before .before .before .before .before in
     let c27 = c16 .before .before .before .before .before .before .before .before .before .before .before in let a = c27 .before .before .before .before .before in (
-      grown-roomy _ _ (c9 .make-in .ensures .0 .grown .kept) (subst (StillIf _ _ _ _ _) (c11 .if2 .taken) (c16 .fill-branches .ensures .1) .room),
+      grown-windowed _ _ (c9 .make-in .ensures .0 .grown .kept) (c9 .make-in .ensures .1) (subst (StillIf _ _ _ _ _) (c11 .if2 .taken) (c16 .fill-branches .ensures .1) .room),
       omega (arith, key-part (a .args .n) (a .args .k) (a .args .ops .now) _ (c27 .key-of .ensures .0) .feature),
     )
 

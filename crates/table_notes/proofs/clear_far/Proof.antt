@@ -1,5 +1,5 @@
 -- `table_notes::clear_far` meets its contract: the far records, lent as a part, are made 0. Assumes nothing.
-use Rattle.table_notes.proofs.Far.{cleared-far}
+use Rattle.table_notes.proofs.Windows.{cleared-far}
 use native.Mathlib.Omega.{arith}
 use Prim.Native.Nat.{ℕ, _+_, _*_, _-_}
 use mathlib.Core.Path.{_≡_, refl, ap, _∙_}
