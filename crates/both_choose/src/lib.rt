@@ -1,4 +1,6 @@
 // The engine of CHOOSE: where a rule of a lent rule table is not 0 the first of two costs, else the second, with remembered results in lent scratch words or in the far records.
+#![tactic(auto)]
+
 ghost use Rattle.std.specs.Prelude.{◌≡◌, ◌≤◌, ◌<◌};
 ghost use Rattle.theory.specs.Diagrams.{meaning};
 ghost use Rattle.table_records.specs.Laid.{Laid};

@@ -1,4 +1,6 @@
 // The engine of less: a walk over two costs of a cost table builds the rule "first below second" in a rule table, with remembered results in lent scratch words.
+#![tactic(auto)]
+
 ghost use Rattle.std.specs.Prelude.{cond, ◌≡◌, ◌<◌, pos, replicate};
 ghost use Rattle.std.specs.Int.Signed.{lt_z};
 ghost use Rattle.theory.specs.Diagrams.{meaning};

@@ -1,4 +1,6 @@
 // Results of a call for C, laid into lent words, as many as fit.
+#![tactic(auto)]
+
 ghost use Rattle.std.specs.Prelude.{◌≡◌, [], ◌∷◌, ◌/◌, ◌%◌, ◌<◌, set};
 ghost use Rattle.c_results.specs.Laying.{laid};
 ghost use Rattle.promises.specs.ForC.{placed, bit, halves};

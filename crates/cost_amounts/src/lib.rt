@@ -1,4 +1,6 @@
 // Signed numbers at the public edge, and the words that stand for them inside.
+#![tactic(auto)]
+
 ghost use Rattle.std.specs.Prelude.{◌≡◌};
 ghost use Rattle.settings.specs.Tells.{Tells};
 ghost use Rattle.promises.specs.Integers.{Fit, int};

@@ -1,4 +1,6 @@
 // The end of every call that writes a cost table: a cost into its place, then the collector.
+#![tactic(auto)]
+
 ghost use Rattle.std.specs.Prelude.{◌<◌};
 ghost use Rattle.theory.specs.Diagrams.{meaning};
 ghost use Rattle.theory.specs.WellFormed.{Ok};

@@ -1,4 +1,6 @@
 // The engine of costs: one walk serves add, subtract, smaller, larger and scale on a cost table, with remembered results in lent scratch words or in the far records.
+#![tactic(auto)]
+
 mod operators; // operators.rt: the operators in words that stand for integers
 
 ghost use Rattle.std.specs.Prelude.{◌<◌};

@@ -11,7 +11,7 @@ use cost_words::{ZERO, difference_word, sum_word};
 use table_words::wide;
 
 // What joins two costs; scale has one, and the word that stands for its factor.
-#[derive(Drop)]
+#[derive(Clone, Copy)]
 pub enum Operator {
     Add,
     Subtract,

@@ -1,4 +1,6 @@
 // The nodes of a cost table: the unique search, the making of a node, the branches of places, and steps down a diagram.
+#![tactic(auto)]
+
 ghost use Rattle.std.specs.Prelude.{◌≡◌, ℕ, ◌+◌, ◌≤◌, ◌<◌, ◌-ℤ◌, length};
 ghost use Rattle.theory_costs.specs.Relative.{branch_at};
 ghost use Rattle.table_words.specs.Words.{listed};
@@ -20,14 +22,14 @@ use table_words::{
 };
 
 // The answer of the unique search: where the branch goes that is there, or that its node must be made.
-#[derive(Drop)]
+#[derive(Clone, Copy)]
 pub enum Found {
     At(Target),
     Missing,
 }
 
 // The answer of a function that may add nodes: the words of the branch's target and of what it adds, or that there was no room.
-#[derive(Drop)]
+#[derive(Clone, Copy)]
 pub enum Answer {
     Is(u32, u32),
     NoRoom,
@@ -103,7 +105,7 @@ pub fn make(t: &mut [u32], k: usize, goes: &[u32; 8], adds: &[u32; 8]) -> Answer
 }
 
 // A branch: the words of its target and of what it adds.
-#[derive(Drop)]
+#[derive(Clone, Copy)]
 pub struct Arm {
     pub to: u32,
     pub adds: u32,

@@ -1,4 +1,6 @@
 // A cost table while a walk works on it, told of the words without its notes: steps down a diagram, the making of a node, and what the walk remembers.
+#![tactic(auto)]
+
 mod operators; // operators.rt: the numbers of the operators
 
 ghost use Rattle.std.specs.Prelude.{◌≡◌, [], ◌∷◌, ℕ, ◌≤◌, ◌<◌};

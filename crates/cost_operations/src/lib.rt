@@ -1,4 +1,6 @@
 // The operations of the cost table: price list, add, subtract, smaller, larger, scale.
+#![tactic(auto)]
+
 mod call_add; // call_add.rt: the sum of two places' costs
 mod call_larger; // call_larger.rt: the larger of two places' costs
 mod call_price; // call_price.rt: a price for each value of a feature

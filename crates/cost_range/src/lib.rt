@@ -1,6 +1,8 @@
 // Whether the result of an operation on costs stays in its range, found by reading: scale by the lowest and the highest amount of its cost, which its
 // root keeps. A sum or a difference stays there at once where these allow it; else a walk over pairs of targets gives its own lowest and highest
 // amount, with remembered results in lent scratch words or in the far records. It stops where one side has ended.
+#![tactic(auto)]
+
 ghost use Rattle.std.specs.Prelude.{◌≡◌, ◌+◌, ◌≤◌, ◌<◌, drop, ◌*ℤ◌};
 ghost use Rattle.theory.specs.Diagrams.{meaning};
 ghost use Rattle.table_notes.specs.Plain.{Resting, plain};
@@ -26,7 +28,7 @@ use table_notes::{begin, clear, clear_window};
 use table_words::{narrow, size_word, wide};
 
 // The words of the lowest and of the highest amount, or that no base brings all amounts into range.
-#[derive(Drop)]
+#[derive(Clone, Copy)]
 enum Ends {
     Are(u32, u32),
     Lost,

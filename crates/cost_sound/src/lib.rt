@@ -1,4 +1,6 @@
 // The soundness test of a cost table. It reads any slice, and writes nothing.
+#![tactic(auto)]
+
 mod range; // range.rt: the pairs kept for the nodes, and the costs in their range
 
 ghost use Rattle.std.specs.Prelude.{◌≤◌, ◌<◌};

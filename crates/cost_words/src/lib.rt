@@ -1,4 +1,6 @@
 // What the words of a cost table say: targets in half words, added integers, roots and bases.
+#![tactic(auto)]
+
 mod sides; // sides.rt: the lowest and the highest sum kept for each node
 mod sums; // sums.rt: sums that may have no word
 
@@ -23,7 +25,7 @@ const WIDE_ZERO: u64 = 2147483648;
 pub const FIRST: u32 = 1;
 
 // Where a branch goes: to the end or to a node.
-#[derive(Drop)]
+#[derive(Clone, Copy)]
 pub enum Target {
     End,
     Node(u32),

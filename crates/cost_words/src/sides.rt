@@ -7,7 +7,7 @@ use crate::sums::{further, sum_or_lost};
 use table_words::{half_of, record_word, wide};
 
 // The words of a lowest and of a highest sum.
-#[derive(Drop)]
+#[derive(Clone, Copy)]
 pub struct Span {
     pub low: u32,
     pub high: u32,

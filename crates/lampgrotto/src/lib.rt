@@ -1,5 +1,7 @@
 // The calls for C. Each answers the scope's refusal number, 0 where the call was taken; other results go into the lent words out,
 // as many as fit.
+#![tactic(auto)]
+
 mod filing; // filing.rt: the calls between a table and sheets
 mod reading; // reading.rt: the calls that only read, and the stepper
 mod writing; // writing.rt: the calls that write a table

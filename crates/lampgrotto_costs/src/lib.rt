@@ -1,5 +1,7 @@
 // The cost calls for C. Each answers the scope's refusal number, 0 where the call was taken; other results go into the lent words out,
 // as many as fit.
+#![tactic(auto)]
+
 mod both; // both.rt: the calls that are lent a rule table and a cost table
 mod building; // building.rt: the calls that build nodes
 mod reading; // reading.rt: the calls that only read

@@ -1,4 +1,6 @@
 // The rule table: opening, constant, copy, look up, same, tally; and the door of every call on a rule table.
+#![tactic(auto)]
+
 mod at_the_door; // at_the_door.rt: the table and the places tested
 mod call_constant; // call_constant.rt: a constant into a place
 mod call_copy; // call_copy.rt: one place's rule into another

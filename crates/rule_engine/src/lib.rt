@@ -1,4 +1,6 @@
 // The engine: one walk serves apply, CASE and forget on a rule table, with remembered results in lent scratch words or in the far records.
+#![tactic(auto)]
+
 mod operands; // operands.rt: the operands at a feature
 mod shortcuts; // shortcuts.rt: where nothing is walked
 

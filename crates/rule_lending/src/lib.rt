@@ -1,5 +1,7 @@
 // What a rule table lends to the part above it: the branch of a place, steps down from it, the feature that it tests, the number that it is;
 // nodes made of branches, and the end of a call that builds. The part above knows branches by the laws of proofs/ alone.
+#![tactic(auto)]
+
 ghost use Rattle.std.specs.Prelude.{◌≡◌, ℕ, ◌<◌};
 ghost use Rattle.settings.specs.Tells.{Tells};
 ghost use Rattle.rule_lending.specs.Lending.{Lent, Lends, Roots, Goes, Tops, Number, Says, key_of, phrases};
@@ -15,7 +17,7 @@ use settings::Outcome;
 use table_words::{count_word, wide};
 
 // The answer of a function that may add nodes: the branch word, or that there was no room.
-#[derive(Drop)]
+#[derive(Clone, Copy)]
 pub enum Answer {
     Is(u32),
     NoRoom,

@@ -1,4 +1,6 @@
 // The scope's "next": the first setting at or after a given one with a given number, by one pass over the nodes and two descents.
+#![tactic(auto)]
+
 ghost use Rattle.std.specs.Prelude.{◌≡◌, ◌+◌, ◌≤◌, ◌<◌, drop};
 ghost use Rattle.std.proofs.Math.Seq.{slice};
 ghost use Rattle.theory.specs.Diagrams.{next};
@@ -15,14 +17,14 @@ use settings::Setting;
 use table_words::{features_word, record_word, size_word, wide};
 
 // What the search answers: whether there is such a setting, and the setting.
-#[derive(Drop)]
+#[derive(Clone, Copy)]
 pub struct Seen {
     pub found: bool,
     pub setting: Setting,
 }
 
 // What the search finds: whether there is such a setting, and the places that hold it.
-#[derive(Drop)]
+#[derive(Clone, Copy)]
 struct Sought {
     found: bool,
     values: [u8; 16],

@@ -1,4 +1,6 @@
 // The nodes of a rule table: the unique search, the making of a node, and steps down a diagram.
+#![tactic(auto)]
+
 ghost use Rattle.std.specs.Prelude.{◌≡◌, ◌+◌, ◌≤◌, ◌<◌};
 ghost use Rattle.theory.specs.Diagrams.{next};
 ghost use Rattle.table_records.specs.Laid.{Laid};
@@ -12,14 +14,14 @@ use table_records::{find_record, push};
 use table_words::{capacity_word, count_word, features_word, narrow, record_word, size_word, wide};
 
 // The answer of the unique search: the branch that is there, or that its node must be made.
-#[derive(Drop)]
+#[derive(Clone, Copy)]
 pub enum Found {
     At(Branch),
     Missing,
 }
 
 // The answer of a function that may add nodes: the branch word, or that there was no room.
-#[derive(Drop)]
+#[derive(Clone, Copy)]
 pub enum Answer {
     Is(u32),
     NoRoom,

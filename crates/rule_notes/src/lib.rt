@@ -1,4 +1,6 @@
 // A rule table while a walk works on it, told of the words without its notes: steps down a diagram, and the making of a node.
+#![tactic(auto)]
+
 ghost use Rattle.std.specs.Prelude.{◌≡◌, ◌+◌, ◌<◌};
 ghost use Rattle.theory.specs.Diagrams.{next};
 ghost use Rattle.table_records.specs.Laid.{Laid};

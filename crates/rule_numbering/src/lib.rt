@@ -1,5 +1,7 @@
 // The nodes that branches reach, numbered depth first, branch 0 first, each when its branches are done: the order in which rules are built.
 // Word i of the notes is 1 + the number of node i, or 0; word 4,096 + j is the node that has the number j.
+#![tactic(auto)]
+
 ghost use Rattle.std.specs.Prelude.{◌≡◌, ◌≤◌, ◌<◌, length};
 ghost use Rattle.rule_numbering.specs.Walkable.{Walkable, Stands};
 ghost use Rattle.rule_numbering.specs.Numbering.{member, renumbered, Noted, Numbers};

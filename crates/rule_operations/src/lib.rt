@@ -1,4 +1,6 @@
 // The operations of the rule table: literal, CASE, apply, restrict, forget, count, next.
+#![tactic(auto)]
+
 mod call_apply; // call_apply.rt: the operator of two places' numbers
 mod call_case; // call_case.rt: of several places' numbers the one that a selector names
 mod call_count; // call_count.rt: how many settings have a number

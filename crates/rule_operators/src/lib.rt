@@ -1,4 +1,6 @@
 // The operators on phrase numbers: apply's five, CASE and forget.
+#![tactic(auto)]
+
 ghost use Rattle.std.specs.Prelude.{◌≡◌, ◌≤◌, drop};
 ghost use Rattle.table_words.specs.Words.{listed};
 ghost use Rattle.rule_operators.specs.Operators.{op_of};

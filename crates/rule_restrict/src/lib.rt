@@ -1,4 +1,6 @@
 // Restrict on a rule table: a feature held at a value. The walk remembers the result of each node in the far records.
+#![tactic(auto)]
+
 ghost use Rattle.std.specs.Prelude.{◌≡◌, ◌≤◌, ◌<◌, set};
 ghost use Rattle.rule_nodes.specs.Nodes.{Result};
 ghost use Rattle.table_notes.specs.Plain.{Roomy, plain};

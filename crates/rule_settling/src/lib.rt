@@ -1,4 +1,6 @@
 // The end of every call that builds: the result is put into its place, or what was built is taken back.
+#![tactic(auto)]
+
 ghost use Rattle.rule_settling.specs.Settling.{Asks, Settled};
 
 use rule_collect::finish;

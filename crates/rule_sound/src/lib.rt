@@ -1,4 +1,6 @@
 // The soundness test of a rule table. It reads any slice, and writes nothing.
+#![tactic(auto)]
+
 ghost use Rattle.std.specs.Prelude.{◌+◌, ◌*◌, ◌≤◌, ◌<◌};
 ghost use Rattle.settings.specs.Tells.{Tells};
 ghost use Rattle.promises.specs.Words.{features, count, feature, Zeros};

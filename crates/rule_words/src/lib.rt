@@ -1,4 +1,6 @@
 // What the words of a rule table say: a branch in a word, the roots.
+#![tactic(auto)]
+
 ghost use Rattle.std.specs.Prelude.{◌≡◌, ◌+◌, ◌≤◌, ◌<◌, length};
 ghost use Rattle.rule_words.specs.Words.{branch_of, Worded};
 ghost use Rattle.promises.specs.RuleWords.{decode, rule_root as root};
@@ -9,7 +11,7 @@ use table_words::head_word;
 pub const NUMBERS: u32 = 65536;
 
 // A branch: a phrase number or a node.
-#[derive(Drop)]
+#[derive(Clone, Copy)]
 pub enum Branch {
     Phrase(u32),
     Node(u32),

@@ -3,7 +3,7 @@ ghost use Rattle.std.specs.Prelude.{◌≡◌};
 ghost use Rattle.settings.specs.Refusals.{number_of, outcome_number};
 
 // The refusals, in the order of the scope's table.
-#[derive(Drop)]
+#[derive(Clone, Copy)]
 pub enum Refusal {
     Damaged,
     BadPlace,
@@ -20,7 +20,7 @@ pub enum Refusal {
 }
 
 // How a call ends.
-#[derive(Drop)]
+#[derive(Clone, Copy)]
 pub enum Outcome {
     Taken,
     Refused(Refusal),

@@ -8,14 +8,14 @@ use crate::ranges::{features_ok, setting_ok};
 use crate::refusals::{Outcome, Refusal};
 
 // A setting: the first count of the values, feature 0 first. A count past 16 is outside the numbers.
-#[derive(Drop)]
+#[derive(Clone, Copy)]
 pub struct Setting {
     pub count: usize,
     pub values: [u8; 16],
 }
 
 // What a step gives: how it ended, whether the setting was the last, and the next setting.
-#[derive(Drop)]
+#[derive(Clone, Copy)]
 pub struct Stepped {
     pub outcome: Outcome,
     pub last: bool,
@@ -23,7 +23,7 @@ pub struct Stepped {
 }
 
 // What a turn of the places gives: whether a value grew, and the places.
-#[derive(Drop)]
+#[derive(Clone, Copy)]
 struct Turned {
     moved: bool,
     values: [u8; 16],

@@ -1,5 +1,7 @@
 // Steps through settings and prints what it meets: the six settings of sizes 2, 3 in order, how many there are of
 // sizes 3, 5, 2, 8, and the numbers of refused steps.
+#![tactic(auto)]
+
 use libc::STDOUT_FILENO;
 use settings::Setting;
 

@@ -1,4 +1,6 @@
 // The bytes of a rule sheet, edition 1: numbers, sections and nodes read from where they stand.
+#![tactic(auto)]
+
 mod bytes; // bytes.rt: numbers in bytes
 mod hand; // hand.rt: a branch in bytes
 mod laying; // laying.rt: the sections, and where each node begins

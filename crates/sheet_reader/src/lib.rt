@@ -1,4 +1,6 @@
 // A sheet's rule taken into a rule table: the sheet's nodes are walked once each, and made where the table has none.
+#![tactic(auto)]
+
 ghost use Rattle.std.specs.Prelude.{◌≡◌};
 ghost use Rattle.rule_nodes.specs.Nodes.{Holds, Result};
 ghost use Rattle.sheet_check.specs.Diagram.{Ready};

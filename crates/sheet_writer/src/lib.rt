@@ -1,4 +1,6 @@
 // The sheet of a place's rule, written into bytes.
+#![tactic(auto)]
+
 mod writing; // writing.rt: the sections
 
 ghost use Rattle.std.specs.Prelude.{◌<◌};

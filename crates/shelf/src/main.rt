@@ -1,4 +1,6 @@
 // The program `shelf`: a rule table and a cost table driven from standard input, a command a line, an answer a line.
+#![tactic(auto)]
+
 mod turns; // turns.rt: which command a line is, and the lines in turn
 
 fn main() {

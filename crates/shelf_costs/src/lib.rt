@@ -1,4 +1,6 @@
 // The commands of `shelf` on a cost table, and on both tables.
+#![tactic(auto)]
+
 mod amounts; // amounts.rt: signed numbers
 mod names; // names.rt: the commands' names, in the order of their codes
 mod changes; // changes.rt: those that write a place, lent no scratch

@@ -1,4 +1,6 @@
 // A line of `shelf` and its answer: words and numbers read, command names looked up, answers written; the words that are lent.
+#![tactic(auto)]
+
 mod numbers; // numbers.rt: decimal numbers, and what a parameter holds of one
 mod words; // words.rt: the words of a line: the first, and lists of numbers
 mod names; // names.rt: a command's name, and the numbers that may follow it

@@ -1,4 +1,6 @@
 // The commands of `shelf` on a rule table and its sheets.
+#![tactic(auto)]
+
 mod names; // names.rt: the commands' names, in the order of their codes
 mod changes; // changes.rt: those that write a place, lent no scratch
 mod workings; // workings.rt: those that are lent scratch

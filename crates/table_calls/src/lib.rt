@@ -1,5 +1,7 @@
 // What the calls of every kind of table share: a fresh table laid out, whether bytes are a setting of its features, whether two
 // tables have one list; the promise and the laws of calls that write.
+#![tactic(auto)]
+
 mod door; // door.rt: places tested
 mod fitting; // fitting.rt: settings tested
 mod matching; // matching.rt: feature lists compared

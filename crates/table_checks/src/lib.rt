@@ -1,4 +1,6 @@
 // The part of the soundness test that every kind of table shares: the header, the words that are 0, the chains, branch words.
+#![tactic(auto)]
+
 mod following; // following.rt: where branches may go, and the walk from the roots
 
 ghost use Rattle.std.specs.Prelude.{◌≡◌, ◌+◌, ◌*◌, ◌≤◌, ◌<◌, length};

@@ -1,5 +1,7 @@
 // The collector for every kind: only the nodes that the roots reach stay, numbered as building the functions of the places in turn numbers them.
 // `first` tells the kind: branch words below it end, the others say nodes.
+#![tactic(auto)]
+
 ghost use Rattle.std.specs.Prelude.{◌≡◌, ◌+◌, ◌*◌, ◌≤◌, ◌<◌, length};
 ghost use Rattle.table_words.specs.Words.{listed};
 ghost use Rattle.table_sweep.specs.Marks.{kept, mark, highest};

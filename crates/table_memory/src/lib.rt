@@ -1,5 +1,7 @@
 // What a walk over a table remembers, in lent scratch words or in the far records' window: entries of a key's words, the first of them not 0 (0: empty),
 // and the two words of a result.
+#![tactic(auto)]
+
 mod slots; // slots.rt: which entries a result is remembered in
 
 ghost use Rattle.std.specs.Prelude.{◌≡◌, ◌<◌, length, get_or};
@@ -12,7 +14,7 @@ use table_notes::window_word;
 use table_words::{RECORDS, capacity_word, wide};
 
 // A remembered result, or none.
-#[derive(Drop)]
+#[derive(Clone, Copy)]
 pub enum Memo {
     Known(u32, u32),
     Unknown,

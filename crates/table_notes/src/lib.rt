@@ -1,4 +1,6 @@
 // Words of a call's own in the far records of a table, which are 0 at rest: the words without them, how they are taken away, and the window, the part that a walk remembers in.
+#![tactic(auto)]
+
 ghost use Rattle.std.specs.Prelude.{◌≡◌, ◌+◌, ◌*◌, ◌-◌, ◌≤◌, ◌<◌, set};
 ghost use Rattle.table_notes.specs.Plain.{Roomy, Resting, plain, Cleared};
 ghost use Rattle.table_notes.specs.Far.{window, Windowed, Begun};

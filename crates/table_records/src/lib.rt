@@ -1,4 +1,6 @@
 // Adding, taking away and finding records of a table of any kind.
+#![tactic(auto)]
+
 ghost use Rattle.std.specs.Prelude.{◌≡◌, ◌+◌, ◌*◌, ◌-◌, ◌≤◌, ◌<◌, length};
 ghost use Rattle.settings.specs.Tells.{Tells};
 ghost use Rattle.table_records.specs.Laid.{Laid};

@@ -1,4 +1,6 @@
 // The part of the collector that the tables of every kind share: copying a record, bringing the copies back, chaining anew.
+#![tactic(auto)]
+
 ghost use Rattle.std.specs.Prelude.{◌≡◌, ◌-◌};
 ghost use Rattle.table_sweep.specs.Marks.{done};
 ghost use Rattle.table_sweep.specs.Sweeping.{Linked, Chain, Cut, Unlinked, Spare, Put, Full, Brought, Bare, Relinked};

@@ -1,4 +1,6 @@
 // Reading the words of a table of any kind: header, records, hashes.
+#![tactic(auto)]
+
 mod header;
 
 ghost use Rattle.std.specs.Prelude.{◌≡◌, ℕ, ◌+◌, ◌*◌, ◌%◌, ◌≤◌, ◌<◌, length, get_or};
