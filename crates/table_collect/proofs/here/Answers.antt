@@ -1,0 +1,33 @@
+-- `table_collect::here` meets its contract: an end or a node that stays is its own copy, a link says another's, and no copy has the last word that there is. Assumes nothing.
+use Rattle.std.proofs.Common.{arith, ◌+◌, ◌-◌, ◌≡◌, sym}
+use Rattle.table_collect.specs.Walk.{found}
+use Rattle.table_collect.proofs.Keeping.{full_open, here_copy, here_low, here_none}
+use Rattle.table_sweep.specs.Marks.{mark}
+use Rattle.table_sweep.proofs.Marking.{mark_link}
+use mathlib.Core.Path.{◌∙◌}
+use Rattle.table_collect.proofs.here.Goals as goal
+
+-- the link is the node's mark
+says : (c : tie.After-record-word) → let a = c.before.before.before.before in c.record-word.result ≡ mark a.args.t.now c.before.wide.result
+says c = let a = c.before.before.before.before in c.record-word.ensures ∙ sym (mark_link a.args.t.now c.before.wide.result (omega (arith, a.requires.2)))
+
+pub returns-then-b-low : goal.returns-then-b-low
+returns-then-b-low c = here_low c.requires.0 c.requires.2 c.if-b-low.true c.requires.1
+
+pub record_word-c-requires : goal.record_word-c-requires
+record_word-c-requires c =
+    let f = c.requires.0.walkable in (omega (arith, c.requires.1, f.room, f.within), omega (arith, c.requires.1, f.within, f.most), omega arith)
+
+pub overflow_add-result : goal.overflow_add-result
+overflow_add-result c =
+    let o = c.requires.0 in let f = o.walkable in
+    omega (arith, o.marks c.wide.result (omega (arith, c.requires.1)), says c, (full_open o).fewer, f.within, f.most, f.least)
+
+pub returns-then-c-gt0 : goal.returns-then-c-gt0
+returns-then-c-gt0 c =
+    let i = c.wide.result in let n = c.record_word-c.result in
+    here_copy c.requires.0
+    (found c.args.t.now c.args.b (c.args.first + (n - 1)) i (n - 1) (omega arith) (omega arith) (omega (arith, c.requires.1)) (omega (arith, says c)))
+
+pub returns : goal.returns
+returns c = here_none c.wide.result (omega arith) (omega (arith, says c))
