@@ -33,11 +33,11 @@ module _ {K : Kind} {T : Layout K} (L : Lawful T) where
   grown_nodes w t N g h = g.holds ∙ take_all (T.capacity w) N h
 
   pub grown_refl : (w : List ℕ) → Holds T w → Grown T w w (T.nodes w)
-  grown_refl w ok = record { kept = L.Kept-refl w; well = ok; holds = sym (take_all (T.capacity w) (T.nodes w) (L.within w ok.laid)) }
+  grown_refl w ok = record { kept = L.kept_refl w; well = ok; holds = sym (take_all (T.capacity w) (T.nodes w) (L.within w ok.laid)) }
 
   pub grown_trans : (w t t' : List ℕ) (M N : List (Node K)) → Grown T w t M → Grown T t t' N → Grown T w t' N
   grown_trans w t t' M N p q = record {
-    kept = L.Kept-trans w t t' p.kept q.kept;
+    kept = L.kept_trans w t t' p.kept q.kept;
     well = q.well;
     holds = q.holds ∙ ap (λ (c : ℕ). take c N) (L.kept_capacity w t p.kept);
   }

@@ -15,7 +15,7 @@ unfolding hash_to
 loop-v-preserved c =
     let l = c.loop-v in
     let e : l.v + 1 ≡ suc l.v = add-one l.v in
-    let x : c.wide.result ≡ get_or c.args.t2 l.v 0 = c.wide.ensures.0 in
+    let x : c.wide.result ≡ get_or c.args.list l.v 0 = c.wide.ensures.0 in
     (rw e (ap₂ (λ (a b : ℕ). (a * 2654435761 + b) % 4294967296) l.invariant.0 x), mod-lt _ (omega arith), omega arith)
 
 pub returns : goal.returns
