@@ -23,14 +23,14 @@ use Rattle.promises.specs.Words.{size}
 use Rattle.both_choose.proofs.+branch_result_fill_branches_rest_result.Goals as goal
 
 pub branch_result-sum_word-requires : goal.branch_result-sum_word-requires
-branch_result-sum_word-requires t c = c.requires.1.0.ahead
+branch_result-sum_word-requires t c = c.requires.0.ahead
 
 pub branch_result-difference_word-g-requires : goal.branch_result-difference_word-g-requires
-branch_result-difference_word-g-requires t c = more_fits _ _ _ _ _ _ _ _ _ c.requires.1.0 c.sum_word.result c.sum_word.ensures
+branch_result-difference_word-g-requires t c = more_fits _ _ _ _ _ _ _ _ _ c.requires.0 c.sum_word.result c.sum_word.ensures
 
 pub branch_result-rest_result-requires : goal.branch_result-rest_result-requires
 branch_result-rest_result-requires t c =
-    let p = c.requires.1 in (
+    let p = c.requires in (
       omega arith,
       (
         targets _ _ _ _ _ _ _ _ _ p.0 _ (more_is _ _ _ _ _ _ _ _ _ p.0 _ c.difference_word-g.result
@@ -41,7 +41,7 @@ branch_result-rest_result-requires t c =
 
 pub branch_result-returns-in_default : goal.branch_result-returns-in_default
 branch_result-returns-in_default t c =
-    let p = c.requires.1.0 in (
+    let p = c.requires.0 in (
       choice_stopped _ _ _ _ _ _ _ _ _ p _ _ (more_is _ _ _ _ _ _ _ _ _ p _ c.difference_word-g.result c.sum_word.ensures c.difference_word-g.ensures) _
           c.rest_result.ensures.0 c.in_default.is,
       tt,
@@ -49,13 +49,13 @@ branch_result-returns-in_default t c =
 
 pub branch_result-sum_word-requires-2 : goal.branch_result-sum_word-requires-2
 branch_result-sum_word-requires-2 t c =
-    let p = c.requires.1.0 in
+    let p = c.requires.0 in
     sum_fits _ _ _ _ _ _ _ _ _ p _ _ (more_is _ _ _ _ _ _ _ _ _ p _ c.difference_word-g.result c.sum_word.ensures c.difference_word-g.ensures) _
     c.rest_result.ensures.0 _ _ c.in-Is.is
 
 pub branch_result-returns : goal.branch_result-returns
 branch_result-returns t c =
-    let p = c.requires.1.0 in (
+    let p = c.requires.0 in (
       choice_raised _ _ _ _ _ _ _ _ _ p _ _ (more_is _ _ _ _ _ _ _ _ _ p _ c.difference_word-g.result c.sum_word.ensures c.difference_word-g.ensures) _
           c.rest_result.ensures.0 _ _ _ c.in-Is.is c.sum_word-2.ensures,
       subst (Still _ _ _) c.in-Is.is c.rest_result.ensures.1,
@@ -63,17 +63,17 @@ branch_result-returns t c =
 
 pub fill_branches-size_word-requires : goal.fill_branches-size_word-requires
 fill_branches-size_word-requires t c =
-    omega (arith, c.requires.1.0.holds.laid.laid.few, c.requires.1.2, c.requires.1.0.holds.laid.laid.room, length_plain c.args.t.now)
+    omega (arith, c.requires.0.holds.laid.laid.few, c.requires.2, c.requires.0.holds.laid.laid.room, length_plain c.args.t.now)
 
 pub fill_branches-loop-v-init : goal.fill_branches-loop-v-init
 fill_branches-loop-v-init t c =
     let e : c.wide-n.result ≡ size (plain c.args.t.now) c.args.k = c.wide-n.ensures.0 ∙ c.size_word.ensures
-    ∙ sym (plain_head c.args.t.now (3 + c.args.k) (omega (arith, c.requires.1.0.holds.laid.laid.few, c.requires.1.2))) in
-    (e, omega arith, fill_start _ c.args.k _ c.requires.1.0.holds c.requires.1.2 _ _ c.requires.1.3 c.requires.1.4, c.requires.1.1, refl, refl)
+    ∙ sym (plain_head c.args.t.now (3 + c.args.k) (omega (arith, c.requires.0.holds.laid.laid.few, c.requires.2))) in
+    (e, omega arith, fill_start _ c.args.k _ c.requires.0.holds c.requires.2 _ _ c.requires.3 c.requires.4, c.requires.1, refl, refl)
 
 pub fill_branches-branch_at-c-requires : goal.fill_branches-branch_at-c-requires
 fill_branches-branch_at-c-requires t c =
-    let p = c.requires.1 in
+    let p = c.requires in
     let q = rule_step _ _ _ _ _ _ _ p.0 c.loop-v.v p.2 (omega (arith, c.loop-v.invariant.0, c.loop-v-test)) in
     (p.0.rule, q.0, q.1)
 
@@ -82,9 +82,9 @@ fill_branches-arm_in-p-requires t c =
     let l = c.loop-v in
     let fl = l.invariant.2 in
     let kp = fl.filled.grown.kept in (
-      first_place _ _ _ _ _ _ _ (choices_ext _ (plain c.args.t.now) c.args.k _ _ _ _ c.requires.1.0 _ l.v l.goes l.adds fl c.requires.1.2 (omega (arith, l.invariant.0, l.invariant.1))),
-      omega (arith, kept_features _ _ kp, c.requires.1.2),
-      omega (arith, kept_size _ _ kp c.requires.1.0.holds.laid.laid.few c.args.k c.requires.1.2, l.invariant.0, c.loop-v-test),
+      first_place _ _ _ _ _ _ _ (choices_ext _ (plain c.args.t.now) c.args.k _ _ _ _ c.requires.0 _ l.v l.goes l.adds fl c.requires.2 (omega (arith, l.invariant.0, l.invariant.1))),
+      omega (arith, kept_features _ _ kp, c.requires.2),
+      omega (arith, kept_size _ _ kp c.requires.0.holds.laid.laid.few c.args.k c.requires.2, l.invariant.0, c.loop-v-test),
     )
 
 pub fill_branches-arm_in-q-requires : goal.fill_branches-arm_in-q-requires
@@ -92,13 +92,13 @@ fill_branches-arm_in-q-requires t c =
     let l = c.loop-v in
     let fl = l.invariant.2 in
     let kp = fl.filled.grown.kept in (
-      second_place _ _ _ _ _ _ _ (choices_ext _ (plain c.args.t.now) c.args.k _ _ _ _ c.requires.1.0 _ l.v l.goes l.adds fl c.requires.1.2 (omega (arith, l.invariant.0, l.invariant.1))),
-      omega (arith, kept_features _ _ kp, c.requires.1.2),
-      omega (arith, kept_size _ _ kp c.requires.1.0.holds.laid.laid.few c.args.k c.requires.1.2, l.invariant.0, c.loop-v-test),
+      second_place _ _ _ _ _ _ _ (choices_ext _ (plain c.args.t.now) c.args.k _ _ _ _ c.requires.0 _ l.v l.goes l.adds fl c.requires.2 (omega (arith, l.invariant.0, l.invariant.1))),
+      omega (arith, kept_features _ _ kp, c.requires.2),
+      omega (arith, kept_size _ _ kp c.requires.0.holds.laid.laid.few c.args.k c.requires.2, l.invariant.0, c.loop-v-test),
     )
 
 pub fill_branches-overflow_add-k : goal.fill_branches-overflow_add-k
-fill_branches-overflow_add-k t c = omega (arith, c.requires.1.0.holds.laid.laid.few, c.requires.1.2)
+fill_branches-overflow_add-k t c = omega (arith, c.requires.0.holds.laid.laid.few, c.requires.2)
 
 pub fill_branches-branch_result-requires : goal.fill_branches-branch_result-requires
 fill_branches-branch_result-requires t c =
@@ -106,12 +106,12 @@ fill_branches-branch_result-requires t c =
     let fl = l.invariant.2 in
     let kp = fl.filled.grown.kept in
     let n = kept_features _ _ kp in
-    let hk = c.requires.1.2 in (
+    let hk = c.requires.2 in (
       omega arith,
       (
-        choices_step _ _ _ _ _ _ _ (choices_ext _ (plain c.args.t.now) c.args.k _ _ _ _ c.requires.1.0 _ l.v l.goes l.adds fl hk
+        choices_step _ _ _ _ _ _ _ (choices_ext _ (plain c.args.t.now) c.args.k _ _ _ _ c.requires.0 _ l.v l.goes l.adds fl hk
             (omega (arith, l.invariant.0, l.invariant.1))) l.v _ _ _ _ _ (omega arith) (omega
-            (arith, kept_size _ _ kp c.requires.1.0.holds.laid.laid.few c.args.k hk, l.invariant.0, c.loop-v-test)) c.branch_at-c.ensures
+            (arith, kept_size _ _ kp c.requires.0.holds.laid.laid.few c.args.k hk, l.invariant.0, c.loop-v-test)) c.branch_at-c.ensures
             c.arm_in-p.ensures c.arm_in-q.ensures,
         l.invariant.3,
       ),
@@ -121,9 +121,9 @@ pub fill_branches-returns-in_default : goal.fill_branches-returns-in_default
 fill_branches-returns-in_default t c =
     let l = c.loop-v in
     let fl = l.invariant.2 in (
-      fill_stop (plain c.args.t.now) c.args.k _ c.requires.1.0.holds c.requires.1.2 (plain l.t) _ l.v l.goes l.adds _ _ fl (omega (arith, l.invariant.0, c.loop-v-test))
-          (choice_held _ (plain c.args.t.now) c.args.k _ _ _ _ c.requires.1.0 (plain l.t) l.v _ _ _ _ _
-          (filling_ext (plain c.args.t.now) c.args.k _ c.requires.1.0.holds c.requires.1.2 (plain l.t) l.v l.goes l.adds fl)
+      fill_stop (plain c.args.t.now) c.args.k _ c.requires.0.holds c.requires.2 (plain l.t) _ l.v l.goes l.adds _ _ fl (omega (arith, l.invariant.0, c.loop-v-test))
+          (choice_held _ (plain c.args.t.now) c.args.k _ _ _ _ c.requires.0 (plain l.t) l.v _ _ _ _ _
+          (filling_ext (plain c.args.t.now) c.args.k _ c.requires.0.holds c.requires.2 (plain l.t) l.v l.goes l.adds fl)
           c.branch_at-c.ensures c.arm_in-p.ensures c.arm_in-q.ensures)
           c.branch_result.ensures.0 c.in_default.is,
       tt,
@@ -131,11 +131,11 @@ fill_branches-returns-in_default t c =
 
 pub fill_branches-bounds-goes-v : goal.fill_branches-bounds-goes-v
 fill_branches-bounds-goes-v t c =
-    omega (arith, c.requires.1.0.holds.laid.laid.large c.args.k c.requires.1.2, c.loop-v.invariant.0, c.loop-v.invariant.2.targets, c.loop-v-test)
+    omega (arith, c.requires.0.holds.laid.laid.large c.args.k c.requires.2, c.loop-v.invariant.0, c.loop-v.invariant.2.targets, c.loop-v-test)
 
 pub fill_branches-bounds-adds-v : goal.fill_branches-bounds-adds-v
 fill_branches-bounds-adds-v t c =
-    omega (arith, c.requires.1.0.holds.laid.laid.large c.args.k c.requires.1.2, c.loop-v.invariant.0, c.loop-v.invariant.2.addeds, c.loop-v-test)
+    omega (arith, c.requires.0.holds.laid.laid.large c.args.k c.requires.2, c.loop-v.invariant.0, c.loop-v.invariant.2.addeds, c.loop-v-test)
 
 pub fill_branches-loop-v-preserved : goal.fill_branches-loop-v-preserved
 fill_branches-loop-v-preserved t c =
@@ -169,43 +169,43 @@ rest_result-number_of-requires t c = sure c.if-is_number.true c.is_number.ensure
 
 pub rest_result-returns-then-is_number : goal.rest_result-returns-then-is_number
 rest_result-returns-then-is_number t c =
-    (choice_ends _ _ _ _ _ _ _ c.requires.1.0 _ c.args.d c.number_of.ensures refl _ c.ended.ensures, still_there _ _ _ c.ended.result c.requires.1.1)
+    (choice_ends _ _ _ _ _ _ _ c.requires.0 _ c.args.d c.number_of.ensures refl _ c.ended.ensures, still_there _ _ _ c.ended.result c.requires.1)
 
 pub rest_result-lowest_of-m-requires : goal.rest_result-lowest_of-m-requires
 rest_result-lowest_of-m-requires t c =
-    let p = c.requires.1.0 in
+    let p = c.requires.0 in
     (record { from = _; lends = p.rule }, p.holds.laid.laid, good_small _ _ _ p.first, good_small _ _ _ p.second)
 
 pub rest_result-rest_result-requires : goal.rest_result-rest_result-requires
 rest_result-rest_result-requires t c =
-    let p = c.requires.1 in
+    let p = c.requires in
     let m = skip_most _ _ _ _ _ _ _ c.lowest_of-m.ensures _ p.0 (omega (arith, c.if-k-m)) in
     (omega arith, (choices_skip _ _ _ _ _ _ _ c.lowest_of-m.ensures _ p.0 (omega (arith, c.if-k-m)), p.1))
 
 pub rest_result-returns-in_default : goal.rest_result-returns-in_default
 rest_result-returns-in_default t c =
-    let p = c.requires.1 in
+    let p = c.requires in
     let r = choice_skip _ _ _ _ _ _ _ c.lowest_of-m.ensures _ p.0 (omega (arith, c.if-k-m)) _ c.rest_result.result c.rest_result.ensures.0 in
     (gives_none c.in_default.is r, tt)
 
 pub rest_result-returns-then-k-m : goal.rest_result-returns-then-k-m
 rest_result-returns-then-k-m t c =
-    let p = c.requires.1 in
+    let p = c.requires in
     let r = choice_skip _ _ _ _ _ _ _ c.lowest_of-m.ensures _ p.0 (omega (arith, c.if-k-m)) _ c.rest_result.result c.rest_result.ensures.0 in
     (gives_is c.in-Is.is r, subst (Still _ _ _) c.in-Is.is c.rest_result.ensures.1)
 
 pub rest_result-tag_of-tag-requires : goal.rest_result-tag_of-tag-requires
 rest_result-tag_of-tag-requires t c =
-    let p = c.requires.1.0 in
+    let p = c.requires.0 in
     let hk = still_left _ _ _ _ _ _ _ p (sure_not c.if-is_number.false c.is_number.ensures) in
     (omega (arith, p.holds.laid.laid.few), key_small p.rule)
 
 pub rest_result-recall_in-memo-requires : goal.rest_result-recall_in-memo-requires
-rest_result-recall_in-memo-requires t c = c.requires.1.1.room
+rest_result-recall_in-memo-requires t c = c.requires.1.room
 
 pub rest_result-returns-in-Known : goal.rest_result-returns-in-Known
 rest_result-returns-in-Known t c =
-    let p = c.requires.1 in
+    let p = c.requires in
     let hk = still_left _ _ _ _ _ _ _ p.0 (sure_not c.if-is_number.false c.is_number.ensures) in (
       hit _ _ c.args.k c.args.b (memory c.args.t.now c.args.s.now) _ _ _ _ p.0 (omega (arith, p.0.holds.laid.laid.few)) c.tag_of-tag.ensures refl p.1.right
           c.recall_in-memo.ensures c.in-Known.is,
@@ -214,13 +214,13 @@ rest_result-returns-in-Known t c =
 
 pub rest_result-fill_branches-requires : goal.rest_result-fill_branches-requires
 rest_result-fill_branches-requires t c =
-    let p = c.requires.1 in
+    let p = c.requires in
     let hk = still_left _ _ _ _ _ _ _ p.0 (sure_not c.if-is_number.false c.is_number.ensures) in
     (omega arith, (p.0, p.1, hk, empty, empty))
 
 pub rest_result-make_in-requires : goal.rest_result-make_in-requires
 rest_result-make_in-requires t c =
-    let p = c.requires.1.0 in
+    let p = c.requires.0 in
     let hk = still_left _ _ _ _ _ _ _ p (sure_not c.if-is_number.false c.is_number.ensures) in
     let fl = filled _ _ _ _ _ _ _ c.if-fill_branches.true c.fill_branches.ensures.0 in (
       (subst (StillIf _ _ _) c.if-fill_branches.true c.fill_branches.ensures.1).room.roomy,
@@ -231,7 +231,7 @@ rest_result-make_in-requires t c =
 
 pub rest_result-returns-in_default-make_in : goal.rest_result-returns-in_default-make_in
 rest_result-returns-in_default-make_in t c =
-    let p = c.requires.1.0 in
+    let p = c.requires.0 in
     let hk = still_left _ _ _ _ _ _ _ p (sure_not c.if-is_number.false c.is_number.ensures) in
     let fl = filled _ _ _ _ _ _ _ c.if-fill_branches.true c.fill_branches.ensures.0 in
     let m = c.make_in in
@@ -244,7 +244,7 @@ rest_result-remember_in-requires t c =
 
 pub rest_result-returns-then-fill_branches : goal.rest_result-returns-then-fill_branches
 rest_result-returns-then-fill_branches t c =
-    let p = c.requires.1.0 in
+    let p = c.requires.0 in
     let hk = still_left _ _ _ _ _ _ _ p (sure_not c.if-is_number.false c.is_number.ensures) in
     let fl = filled _ _ _ _ _ _ _ c.if-fill_branches.true c.fill_branches.ensures.0 in
     let m = c.make_in in
@@ -257,6 +257,6 @@ rest_result-returns-then-fill_branches t c =
 
 pub rest_result-returns : goal.rest_result-returns
 rest_result-returns t c =
-    let p = c.requires.1.0 in
+    let p = c.requires.0 in
     let hk = still_left _ _ _ _ _ _ _ p (sure_not c.if-is_number.false c.is_number.ensures) in
     (stop_result _ _ _ p.holds hk _ (not_filled _ _ _ _ _ _ _ c.if-fill_branches.false c.fill_branches.ensures.0), tt)

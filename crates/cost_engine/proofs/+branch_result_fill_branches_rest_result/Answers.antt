@@ -22,7 +22,7 @@ use Rattle.promises.specs.Words.{size}
 use Rattle.cost_engine.proofs.+branch_result_fill_branches_rest_result.Goals as goal
 
 pub branch_result-gap_word-g-requires : goal.branch_result-gap_word-g-requires
-branch_result-gap_word-g-requires t c = operands_more _ _ _ _ _ _ c.requires.1.0.rest
+branch_result-gap_word-g-requires t c = operands_more _ _ _ _ _ _ c.requires.0.rest
 
 pub branch_result-rest_result-requires : goal.branch_result-rest_result-requires
 branch_result-rest_result-requires t c =
@@ -30,50 +30,50 @@ branch_result-rest_result-requires t c =
       omega arith,
       (
         subst (λ (z : ℤ). Operands (plain c.args.t.now) c.args.o c.args.k c.args.a.to c.args.b.to z)
-            (sym c.gap_word-g.ensures) c.requires.1.0.rest,
-        c.requires.1.1,
+            (sym c.gap_word-g.ensures) c.requires.0.rest,
+        c.requires.1,
       ),
     )
 
 pub branch_result-returns-in_default : goal.branch_result-returns-in_default
 branch_result-returns-in_default t c =
     let r = at_gap (plain c.args.t.now) _ _ _ _ _ _ _ c.rest_result.result c.gap_word-g.ensures c.rest_result.ensures.0 in
-    (joint_stopped (plain c.args.t.now) _ _ _ _ _ _ _ c.requires.1.0 _ (gives_none c.in_default.is r), tt)
+    (joint_stopped (plain c.args.t.now) _ _ _ _ _ _ _ c.requires.0 _ (gives_none c.in_default.is r), tt)
 
 pub branch_result-ahead_word-requires : goal.branch_result-ahead_word-requires
-branch_result-ahead_word-requires t c = c.requires.1.0.lead
+branch_result-ahead_word-requires t c = c.requires.0.lead
 
 pub branch_result-sum_word-requires : goal.branch_result-sum_word-requires
 branch_result-sum_word-requires t c =
     let r = at_gap (plain c.args.t.now) _ _ _ _ _ _ _ c.rest_result.result c.gap_word-g.ensures c.rest_result.ensures.0 in
-    sum_fits (plain c.args.t.now) _ _ _ _ _ _ _ c.requires.1.0 _ c.ahead_word.result _ _ c.ahead_word.ensures (gives_is c.in-Is.is r)
+    sum_fits (plain c.args.t.now) _ _ _ _ _ _ _ c.requires.0 _ c.ahead_word.result _ _ c.ahead_word.ensures (gives_is c.in-Is.is r)
 
 pub branch_result-returns : goal.branch_result-returns
 branch_result-returns t c =
     let r = at_gap (plain c.args.t.now) _ _ _ _ _ _ _ c.rest_result.result c.gap_word-g.ensures c.rest_result.ensures.0 in (
-      joint_raised (plain c.args.t.now) _ _ _ _ _ _ _ c.requires.1.0 _ c.ahead_word.result _ _ _ c.ahead_word.ensures c.sum_word.ensures
+      joint_raised (plain c.args.t.now) _ _ _ _ _ _ _ c.requires.0 _ c.ahead_word.result _ _ _ c.ahead_word.ensures c.sum_word.ensures
           (gives_is c.in-Is.is r),
       subst (Still _ _ _) c.in-Is.is c.rest_result.ensures.1,
     )
 
 pub fill_branches-size_word-requires : goal.fill_branches-size_word-requires
 fill_branches-size_word-requires t c =
-    omega (arith, c.requires.1.0.holds.laid.laid.few, c.requires.1.2, c.requires.1.0.holds.laid.laid.room, length_plain c.args.t.now)
+    omega (arith, c.requires.0.holds.laid.laid.few, c.requires.2, c.requires.0.holds.laid.laid.room, length_plain c.args.t.now)
 
 pub fill_branches-loop-v-init : goal.fill_branches-loop-v-init
 fill_branches-loop-v-init t c =
     let e : c.wide-m.result ≡ size (plain c.args.t.now) c.args.k = c.wide-m.ensures.0 ∙ c.size_word.ensures
-    ∙ sym (plain_head c.args.t.now (3 + c.args.k) (omega (arith, c.requires.1.0.holds.laid.laid.few, c.requires.1.2))) in
-    (e, omega arith, fill_start _ c.args.k _ c.requires.1.0.holds c.requires.1.2 _ _ c.requires.1.3 c.requires.1.4, c.requires.1.1, refl, refl)
+    ∙ sym (plain_head c.args.t.now (3 + c.args.k) (omega (arith, c.requires.0.holds.laid.laid.few, c.requires.2))) in
+    (e, omega arith, fill_start _ c.args.k _ c.requires.0.holds c.requires.2 _ _ c.requires.3 c.requires.4, c.requires.1, refl, refl)
 
 pub fill_branches-arm_in-a-requires : goal.fill_branches-arm_in-a-requires
 fill_branches-arm_in-a-requires t c =
     let l = c.loop-v in
     let fl = l.invariant.2 in
     let kp = fl.filled.grown.kept in (
-      first_place _ _ _ _ _ _ (operands_ext (plain c.args.t.now) _ c.args.k _ _ _ c.requires.1.0 _ l.v l.goes l.adds fl c.requires.1.2 (omega (arith, l.invariant.0, l.invariant.1))),
-      omega (arith, kept_features _ _ kp, c.requires.1.2),
-      omega (arith, kept_size _ _ kp c.requires.1.0.holds.laid.laid.few c.args.k c.requires.1.2, l.invariant.0, c.loop-v-test),
+      first_place _ _ _ _ _ _ (operands_ext (plain c.args.t.now) _ c.args.k _ _ _ c.requires.0 _ l.v l.goes l.adds fl c.requires.2 (omega (arith, l.invariant.0, l.invariant.1))),
+      omega (arith, kept_features _ _ kp, c.requires.2),
+      omega (arith, kept_size _ _ kp c.requires.0.holds.laid.laid.few c.args.k c.requires.2, l.invariant.0, c.loop-v-test),
     )
 
 pub fill_branches-arm_in-b-requires : goal.fill_branches-arm_in-b-requires
@@ -81,13 +81,13 @@ fill_branches-arm_in-b-requires t c =
     let l = c.loop-v in
     let fl = l.invariant.2 in
     let kp = fl.filled.grown.kept in (
-      second_place _ _ _ _ _ _ (operands_ext (plain c.args.t.now) _ c.args.k _ _ _ c.requires.1.0 _ l.v l.goes l.adds fl c.requires.1.2 (omega (arith, l.invariant.0, l.invariant.1))),
-      omega (arith, kept_features _ _ kp, c.requires.1.2),
-      omega (arith, kept_size _ _ kp c.requires.1.0.holds.laid.laid.few c.args.k c.requires.1.2, l.invariant.0, c.loop-v-test),
+      second_place _ _ _ _ _ _ (operands_ext (plain c.args.t.now) _ c.args.k _ _ _ c.requires.0 _ l.v l.goes l.adds fl c.requires.2 (omega (arith, l.invariant.0, l.invariant.1))),
+      omega (arith, kept_features _ _ kp, c.requires.2),
+      omega (arith, kept_size _ _ kp c.requires.0.holds.laid.laid.few c.args.k c.requires.2, l.invariant.0, c.loop-v-test),
     )
 
 pub fill_branches-overflow_add-k : goal.fill_branches-overflow_add-k
-fill_branches-overflow_add-k t c = omega (arith, c.requires.1.0.holds.laid.laid.few, c.requires.1.2)
+fill_branches-overflow_add-k t c = omega (arith, c.requires.0.holds.laid.laid.few, c.requires.2)
 
 pub fill_branches-branch_result-requires : goal.fill_branches-branch_result-requires
 fill_branches-branch_result-requires t c =
@@ -95,12 +95,12 @@ fill_branches-branch_result-requires t c =
     let fl = l.invariant.2 in
     let kp = fl.filled.grown.kept in
     let n = kept_features _ _ kp in
-    let hk = c.requires.1.2 in (
+    let hk = c.requires.2 in (
       omega arith,
       (
-        operands_step _ _ _ _ _ _ (operands_ext (plain c.args.t.now) _ c.args.k _ _ _ c.requires.1.0 _ l.v l.goes l.adds fl hk
+        operands_step _ _ _ _ _ _ (operands_ext (plain c.args.t.now) _ c.args.k _ _ _ c.requires.0 _ l.v l.goes l.adds fl hk
             (omega (arith, l.invariant.0, l.invariant.1))) l.v _ _ _ _ (omega arith) (omega
-            (arith, kept_size _ _ kp c.requires.1.0.holds.laid.laid.few c.args.k hk, l.invariant.0, c.loop-v-test)) c.arm_in-a.ensures
+            (arith, kept_size _ _ kp c.requires.0.holds.laid.laid.few c.args.k hk, l.invariant.0, c.loop-v-test)) c.arm_in-a.ensures
             c.arm_in-b.ensures,
         l.invariant.3,
       ),
@@ -110,20 +110,20 @@ pub fill_branches-returns-in_default : goal.fill_branches-returns-in_default
 fill_branches-returns-in_default t c =
     let l = c.loop-v in
     let fl = l.invariant.2 in (
-      fill_stop (plain c.args.t.now) c.args.k _ c.requires.1.0.holds c.requires.1.2 (plain l.t) _ l.v l.goes l.adds _ _ fl (omega (arith, l.invariant.0, c.loop-v-test))
-          (joint_held (plain c.args.t.now) _ c.args.k _ _ _ c.requires.1.0 (plain l.t) l.v _ _ _ _
-          (filling_ext (plain c.args.t.now) c.args.k _ c.requires.1.0.holds c.requires.1.2 (plain l.t) l.v l.goes l.adds fl) c.arm_in-a.ensures c.arm_in-b.ensures)
+      fill_stop (plain c.args.t.now) c.args.k _ c.requires.0.holds c.requires.2 (plain l.t) _ l.v l.goes l.adds _ _ fl (omega (arith, l.invariant.0, c.loop-v-test))
+          (joint_held (plain c.args.t.now) _ c.args.k _ _ _ c.requires.0 (plain l.t) l.v _ _ _ _
+          (filling_ext (plain c.args.t.now) c.args.k _ c.requires.0.holds c.requires.2 (plain l.t) l.v l.goes l.adds fl) c.arm_in-a.ensures c.arm_in-b.ensures)
           c.branch_result.ensures.0 c.in_default.is,
       tt,
     )
 
 pub fill_branches-bounds-goes-v : goal.fill_branches-bounds-goes-v
 fill_branches-bounds-goes-v t c =
-    omega (arith, c.requires.1.0.holds.laid.laid.large c.args.k c.requires.1.2, c.loop-v.invariant.0, c.loop-v.invariant.2.targets, c.loop-v-test)
+    omega (arith, c.requires.0.holds.laid.laid.large c.args.k c.requires.2, c.loop-v.invariant.0, c.loop-v.invariant.2.targets, c.loop-v-test)
 
 pub fill_branches-bounds-adds-v : goal.fill_branches-bounds-adds-v
 fill_branches-bounds-adds-v t c =
-    omega (arith, c.requires.1.0.holds.laid.laid.large c.args.k c.requires.1.2, c.loop-v.invariant.0, c.loop-v.invariant.2.addeds, c.loop-v-test)
+    omega (arith, c.requires.0.holds.laid.laid.large c.args.k c.requires.2, c.loop-v.invariant.0, c.loop-v.invariant.2.addeds, c.loop-v-test)
 
 pub fill_branches-loop-v-preserved : goal.fill_branches-loop-v-preserved
 fill_branches-loop-v-preserved t c =
@@ -131,9 +131,9 @@ fill_branches-loop-v-preserved t c =
     let fl = l.invariant.2 in (
       l.invariant.0,
       omega (arith, c.loop-v-test),
-      fill_more (plain c.args.t.now) c.args.k _ c.requires.1.0.holds c.requires.1.2 (plain l.t) _ l.v _ _ l.goes l.adds _ _ fl (omega (arith, l.invariant.0, c.loop-v-test))
-          (joint_held (plain c.args.t.now) _ c.args.k _ _ _ c.requires.1.0 (plain l.t) l.v _ _ _ _
-          (filling_ext (plain c.args.t.now) c.args.k _ c.requires.1.0.holds c.requires.1.2 (plain l.t) l.v l.goes l.adds fl) c.arm_in-a.ensures c.arm_in-b.ensures)
+      fill_more (plain c.args.t.now) c.args.k _ c.requires.0.holds c.requires.2 (plain l.t) _ l.v _ _ l.goes l.adds _ _ fl (omega (arith, l.invariant.0, c.loop-v-test))
+          (joint_held (plain c.args.t.now) _ c.args.k _ _ _ c.requires.0 (plain l.t) l.v _ _ _ _
+          (filling_ext (plain c.args.t.now) c.args.k _ c.requires.0.holds c.requires.2 (plain l.t) l.v l.goes l.adds fl) c.arm_in-a.ensures c.arm_in-b.ensures)
           c.branch_result.ensures.0 c.in-Is.is,
       subst (Still _ _ _) c.in-Is.is c.branch_result.ensures.1,
       search rules,
@@ -148,71 +148,71 @@ fill_branches-returns t c =
 
 pub rest_result-overflow_add-x : goal.rest_result-overflow_add-x
 rest_result-overflow_add-x t c =
-    let d = c.requires.1.0.holds.laid.laid in
-    omega (arith, good_small _ _ _ c.requires.1.0.first, good_small _ _ _ c.requires.1.0.second, d.within, d.most)
+    let d = c.requires.0.holds.laid.laid in
+    omega (arith, good_small _ _ _ c.requires.0.first, good_small _ _ _ c.requires.0.second, d.within, d.most)
 
 pub rest_result-end_word-requires : goal.rest_result-end_word-requires
-rest_result-end_word-requires t c = operands_end _ _ _ _ _ _ c.requires.1.0
+rest_result-end_word-requires t c = operands_end _ _ _ _ _ _ c.requires.0
 
 pub rest_result-returns-then-x-y-eq0 : goal.rest_result-returns-then-x-y-eq0
-rest_result-returns-then-x-y-eq0 t c = (joint_ends _ _ _ _ _ _ c.requires.1.0 _ c.if-x-y-eq0.true c.end_word.ensures, c.requires.1.1)
+rest_result-returns-then-x-y-eq0 t c = (joint_ends _ _ _ _ _ _ c.requires.0 _ c.if-x-y-eq0.true c.end_word.ensures, c.requires.1)
 
 pub rest_result-lowest-m-requires : goal.rest_result-lowest-m-requires
-rest_result-lowest-m-requires t c = (c.requires.1.0.holds.laid.laid, good_small _ _ _ c.requires.1.0.first, good_small _ _ _ c.requires.1.0.second)
+rest_result-lowest-m-requires t c = (c.requires.0.holds.laid.laid, good_small _ _ _ c.requires.0.first, good_small _ _ _ c.requires.0.second)
 
 pub rest_result-rest_result-requires : goal.rest_result-rest_result-requires
 rest_result-rest_result-requires t c =
     let l = c.lowest-m.ensures in
-    let m = skip_most _ _ _ _ _ _ l.0 l.1 _ c.requires.1.0 (omega arith) in
-    (omega arith, (operands_skip _ _ _ _ _ _ l.0 l.1 _ c.requires.1.0 (omega arith), c.requires.1.1))
+    let m = skip_most _ _ _ _ _ _ l.0 l.1 _ c.requires.0 (omega arith) in
+    (omega arith, (operands_skip _ _ _ _ _ _ l.0 l.1 _ c.requires.0 (omega arith), c.requires.1))
 
 pub rest_result-returns-in_default : goal.rest_result-returns-in_default
 rest_result-returns-in_default t c =
     let l = c.lowest-m.ensures in
-    let r = joint_skip _ _ _ _ _ _ l.0 l.1 _ c.requires.1.0 (omega (arith, c.if-k-m)) _ c.rest_result.result c.rest_result.ensures.0 in
+    let r = joint_skip _ _ _ _ _ _ l.0 l.1 _ c.requires.0 (omega (arith, c.if-k-m)) _ c.rest_result.result c.rest_result.ensures.0 in
     (gives_none c.in_default.is r, tt)
 
 pub rest_result-returns-then-k-m : goal.rest_result-returns-then-k-m
 rest_result-returns-then-k-m t c =
     let l = c.lowest-m.ensures in
-    let r = joint_skip _ _ _ _ _ _ l.0 l.1 _ c.requires.1.0 (omega (arith, c.if-k-m)) _ c.rest_result.result c.rest_result.ensures.0 in
+    let r = joint_skip _ _ _ _ _ _ l.0 l.1 _ c.requires.0 (omega (arith, c.if-k-m)) _ c.rest_result.result c.rest_result.ensures.0 in
     (gives_is c.in-Is.is r, subst (Still _ _ _) c.in-Is.is c.rest_result.ensures.1)
 
 pub rest_result-narrow-tag-requires : goal.rest_result-narrow-tag-requires
 rest_result-narrow-tag-requires t c =
-    let hk = still_left _ _ _ _ _ _ c.requires.1.0 c.if-x-y-eq0.false in
-    omega (arith, c.requires.1.0.holds.laid.laid.few)
+    let hk = still_left _ _ _ _ _ _ c.requires.0 c.if-x-y-eq0.false in
+    omega (arith, c.requires.0.holds.laid.laid.few)
 
 pub rest_result-recall_in-memo-requires : goal.rest_result-recall_in-memo-requires
-rest_result-recall_in-memo-requires t c = c.requires.1.1.room
+rest_result-recall_in-memo-requires t c = c.requires.1.room
 
 pub rest_result-returns-in-Known : goal.rest_result-returns-in-Known
 rest_result-returns-in-Known t c =
-    let h = noted_hit c.args.t.now c.args.s.now _ _ _ _ refl c.requires.1.1 c.recall_in-memo.ensures c.in-Known.is
+    let h = noted_hit c.args.t.now c.args.s.now _ _ _ _ refl c.requires.1 c.recall_in-memo.ensures c.in-Known.is
     (omega (arith, c.narrow-tag.ensures)) in
-    (recalled_result _ _ c.args.k _ _ _ c.requires.1.0 c.narrow-tag.ensures h, c.requires.1.1)
+    (recalled_result _ _ c.args.k _ _ _ c.requires.0 c.narrow-tag.ensures h, c.requires.1)
 
 pub rest_result-fill_branches-requires : goal.rest_result-fill_branches-requires
 rest_result-fill_branches-requires t c =
-    let hk = still_left _ _ _ _ _ _ c.requires.1.0 c.if-x-y-eq0.false in
-    (omega arith, (c.requires.1.0, c.requires.1.1, hk, empty, empty))
+    let hk = still_left _ _ _ _ _ _ c.requires.0 c.if-x-y-eq0.false in
+    (omega arith, (c.requires.0, c.requires.1, hk, empty, empty))
 
 pub rest_result-make_in-requires : goal.rest_result-make_in-requires
 rest_result-make_in-requires t c =
-    let hk = still_left _ _ _ _ _ _ c.requires.1.0 c.if-x-y-eq0.false in
+    let hk = still_left _ _ _ _ _ _ c.requires.0 c.if-x-y-eq0.false in
     let fl = filled _ _ _ _ _ _ _ c.if-fill_branches.true c.fill_branches.ensures.0 in (
       (subst (StillIf _ _ _) c.if-fill_branches.true c.fill_branches.ensures.1).room.roomy,
       fl.filled.grown.well,
       omega (arith, kept_features _ _ fl.filled.grown.kept),
-      fill_armed _ _ _ c.requires.1.0.holds hk _ _ _ fl c.requires.1.0.bounded.spread c.requires.1.0.narrow,
+      fill_armed _ _ _ c.requires.0.holds hk _ _ _ fl c.requires.0.bounded.spread c.requires.0.narrow,
     )
 
 pub rest_result-returns-in_default-make_in : goal.rest_result-returns-in_default-make_in
 rest_result-returns-in_default-make_in t c =
-    let hk = still_left _ _ _ _ _ _ c.requires.1.0 c.if-x-y-eq0.false in
+    let hk = still_left _ _ _ _ _ _ c.requires.0 c.if-x-y-eq0.false in
     let fl = filled _ _ _ _ _ _ _ c.if-fill_branches.true c.fill_branches.ensures.0 in
     let m = c.make_in in
-    (gives_none c.in_default-make_in.is (fill_make _ _ _ c.requires.1.0.holds hk _ _ _ _ m.result fl m.ensures.0), tt)
+    (gives_none c.in_default-make_in.is (fill_make _ _ _ c.requires.0.holds hk _ _ _ _ m.result fl m.ensures.0), tt)
 
 pub rest_result-remember_in-requires : goal.rest_result-remember_in-requires
 rest_result-remember_in-requires t c =
@@ -221,17 +221,17 @@ rest_result-remember_in-requires t c =
 
 pub rest_result-returns-then-fill_branches : goal.rest_result-returns-then-fill_branches
 rest_result-returns-then-fill_branches t c =
-    let hk = still_left _ _ _ _ _ _ c.requires.1.0 c.if-x-y-eq0.false in
+    let hk = still_left _ _ _ _ _ _ c.requires.0 c.if-x-y-eq0.false in
     let fl = filled _ _ _ _ _ _ _ c.if-fill_branches.true c.fill_branches.ensures.0 in
     let m = c.make_in in
-    let re = gives_is c.in-Is-make_in.is (fill_make _ _ _ c.requires.1.0.holds hk _ _ _ _ m.result fl m.ensures.0) in (
+    let re = gives_is c.in-Is-make_in.is (fill_make _ _ _ c.requires.0.holds hk _ _ _ _ m.result fl m.ensures.0) in (
       rw c.remember_in.ensures.0 re,
       noted_result cost_table (right_more c.args.o) fl.filled.grown.well m.ensures.0.grown (make_grows _ _ _) m.ensures.1
           (subst (StillIf _ _ _) c.if-fill_branches.true c.fill_branches.ensures.1) refl c.remember_in.ensures
-          (right_here _ _ c.args.k _ _ _ c.narrow-tag.ensures (result_recalled _ _ _ c.args.k _ _ c.args.d _ _ c.requires.1.0 re)),
+          (right_here _ _ c.args.k _ _ _ c.narrow-tag.ensures (result_recalled _ _ _ c.args.k _ _ c.args.d _ _ c.requires.0 re)),
     )
 
 pub rest_result-returns : goal.rest_result-returns
 rest_result-returns t c =
-    let hk = still_left _ _ _ _ _ _ c.requires.1.0 c.if-x-y-eq0.false in
-    (stop_result _ _ _ c.requires.1.0.holds hk _ (not_filled _ _ _ _ _ _ _ c.if-fill_branches.false c.fill_branches.ensures.0), tt)
+    let hk = still_left _ _ _ _ _ _ c.requires.0 c.if-x-y-eq0.false in
+    (stop_result _ _ _ c.requires.0.holds hk _ (not_filled _ _ _ _ _ _ _ c.if-fill_branches.false c.fill_branches.ensures.0), tt)

@@ -24,16 +24,16 @@ use Rattle.rule_engine.proofs.+fill_branches_node_result_rest_result.Goals as go
 
 pub fill_branches-size_word-requires : goal.fill_branches-size_word-requires
 fill_branches-size_word-requires t c =
-    omega (arith, c.requires.1.0.holds.laid.laid.few, c.requires.1.2, c.requires.1.0.holds.laid.laid.room, length_plain c.args.t.now)
+    omega (arith, c.requires.0.holds.laid.laid.few, c.requires.2, c.requires.0.holds.laid.laid.room, length_plain c.args.t.now)
 
 pub fill_branches-loop-v-init : goal.fill_branches-loop-v-init
 fill_branches-loop-v-init t c =
     let e : c.wide-m.result ≡ size (plain c.args.t.now) c.args.k = c.wide-m.ensures.0 ∙ c.size_word.ensures
-    ∙ sym (plain_head c.args.t.now (3 + c.args.k) (omega (arith, c.requires.1.0.holds.laid.laid.few, c.requires.1.2))) in (
+    ∙ sym (plain_head c.args.t.now (3 + c.args.k) (omega (arith, c.requires.0.holds.laid.laid.few, c.requires.2))) in (
       e,
       omega arith,
-      subst (Filling _ _ c.args.k _ 0) (sym c.requires.1.3) (fill_start _ c.args.k _ c.requires.1.0.holds c.requires.1.2 _ refl (λ u h. get_or-replicate 12 u 0 0 h)),
-      c.requires.1.1,
+      subst (Filling _ _ c.args.k _ 0) (sym c.requires.3) (fill_start _ c.args.k _ c.requires.0.holds c.requires.2 _ refl (λ u h. get_or-replicate 12 u 0 0 h)),
+      c.requires.1,
       refl,
       refl,
       refl,
@@ -44,9 +44,9 @@ fill_branches-operands_at-requires t c =
     let l = c.loop-v in
     let fl = l.invariant.2 in
     let kp = fl.filled.grown.kept in (
-      operands_ext (plain c.args.t.now) _ c.args.k _ l.v l.list _ _ c.args.ops.now fl c.requires.1.2 c.requires.1.0,
-      omega (arith, kept_features _ _ kp, c.requires.1.2),
-      omega (arith, kept_size _ _ kp c.requires.1.0.holds.laid.laid.few c.args.k c.requires.1.2, l.invariant.0, c.loop-v-test),
+      operands_ext (plain c.args.t.now) _ c.args.k _ l.v l.list _ _ c.args.ops.now fl c.requires.2 c.requires.0,
+      omega (arith, kept_features _ _ kp, c.requires.2),
+      omega (arith, kept_size _ _ kp c.requires.0.holds.laid.laid.few c.args.k c.requires.2, l.invariant.0, c.loop-v-test),
       l.invariant.6,
     )
 
@@ -55,11 +55,11 @@ fill_branches-rest_result-r-requires t c =
     let l = c.loop-v in
     let fl = l.invariant.2 in
     let n = kept_features _ _ fl.filled.grown.kept in
-    let hk = c.requires.1.2 in (
+    let hk = c.requires.2 in (
       omega arith,
       (
         operands_next _ _ _ c.args.k l.v c.args.ops.now _ (operands_ext (plain c.args.t.now) _ c.args.k _ l.v l.list _ _ c.args.ops.now fl
-            c.requires.1.2 c.requires.1.0) (omega arith) c.operands_at.ensures.0,
+            c.requires.2 c.requires.0) (omega arith) c.operands_at.ensures.0,
         l.invariant.3,
       ),
     )
@@ -68,15 +68,15 @@ pub fill_branches-returns-then-r-ge-NO_ROOM : goal.fill_branches-returns-then-r-
 fill_branches-returns-then-r-ge-NO_ROOM t c =
     let l = c.loop-v in
     let fl = l.invariant.2 in (
-      fill_stop (plain c.args.t.now) c.args.k _ c.requires.1.0.holds c.requires.1.2 (plain l.t) _ l.v l.list _ _ fl (omega (arith, l.invariant.0, c.loop-v-test))
-          (joint_held (plain c.args.t.now) (plain l.t) c.args.o c.args.f c.args.n c.args.k l.v c.args.ops.now _ c.requires.1.0
-          (filling_ext (plain c.args.t.now) c.args.k _ c.requires.1.0.holds c.requires.1.2 (plain l.t) l.v l.list fl) c.operands_at.ensures.0)
+      fill_stop (plain c.args.t.now) c.args.k _ c.requires.0.holds c.requires.2 (plain l.t) _ l.v l.list _ _ fl (omega (arith, l.invariant.0, c.loop-v-test))
+          (joint_held (plain c.args.t.now) (plain l.t) c.args.o c.args.f c.args.n c.args.k l.v c.args.ops.now _ c.requires.0
+          (filling_ext (plain c.args.t.now) c.args.k _ c.requires.0.holds c.requires.2 (plain l.t) l.v l.list fl) c.operands_at.ensures.0)
           c.rest_result-r.ensures.0 (told_none _ c.if-r-ge-NO_ROOM.true),
       tt,
     )
 
 pub fill_branches-bounds-list-v : goal.fill_branches-bounds-list-v
-fill_branches-bounds-list-v t c = omega (arith, c.requires.1.0.holds.laid.laid.large c.args.k c.requires.1.2, c.loop-v.invariant.0, c.loop-v-test)
+fill_branches-bounds-list-v t c = omega (arith, c.requires.0.holds.laid.laid.large c.args.k c.requires.2, c.loop-v.invariant.0, c.loop-v-test)
 
 pub fill_branches-loop-v-preserved : goal.fill_branches-loop-v-preserved
 fill_branches-loop-v-preserved t c =
@@ -85,9 +85,9 @@ fill_branches-loop-v-preserved t c =
     let is = told_is c.rest_result-r.result (omega (arith, c.if-r-ge-NO_ROOM.false)) in (
       l.invariant.0,
       omega (arith, c.loop-v-test),
-      fill_more (plain c.args.t.now) c.args.k _ c.requires.1.0.holds c.requires.1.2 (plain l.t) _ l.v _ l.list _ _ fl (omega (arith, l.invariant.0, c.loop-v-test))
-          (joint_held (plain c.args.t.now) (plain l.t) c.args.o c.args.f c.args.n c.args.k l.v c.args.ops.now _ c.requires.1.0
-          (filling_ext (plain c.args.t.now) c.args.k _ c.requires.1.0.holds c.requires.1.2 (plain l.t) l.v l.list fl) c.operands_at.ensures.0)
+      fill_more (plain c.args.t.now) c.args.k _ c.requires.0.holds c.requires.2 (plain l.t) _ l.v _ l.list _ _ fl (omega (arith, l.invariant.0, c.loop-v-test))
+          (joint_held (plain c.args.t.now) (plain l.t) c.args.o c.args.f c.args.n c.args.k l.v c.args.ops.now _ c.requires.0
+          (filling_ext (plain c.args.t.now) c.args.k _ c.requires.0.holds c.requires.2 (plain l.t) l.v l.list fl) c.operands_at.ensures.0)
           c.rest_result-r.ensures.0 is,
       subst (Still _ _ _ _ _) is c.rest_result-r.ensures.1,
       search rules,
@@ -103,58 +103,58 @@ fill_branches-returns t c =
 
 pub node_result-operands_at-requires : goal.node_result-operands_at-requires
 node_result-operands_at-requires t c =
-    (c.requires.1.0, c.requires.1.2, omega (arith, c.requires.1.0.holds.laid.laid.large c.args.k c.requires.1.2), refl)
+    (c.requires.0, c.requires.2, omega (arith, c.requires.0.holds.laid.laid.large c.args.k c.requires.2), refl)
 
 pub node_result-rest_result-requires : goal.node_result-rest_result-requires
 node_result-rest_result-requires t c =
-    let hk = c.requires.1.2 in
-    (omega arith, (operands_next _ _ _ c.args.k 0 c.args.ops.now _ c.requires.1.0 hk c.operands_at.ensures.0, c.requires.1.1))
+    let hk = c.requires.2 in
+    (omega arith, (operands_next _ _ _ c.args.k 0 c.args.ops.now _ c.requires.0 hk c.operands_at.ensures.0, c.requires.1))
 
 pub node_result-returns-then-f-k : goal.node_result-returns-then-f-k
 node_result-returns-then-f-k t c =
     (
-      joint_forget _ _ _ _ _ c.args.k c.args.ops.now _ _ c.requires.1.0 c.if-f-k.true c.requires.1.2 c.operands_at.ensures.0 c.rest_result.ensures.0,
+      joint_forget _ _ _ _ _ c.args.k c.args.ops.now _ _ c.requires.0 c.if-f-k.true c.requires.2 c.operands_at.ensures.0 c.rest_result.ensures.0,
       c.rest_result.ensures.1,
     )
 
 pub node_result-key_of-requires : goal.node_result-key_of-requires
-node_result-key_of-requires t c = (c.requires.1.0.two, c.requires.1.0.nine, omega (arith, c.requires.1.0.holds.laid.laid.few, c.requires.1.2), refl)
+node_result-key_of-requires t c = (c.requires.0.two, c.requires.0.nine, omega (arith, c.requires.0.holds.laid.laid.few, c.requires.2), refl)
 
 pub node_result-slice_bounds-recall_in-end : goal.node_result-slice_bounds-recall_in-end
-node_result-slice_bounds-recall_in-end t c = omega (arith, c.requires.1.0.nine, c.key_of.ensures.1)
+node_result-slice_bounds-recall_in-end t c = omega (arith, c.requires.0.nine, c.key_of.ensures.1)
 
 pub node_result-recall_in-memo-requires : goal.node_result-recall_in-memo-requires
-node_result-recall_in-memo-requires t c = c.requires.1.1.room
+node_result-recall_in-memo-requires t c = c.requires.1.room
 
 pub node_result-returns-in-Known : goal.node_result-returns-in-Known
 node_result-returns-in-Known t c =
     let q = key_part c.args.n c.args.k c.args.ops.now _ c.key_of.ensures.0 in
-    word_left _ _ c.args.k _ _ c.requires.1.0.holds
-    (hit _ _ _ _ c.args.k c.args.ops.now _ q (memory c.args.t.now c.args.s.now) _ _ _ c.requires.1.0 c.requires.1.1.right
-    c.recall_in-memo.ensures c.in-Known.is) c.requires.1.1
+    word_left _ _ c.args.k _ _ c.requires.0.holds
+    (hit _ _ _ _ c.args.k c.args.ops.now _ q (memory c.args.t.now c.args.s.now) _ _ _ c.requires.0 c.requires.1.right
+    c.recall_in-memo.ensures c.in-Known.is) c.requires.1
 
 pub node_result-fill_branches-requires : goal.node_result-fill_branches-requires
 node_result-fill_branches-requires t c =
-    let hk = c.requires.1.2 in
-    (omega arith, (c.requires.1.0, c.requires.1.1, hk, refl))
+    let hk = c.requires.2 in
+    (omega arith, (c.requires.0, c.requires.1, hk, refl))
 
 pub node_result-make_in-requires : goal.node_result-make_in-requires
 node_result-make_in-requires t c =
     let fl = filled _ _ _ _ _ _ c.if-fill_branches.true c.fill_branches.ensures.0 in (
       (subst (StillIf _ _ _ _ _) c.if-fill_branches.true c.fill_branches.ensures.1).room.roomy,
       fl.filled.grown.well,
-      omega (arith, kept_features _ _ fl.filled.grown.kept, c.requires.1.2),
-      fill_listed _ _ _ c.requires.1.0.holds c.requires.1.2 _ _ fl,
+      omega (arith, kept_features _ _ fl.filled.grown.kept, c.requires.2),
+      fill_listed _ _ _ c.requires.0.holds c.requires.2 _ _ fl,
     )
 
 pub node_result-returns-in_default-make_in : goal.node_result-returns-in_default-make_in
 node_result-returns-in_default-make_in t c =
     let fl = filled _ _ _ _ _ _ c.if-fill_branches.true c.fill_branches.ensures.0 in
     none_left _ _ c.args.k _ _ _ _ _ _
-    (gives_none c.in_default-make_in.is (fill_make _ _ _ c.requires.1.0.holds c.requires.1.2 _ _ _ _ fl c.make_in.ensures.0))
+    (gives_none c.in_default-make_in.is (fill_make _ _ _ c.requires.0.holds c.requires.2 _ _ _ _ fl c.make_in.ensures.0))
 
 pub node_result-slice_bounds-remember_in-end : goal.node_result-slice_bounds-remember_in-end
-node_result-slice_bounds-remember_in-end t c = omega (arith, c.requires.1.0.nine, c.key_of.ensures.1)
+node_result-slice_bounds-remember_in-end t c = omega (arith, c.requires.0.nine, c.key_of.ensures.1)
 
 pub node_result-remember_in-requires : goal.node_result-remember_in-requires
 node_result-remember_in-requires t c =
@@ -168,51 +168,51 @@ node_result-returns-then-fill_branches t c =
     let fb = c.fill_branches in
     let m = c.make_in.ensures in
     let fl = filled _ _ _ _ _ _ c.if-fill_branches.true fb.ensures.0 in
-    let re = gives_is c.in-Is.is (fill_make _ _ _ c.requires.1.0.holds c.requires.1.2 _ _ _ _ fl m.0) in
+    let re = gives_is c.in-Is.is (fill_make _ _ _ c.requires.0.holds c.requires.2 _ _ _ _ fl m.0) in
     let y = key_part c.args.n c.args.k c.args.ops.now _ c.key_of.ensures.0 in
-    word_left _ _ c.args.k _ _ c.requires.1.0.holds (rw c.remember_in.ensures.0 re)
+    word_left _ _ c.args.k _ _ c.requires.0.holds (rw c.remember_in.ensures.0 re)
     (noted_result rule_table (right_more c.args.o c.args.f c.args.n) fl.filled.grown.well m.0.grown (make_grows _ _ _) m.1
     (subst (StillIf _ _ _ _ _) c.if-fill_branches.true fb.ensures.1) y.long c.remember_in.ensures
-    (right_here _ _ _ _ c.args.k c.args.ops.now _ y _ _ (result_recalled _ _ _ _ _ c.args.k _ c.args.ops.now c.requires.1.0 re)))
+    (right_here _ _ _ _ c.args.k c.args.ops.now _ y _ _ (result_recalled _ _ _ _ _ c.args.k _ c.args.ops.now c.requires.0 re)))
 
 pub node_result-returns : goal.node_result-returns
 node_result-returns t c =
     none_left _ _ c.args.k _ _ _ _ _ _
-    (stop_result _ _ _ c.requires.1.0.holds c.requires.1.2 _ (not_filled _ _ _ _ _ _ c.if-fill_branches.false c.fill_branches.ensures.0))
+    (stop_result _ _ _ c.requires.0.holds c.requires.2 _ (not_filled _ _ _ _ _ _ c.if-fill_branches.false c.fill_branches.ensures.0))
 
 pub rest_result-combine-requires : goal.rest_result-combine-requires
-rest_result-combine-requires t c = (c.requires.1.0.two, c.requires.1.0.nine)
+rest_result-combine-requires t c = (c.requires.0.two, c.requires.0.nine)
 
 pub rest_result-returns-then-shortcut : goal.rest_result-returns-then-shortcut
 rest_result-returns-then-shortcut t c =
-    word_left _ _ c.args.k _ _ c.requires.1.0.holds
-    (joint_short _ _ _ _ c.args.k _ c.args.ops.now c.requires.1.0 (c.shortcut.ensures c.if-shortcut.true) c.combine.ensures) c.requires.1.1
+    word_left _ _ c.args.k _ _ c.requires.0.holds
+    (joint_short _ _ _ _ c.args.k _ c.args.ops.now c.requires.0 (c.shortcut.ensures c.if-shortcut.true) c.combine.ensures) c.requires.1
 
 pub rest_result-lowest-m-requires : goal.rest_result-lowest-m-requires
-rest_result-lowest-m-requires t c = (c.requires.1.0.holds.laid.laid, c.requires.1.0.nine, λ j h. good_small _ _ _ (c.requires.1.0.each j h))
+rest_result-lowest-m-requires t c = (c.requires.0.holds.laid.laid, c.requires.0.nine, λ j h. good_small _ _ _ (c.requires.0.each j h))
 
 pub rest_result-features_word-requires : goal.rest_result-features_word-requires
-rest_result-features_word-requires t c = omega (arith, c.requires.1.0.holds.laid.laid.room, length_plain c.args.t.now)
+rest_result-features_word-requires t c = omega (arith, c.requires.0.holds.laid.laid.room, length_plain c.args.t.now)
 
 pub rest_result-combine-requires-then-wide-m : goal.rest_result-combine-requires-then-wide-m
-rest_result-combine-requires-then-wide-m t c = (c.requires.1.0.two, c.requires.1.0.nine)
+rest_result-combine-requires-then-wide-m t c = (c.requires.0.two, c.requires.0.nine)
 
 pub rest_result-returns-then-wide-m : goal.rest_result-returns-then-wide-m
 rest_result-returns-then-wide-m t c =
     let e : c.wide.result ≡ features (plain c.args.t.now) = c.wide.ensures.0 ∙ c.features_word.ensures
     ∙ plain_features c.args.t.now in
-    word_left _ _ c.args.k _ _ c.requires.1.0.holds
-    (joint_phrases _ _ _ _ c.args.k c.lowest-m.result _ c.args.ops.now c.requires.1.0 c.lowest-m.ensures (omega arith) c.combine-then-wide-m.ensures) c.requires.1.1
+    word_left _ _ c.args.k _ _ c.requires.0.holds
+    (joint_phrases _ _ _ _ c.args.k c.lowest-m.result _ c.args.ops.now c.requires.0 c.lowest-m.ensures (omega arith) c.combine-then-wide-m.ensures) c.requires.1
 
 pub rest_result-node_result-requires : goal.rest_result-node_result-requires
 rest_result-node_result-requires t c =
     let e : c.wide.result ≡ features (plain c.args.t.now) = c.wide.ensures.0 ∙ c.features_word.ensures ∙ plain_features c.args.t.now in
-    let h = lowest_from _ _ _ c.args.k c.lowest-m.result c.args.ops.now c.requires.1.0 c.lowest-m.ensures in
-    (omega arith, (operands_jump _ _ _ c.args.k c.lowest-m.result c.args.ops.now c.requires.1.0 c.lowest-m.ensures, c.requires.1.1, omega arith))
+    let h = lowest_from _ _ _ c.args.k c.lowest-m.result c.args.ops.now c.requires.0 c.lowest-m.ensures in
+    (omega arith, (operands_jump _ _ _ c.args.k c.lowest-m.result c.args.ops.now c.requires.0 c.lowest-m.ensures, c.requires.1, omega arith))
 
 pub rest_result-returns : goal.rest_result-returns
 rest_result-returns t c =
     (
-      joint_jump _ _ _ _ _ c.args.k c.lowest-m.result c.args.ops.now _ c.requires.1.0 c.lowest-m.ensures c.node_result.ensures.0,
+      joint_jump _ _ _ _ _ c.args.k c.lowest-m.result c.args.ops.now _ c.requires.0 c.lowest-m.ensures c.node_result.ensures.0,
       c.node_result.ensures.1,
     )

@@ -14,7 +14,7 @@ returns-then-all_same c =
     let w = c.args.t.now in
     let k = c.args.k in
     let e : c.wide.result ≡ size w k = c.wide.ensures.0 ∙ c.size_word.ensures in
-    found_same w k c.args.t3 c.requires.0 c.requires.1 c.requires.2 c.branch_at.result c.branch_at.ensures (rw e at (sure c.if-all_same.true c.all_same.ensures))
+    found_same w k c.args.list c.requires.0 c.requires.1 c.requires.2 c.branch_at.result c.branch_at.ensures (rw e at (sure c.if-all_same.true c.all_same.ensures))
 
 pub returns-then-c-gt0 : goal.returns-then-c-gt0
 returns-then-c-gt0 c =
@@ -23,7 +23,7 @@ returns-then-c-gt0 c =
     let e : c.wide.result ≡ size w k = c.wide.ensures.0 ∙ c.size_word.ensures in
     let f = c.find_record-c.ensures in
     rw c.narrow.ensures
-    (found_node w k c.args.t3 c.requires.0 c.requires.1 c.requires.2 _ (omega (arith, f.within))
+    (found_node w k c.args.list c.requires.0 c.requires.1 c.requires.2 _ (omega (arith, f.within))
     (rw e at (sure_not c.if-all_same.false c.all_same.ensures)) (f.there (omega arith)))
 
 pub returns : goal.returns
@@ -31,5 +31,5 @@ returns c =
     let w = c.args.t.now in
     let k = c.args.k in
     let e : c.wide.result ≡ size w k = c.wide.ensures.0 ∙ c.size_word.ensures in
-    found_none w k c.args.t3 c.requires.0 c.requires.1 c.requires.2 c.find_record-c.result (omega arith)
+    found_none w k c.args.list c.requires.0 c.requires.1 c.requires.2 c.find_record-c.result (omega arith)
     (rw e at (sure_not c.if-all_same.false c.all_same.ensures)) c.find_record-c.ensures

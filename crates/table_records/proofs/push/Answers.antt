@@ -17,7 +17,7 @@ loop-v-preserved c =
   simp length-set (simp length-set at l.invariant.0),
   search rules,
   (λ j h. get_or-set_other l.t _ j _ 0 (omega arith) ∙ l.invariant.2 j h),
-  run_more l.t c.args.t3 _ l.v (omega (arith, simp length-set at l.invariant.0)) l.invariant.3,
+  run_more l.t c.args.list _ l.v (omega (arith, simp length-set at l.invariant.0)) l.invariant.3,
   (λ j h. get_or-set_other l.t _ j _ 0 (omega arith) ∙ l.invariant.4 j (omega arith)),
 )
 
@@ -43,7 +43,7 @@ pub returns : goal.returns
 returns c =
     let l = c.loop-v in let e : c.wide-i.result ≡ count c.args.t.now = c.wide-i.ensures.0 ∙ c.count_word.ensures in (
       e,
-      pushed c.args.t.now l.t c.args.t3 _ _ _ _ _ _ _ _ e c.narrow-more.ensures c.narrow.ensures
+      pushed c.args.t.now l.t c.args.list _ _ _ _ _ _ _ _ e c.narrow-more.ensures c.narrow.ensures
           c.hash_of-h.ensures.0 c.hash_of-h.ensures.1 c.bucket_word-next.ensures (omega arith) l.invariant.0 l.invariant.2
           (λ j h. l.invariant.4 j (omega arith)) (λ u h. l.invariant.3 u (omega arith)),
     )

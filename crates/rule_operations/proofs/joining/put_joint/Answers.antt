@@ -15,10 +15,10 @@ join-r-requires c = (c.requires.2, at_rest c.requires.0)
 
 pub settle-requires : goal.settle-requires
 settle-requires c =
-    settle_asks (joint c.args.t.now c.args.o c.args.f c.args.n 0 c.args.t7) c.join-r.result c.requires.0
+    settle_asks (joint c.args.t.now c.args.o c.args.f c.args.n 0 c.args.ops) c.join-r.result c.requires.0
     c.join-r.ensures c.requires.1 (c.wide-used.ensures.0 ∙ c.count_word.ensures)
 
 pub returns : goal.returns
 returns c =
-    settles (joint c.args.t.now c.args.o c.args.f c.args.n 0 c.args.t7) c.join-r.result c.requires.0 c.join-r.ensures c.requires.1
+    settles (joint c.args.t.now c.args.o c.args.f c.args.n 0 c.args.ops) c.join-r.result c.requires.0 c.join-r.ensures c.requires.1
     (c.wide-used.ensures.0 ∙ c.count_word.ensures) c.settle.ensures
