@@ -40,6 +40,6 @@ returns c =
     let l = c.loop-v in (
       search rules,
       put c.args.t.now l.t c.args.list.now _ _ _ _ _ _ _ (omega arith) c.record_word.ensures c.record_word-x.ensures
-          c.record_word-x.ensures (omega arith) (omega arith) c.requires
+          c.record_word-y.ensures (omega arith) (omega arith) c.requires
           l.invariant.0 l.invariant.2 (λ u h. l.invariant.3 u (omega arith)) (λ j h. l.invariant.4 j (omega arith)),
     )

@@ -34,5 +34,5 @@ shape_of-t c = simp length-set c.loop-j.invariant.2.long
 pub returns : goal.returns
 returns c =
     let l = c.loop-j in
-    let e : l.j ≡ 16 * c.wide.result = omega arith in
+    let e : l.j ≡ 16 * c.wide-end.result = omega arith in
     brought _ _ _ c.head_word-m.result c.requires c.head_word-m.ensures (omega arith) (omega arith) (omega arith) (rw e at l.invariant.2)
