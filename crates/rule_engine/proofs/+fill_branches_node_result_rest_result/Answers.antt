@@ -102,8 +102,7 @@ fill_branches-returns t c =
     (rw e at l.invariant.2, l.invariant.3)
 
 pub node_result-operands_at-requires : goal.node_result-operands_at-requires
-node_result-operands_at-requires t c =
-    (c.requires.0, c.requires.2, omega (arith, c.requires.0.holds.laid.laid.large c.args.k c.requires.2), refl)
+node_result-operands_at-requires t c = (c.requires.0, c.requires.2, omega (arith, c.requires.0.holds.laid.laid.large c.args.k c.requires.2), refl)
 
 pub node_result-rest_result-requires : goal.node_result-rest_result-requires
 node_result-rest_result-requires t c =

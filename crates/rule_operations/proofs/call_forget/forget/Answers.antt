@@ -37,13 +37,13 @@ put_joint-requires c =
     let t = c.in_default.is in (
       e.sound t,
       (e.there t).each 0 (omega arith),
-      forget_operands (e.sound t) a.from a.feature c.wide.result _
+      forget_operands (e.sound t) a.from a.feature c.wide-m.result _
           (omega (
             arith,
             c.wide.ensures.0,
             c.features_word.ensures,
           ))
-          (c.wide.ensures.0 ∙ c.size_word.ensures)
+          (c.wide-m.ensures.0 ∙ c.size_word.ensures)
           (λ j h. get_or-replicate 9 j c.root_word-b.result 0 h ∙ c.root_word-b.ensures) ((e.there t).each 1 (omega arith)),
     )
 
@@ -53,6 +53,6 @@ returns c =
     let e = c.door-o.ensures in
     let t = c.in_default.is in
     built_meets refl refl c.put_joint.ensures
-    (forget_agrees (e.sound t) a.from a.feature c.wide.result _ (omega (arith, c.wide.ensures.0, c.features_word.ensures))
-    (c.wide.ensures.0 ∙ c.size_word.ensures) (λ j h. get_or-replicate 9 j c.root_word-b.result 0 h ∙ c.root_word-b.ensures) ((e.there t).each 1 (omega arith)))
+    (forget_agrees (e.sound t) a.from a.feature c.wide-m.result _ (omega (arith, c.wide.ensures.0, c.features_word.ensures))
+    (c.wide-m.ensures.0 ∙ c.size_word.ensures) (λ j h. get_or-replicate 9 j c.root_word-b.result 0 h ∙ c.root_word-b.ensures) ((e.there t).each 1 (omega arith)))
     (λ z. let_in e t (pass (λ h. omega (arith, h, c.wide.ensures.0, c.features_word.ensures, length_sizes a.t.now)) z)) (λ k. tt) (λ y k. k)

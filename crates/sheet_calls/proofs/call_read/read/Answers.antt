@@ -19,19 +19,19 @@ pub returns-in-Refused-checked : goal.returns-in-Refused-checked
 returns-in-Refused-checked c = refuses refl refl (let_in c.door-o.ensures c.in_default.is (unread c.check-checked.ensures c.in-Refused-checked.is))
 
 pub same_list-requires : goal.same_list-requires
-same_list-requires c = (c.door-o.ensures.sound c.in_default.is, (c.check-checked.ensures.ready c.in_default.is).laid.opens)
+same_list-requires c = (c.door-o.ensures.sound c.in_default.is, (c.check-checked.ensures.ready c.in_default-checked.is).laid.opens)
 
 pub returns-then-not-same_list : goal.returns-then-not-same_list
 returns-then-not-same_list c =
     refuses refl refl (let_in c.door-o.ensures c.in_default.is (read_on c.check-checked.ensures
-    c.in_default.is (stop (denied c.same_list.result c.if-not-same_list.true-raw c.same_list.ensures))))
+    c.in_default-checked.is (stop (denied c.same_list.result c.if-not-same_list.true-raw c.same_list.ensures))))
 
 pub put_read-requires : goal.put_read-requires
 put_read-requires c =
     (
       c.door-o.ensures.sound c.in_default.is,
       (c.door-o.ensures.there c.in_default.is).each 0 (omega arith),
-      c.check-checked.ensures.ready c.in_default.is,
+      c.check-checked.ensures.ready c.in_default-checked.is,
       granted c.same_list.result c.if-not-same_list.false-raw c.same_list.ensures,
     )
 
@@ -40,6 +40,6 @@ returns c =
     let p = puts_one c.put_read.ensures (sheet_rule c.args.sheet.now) (λ t v. refl) in
     let list = granted c.same_list.result c.if-not-same_list.false-raw c.same_list.ensures in
     wrote looked drawn {d = read_sheet c.args.place c.args.sheet.now} refl refl p
-    (let_in c.door-o.ensures c.in_default.is (read_on c.check-checked.ensures c.in_default.is
+    (let_in c.door-o.ensures c.in_default.is (read_on c.check-checked.ensures c.in_default-checked.is
     (pass (λ n. n list) (room_ends looked drawn c.args.t.now (sheet_rule c.args.sheet.now) c.put_read.result p.ends))))
     (λ e. tt) (λ x e. e)
