@@ -7,30 +7,30 @@ use Rattle.promises.specs.Words.{size}
 use Rattle.rule_restrict.proofs.+restrict_walk.Goals as goal
 
 pub top_of-k-requires : goal.top_of-k-requires
-top_of-k-requires t c = ((walk_holds _ _ _ _ c.requires.1).laid.laid, walk_small _ _ _ _ c.requires.1)
+top_of-k-requires t c = ((walk_holds _ _ _ _ c.requires).laid.laid, walk_small _ _ _ _ c.requires)
 
 pub child_of-requires : goal.child_of-requires
 child_of-requires t c =
-    (asks_here _ c.args.b c.args.f c.args.x c.requires.1 (omega arith), walk_known _ _ _ _ c.requires.1, walk_value _ _ _ _ c.requires.1)
+    (asks_here _ c.args.b c.args.f c.args.x c.requires (omega arith), walk_known _ _ _ _ c.requires, walk_value _ _ _ _ c.requires)
 
 pub returns-then-f-k : goal.returns-then-f-k
-returns-then-f-k t c = walked_here _ c.args.b c.args.f c.args.x c.requires.1 _ (omega arith) c.child_of.ensures
+returns-then-f-k t c = walked_here _ c.args.b c.args.f c.args.x c.requires _ (omega arith) c.child_of.ensures
 
 pub overflow_sub-b : goal.overflow_sub-b
-overflow_sub-b t c = omega (arith, node_here _ _ _ _ c.requires.1 (omega arith))
+overflow_sub-b t c = omega (arith, node_here _ _ _ _ c.requires (omega arith))
 
 pub note_of-known-requires : goal.note_of-known-requires
 note_of-known-requires t c =
-    let n = node_here _ _ _ _ c.requires.1 (omega arith) in
-    (c.requires.1.room, in_room _ _ _ _ c.requires.1 c.top_of-k.result c.wide-i.result c.top_of-k.ensures (omega arith) (omega arith))
+    let n = node_here _ _ _ _ c.requires (omega arith) in
+    (c.requires.room, in_room _ _ _ _ c.requires c.top_of-k.result c.wide-i.result c.top_of-k.ensures (omega arith) (omega arith))
 
 pub returns-then-known-gt0 : goal.returns-then-known-gt0
 returns-then-known-gt0 t c =
-    walked_known _ _ _ _ c.requires.1 c.top_of-k.result c.wide-i.result
+    walked_known _ _ _ _ c.requires c.top_of-k.result c.wide-i.result
     c.top_of-k.ensures (omega arith) (omega arith) _ c.note_of-known.ensures (omega arith)
 
 pub size_word-requires : goal.size_word-requires
-size_word-requires t c = omega (arith, walk_known _ _ _ _ c.requires.1, (walk_holds _ _ _ _ c.requires.1).laid.laid.few, c.requires.1.room.room)
+size_word-requires t c = omega (arith, walk_known _ _ _ _ c.requires, (walk_holds _ _ _ _ c.requires).laid.laid.few, c.requires.room.room)
 
 pub loop-v-init : goal.loop-v-init
 loop-v-init t c =
@@ -38,9 +38,9 @@ loop-v-init t c =
       e,
       omega arith,
       refl,
-      loop_start _ _ _ _ c.requires.1 c.top_of-k.result c.wide-i.result c.top_of-k.ensures (omega arith) (omega arith) _ refl
+      loop_start _ _ _ _ c.requires c.top_of-k.result c.wide-i.result c.top_of-k.ensures (omega arith) (omega arith) _ refl
           (λ u h. get_or-replicate 12 u 0 0 h),
-      c.requires.1.noted,
+      c.requires.noted,
     )
 
 pub child_of-c-requires : goal.child_of-c-requires
@@ -50,7 +50,7 @@ child_of-c-requires t c =
     let i = c.wide-i in
     let lt : p.result < c.args.f = omega (arith, c.if-f-k) in
     let ei : i.result ≡ c.args.b - 65536 = omega (arith, c.wide-i) in
-    asks_child _ _ _ _ c.requires.1 p.result i.result p.ensures lt ei l.t l.list l.v l.invariant.3 l.invariant.4 (omega (arith, l.invariant.0))
+    asks_child _ _ _ _ c.requires p.result i.result p.ensures lt ei l.t l.list l.v l.invariant.3 l.invariant.4 (omega (arith, l.invariant.0))
 
 pub restrict_walk-requires : goal.restrict_walk-requires
 restrict_walk-requires t c =
@@ -61,10 +61,10 @@ restrict_walk-requires t c =
     let ei : i.result ≡ c.args.b - 65536 = omega (arith, c.wide-i) in (
       omega (
         arith,
-        walk_falls _ _ _ _ c.requires.1 p.result i.result p.ensures lt ei l.t l.list l.v l.invariant.3 l.invariant.4 _
+        walk_falls _ _ _ _ c.requires p.result i.result p.ensures lt ei l.t l.list l.v l.invariant.3 l.invariant.4 _
             c.child_of-c.ensures,
       ),
-      asks_walk _ _ _ _ c.requires.1 p.result i.result p.ensures lt ei l.t l.list l.v l.invariant.3 l.invariant.4 _ c.child_of-c.ensures,
+      asks_walk _ _ _ _ c.requires p.result i.result p.ensures lt ei l.t l.list l.v l.invariant.3 l.invariant.4 _ c.child_of-c.ensures,
     )
 
 pub returns-in_default : goal.returns-in_default
@@ -74,7 +74,7 @@ returns-in_default t c =
     let i = c.wide-i in
     let lt : p.result < c.args.f = omega (arith, c.if-f-k) in
     let ei : i.result ≡ c.args.b - 65536 = omega (arith, c.wide-i) in
-    loop_stop _ _ _ _ c.requires.1 p.result i.result p.ensures lt ei l.t l.list l.v l.invariant.3 l.invariant.4 _ _ _ (omega (arith, l.invariant.0))
+    loop_stop _ _ _ _ c.requires p.result i.result p.ensures lt ei l.t l.list l.v l.invariant.3 l.invariant.4 _ _ _ (omega (arith, l.invariant.0))
     c.child_of-c.ensures c.restrict_walk.ensures c.in_default.is
 
 pub bounds-list-v : goal.bounds-list-v
@@ -84,7 +84,7 @@ bounds-list-v t c =
     let i = c.wide-i in
     let lt : p.result < c.args.f = omega (arith, c.if-f-k) in
     let ei : i.result ≡ c.args.b - 65536 = omega (arith, c.wide-i) in
-    omega (arith, l.invariant.3.long, l.invariant.0, (walk_holds _ _ _ _ c.requires.1).laid.laid.large p.result (omega (arith, walk_known _ _ _ _ c.requires.1)))
+    omega (arith, l.invariant.3.long, l.invariant.0, (walk_holds _ _ _ _ c.requires).laid.laid.large p.result (omega (arith, walk_known _ _ _ _ c.requires)))
 
 pub loop-v-preserved : goal.loop-v-preserved
 loop-v-preserved t c =
@@ -112,7 +112,7 @@ make-requires t c =
     let i = c.wide-i in
     let lt : p.result < c.args.f = omega (arith, c.if-f-k) in
     let ei : i.result ≡ c.args.b - 65536 = omega (arith, c.wide-i) in
-    asks_make _ _ _ _ c.requires.1 p.result i.result p.ensures lt ei l.t l.list l.v l.invariant.3 l.invariant.4 (omega (arith, l.invariant.0, l.invariant.1))
+    asks_make _ _ _ _ c.requires p.result i.result p.ensures lt ei l.t l.list l.v l.invariant.3 l.invariant.4 (omega (arith, l.invariant.0, l.invariant.1))
 
 pub returns-in_default-make : goal.returns-in_default-make
 returns-in_default-make t c =
@@ -121,7 +121,7 @@ returns-in_default-make t c =
     let i = c.wide-i in
     let lt : p.result < c.args.f = omega (arith, c.if-f-k) in
     let ei : i.result ≡ c.args.b - 65536 = omega (arith, c.wide-i) in
-    made _ _ _ _ c.requires.1 p.result i.result p.ensures lt ei l.t l.list l.v l.invariant.3 l.invariant.4 (omega (arith, l.invariant.0, l.invariant.1)) _ _ _
+    made _ _ _ _ c.requires p.result i.result p.ensures lt ei l.t l.list l.v l.invariant.3 l.invariant.4 (omega (arith, l.invariant.0, l.invariant.1)) _ _ _
     c.in_default-make.is c.make.ensures
 
 pub overflow_add-r : goal.overflow_add-r
@@ -131,9 +131,9 @@ overflow_add-r t c =
     let i = c.wide-i in
     let lt : p.result < c.args.f = omega (arith, c.if-f-k) in
     let ei : i.result ≡ c.args.b - 65536 = omega (arith, c.wide-i) in
-    let y = made _ _ _ _ c.requires.1 p.result i.result p.ensures lt ei l.t l.list l.v l.invariant.3 l.invariant.4 (omega (arith, l.invariant.0, l.invariant.1)) _ _ _
+    let y = made _ _ _ _ c.requires p.result i.result p.ensures lt ei l.t l.list l.v l.invariant.3 l.invariant.4 (omega (arith, l.invariant.0, l.invariant.1)) _ _ _
     c.in-Is-make.is c.make.ensures in
-    omega (arith, walked_small _ _ _ _ c.requires.1 _ _ y)
+    omega (arith, walked_small _ _ _ _ c.requires _ _ y)
 
 pub put_note-requires : goal.put_note-requires
 put_note-requires t c =
@@ -142,11 +142,11 @@ put_note-requires t c =
     let i = c.wide-i in
     let lt : p.result < c.args.f = omega (arith, c.if-f-k) in
     let ei : i.result ≡ c.args.b - 65536 = omega (arith, c.wide-i) in
-    let y = made _ _ _ _ c.requires.1 p.result i.result p.ensures lt ei l.t l.list l.v l.invariant.3 l.invariant.4 (omega (arith, l.invariant.0, l.invariant.1)) _ _ _
+    let y = made _ _ _ _ c.requires p.result i.result p.ensures lt ei l.t l.list l.v l.invariant.3 l.invariant.4 (omega (arith, l.invariant.0, l.invariant.1)) _ _ _
     c.in-Is-make.is c.make.ensures in (
-      walked_room _ _ _ _ c.requires.1 _ _ y,
-      walked_in _ _ _ _ c.requires.1 _ _ y i.result (in_use _ _ _ _ c.requires.1 p.result i.result p.ensures lt ei)
-          (whose _ _ _ _ c.requires.1 p.result i.result p.ensures lt ei),
+      walked_room _ _ _ _ c.requires _ _ y,
+      walked_in _ _ _ _ c.requires _ _ y i.result (in_use _ _ _ _ c.requires p.result i.result p.ensures lt ei)
+          (whose _ _ _ _ c.requires p.result i.result p.ensures lt ei),
     )
 
 pub returns : goal.returns
@@ -156,7 +156,7 @@ returns t c =
     let i = c.wide-i in
     let lt : p.result < c.args.f = omega (arith, c.if-f-k) in
     let ei : i.result ≡ c.args.b - 65536 = omega (arith, c.wide-i) in
-    let y = made _ _ _ _ c.requires.1 p.result i.result p.ensures lt ei l.t l.list l.v l.invariant.3 l.invariant.4 (omega (arith, l.invariant.0, l.invariant.1)) _ _ _
+    let y = made _ _ _ _ c.requires p.result i.result p.ensures lt ei l.t l.list l.v l.invariant.3 l.invariant.4 (omega (arith, l.invariant.0, l.invariant.1)) _ _ _
     c.in-Is-make.is c.make.ensures in
-    rw c.put_note.ensures (walked_put _ _ _ _ c.requires.1 _ _ y i.result (in_use _ _ _ _ c.requires.1 p.result i.result p.ensures lt ei)
-    (whose _ _ _ _ c.requires.1 p.result i.result p.ensures lt ei))
+    rw c.put_note.ensures (walked_put _ _ _ _ c.requires _ _ y i.result (in_use _ _ _ _ c.requires p.result i.result p.ensures lt ei)
+    (whose _ _ _ _ c.requires p.result i.result p.ensures lt ei))

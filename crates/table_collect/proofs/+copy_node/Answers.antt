@@ -29,16 +29,16 @@ made t c =
 
 pub width-m-requires : goal.width-m-requires
 width-m-requires t c =
-    let f = c.requires.1.0.walkable in
-    (omega (arith, c.requires.1.1, f.room, f.within), omega (arith, c.requires.1.1, f.most, f.within), (f.fits c.args.i c.requires.1.1).0)
+    let f = c.requires.0.walkable in
+    (omega (arith, c.requires.1, f.room, f.within), omega (arith, c.requires.1, f.most, f.within), (f.fits c.args.i c.requires.1).0)
 
 pub loop-v-init : goal.loop-v-init
 loop-v-init t c =
     record {
-      opened = c.requires.1.0;
-      lowest = c.requires.1.3;
-      there = c.requires.1.1;
-      none = c.requires.1.2;
+      opened = c.requires.0;
+      lowest = c.requires.3;
+      there = c.requires.1;
+      none = c.requires.2;
       many = c.width-m.ensures;
       upto = omega arith;
       long = search rules;
