@@ -69,7 +69,7 @@ pub fill_branches-loop-v-init : goal.fill_branches-loop-v-init
 fill_branches-loop-v-init t c =
     let e : c.wide-n.result ≡ size (plain c.args.t.now) c.args.k = c.wide-n.ensures.0 ∙ c.size_word.ensures
     ∙ sym (plain_head c.args.t.now (3 + c.args.k) (omega (arith, c.requires.0.holds.laid.laid.few, c.requires.2))) in
-    (e, omega arith, fill_start _ c.args.k _ c.requires.0.holds c.requires.2 _ _ c.requires.3 c.requires.4, c.requires, refl, refl)
+    (e, omega arith, fill_start _ c.args.k _ c.requires.0.holds c.requires.2 _ _ c.requires.3 c.requires.4, c.requires.1, refl, refl)
 
 pub fill_branches-branch_at-c-requires : goal.fill_branches-branch_at-c-requires
 fill_branches-branch_at-c-requires t c =
@@ -169,7 +169,7 @@ rest_result-number_of-requires t c = sure c.if-is_number.true c.is_number.ensure
 
 pub rest_result-returns-then-is_number : goal.rest_result-returns-then-is_number
 rest_result-returns-then-is_number t c =
-    (choice_ends _ _ _ _ _ _ _ c.requires.0 _ c.args.d c.number_of.ensures refl _ c.ended.ensures, still_there _ _ _ c.ended.result c.requires)
+    (choice_ends _ _ _ _ _ _ _ c.requires.0 _ c.args.d c.number_of.ensures refl _ c.ended.ensures, still_there _ _ _ c.ended.result c.requires.1)
 
 pub rest_result-lowest_of-m-requires : goal.rest_result-lowest_of-m-requires
 rest_result-lowest_of-m-requires t c =
@@ -201,7 +201,7 @@ rest_result-tag_of-tag-requires t c =
     (omega (arith, p.holds.laid.laid.few), key_small p.rule)
 
 pub rest_result-recall_in-memo-requires : goal.rest_result-recall_in-memo-requires
-rest_result-recall_in-memo-requires t c = c.requires.room
+rest_result-recall_in-memo-requires t c = c.requires.1.room
 
 pub rest_result-returns-in-Known : goal.rest_result-returns-in-Known
 rest_result-returns-in-Known t c =

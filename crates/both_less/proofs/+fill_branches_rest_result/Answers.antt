@@ -19,11 +19,11 @@ pub fill_branches-loop-v-init : goal.fill_branches-loop-v-init
 fill_branches-loop-v-init t c =
     let e0 = c.requires.4 in
     let e : c.wide-m.result ≡ size c.args.c.now c.args.k = c.wide-m.ensures.0 ∙ c.size_word.ensures in
-    let n = as_long _ _ c.requires.same in (
-      omega (arith, as_large _ _ c.requires.same c.args.k (omega (arith, n, c.requires.3)) c.requires.3),
+    let n = as_long _ _ c.requires.1.same in (
+      omega (arith, as_large _ _ c.requires.1.same c.args.k (omega (arith, n, c.requires.3)) c.requires.3),
       e,
       omega arith,
-      fill_start c.requires.ready (omega (arith, n, c.requires.3)) _ (ap length e0)
+      fill_start c.requires.1.ready (omega (arith, n, c.requires.3)) _ (ap length e0)
           (λ u h. ap (λ (l : List ℕ). listed l u) e0 ∙ get_or-replicate 12 u 0 0 h),
       c.requires.2,
       refl,
@@ -62,7 +62,7 @@ fill_branches-rest_result-requires t c =
       (
         operands_step _ _ _ _ _ c.requires.0 hk l.v _ _ _ _ hv c.arm_at-a.ensures
             c.arm_at-b.ensures _ g,
-        beside_grown c.requires fl,
+        beside_grown c.requires.1 fl,
         l.invariant.4,
       ),
     )
@@ -72,8 +72,8 @@ fill_branches-returns-in_default t c =
     let l = c.loop-v in
     let hv : l.v < size c.args.c.now c.args.k = omega (arith, l.invariant.1, c.loop-v-test) in
     let g = onward_word _ _ _ _ _ c.sum_word.ensures c.difference_word-g.ensures in
-    let n = as_long _ _ c.requires.same in (
-      fill_stop c.requires.ready (omega (arith, n, c.requires.3)) c.rest_result.result l.invariant.3 (omega (arith, l.invariant.0, c.loop-v-test))
+    let n = as_long _ _ c.requires.1.same in (
+      fill_stop c.requires.1.ready (omega (arith, n, c.requires.3)) c.rest_result.result l.invariant.3 (omega (arith, l.invariant.0, c.loop-v-test))
           (less_held _ _ _ _ _ c.requires.0 c.requires.3 l.v _ _ _ _ hv c.arm_at-a.ensures c.arm_at-b.ensures _ g)
           c.rest_result.ensures.0 c.in_default.is,
       tt,
@@ -121,7 +121,7 @@ rest_result-branch_of-requires t c = bit_small (lt_z (pos 0) (int c.args.d)) c.a
 
 pub rest_result-returns-then-x-y : goal.rest_result-returns-then-x-y
 rest_result-returns-then-x-y t c =
-    (less_equal _ _ _ _ _ c.requires.0 c.requires c.if-x-y.true c.above_zero.ensures c.branch_of.ensures, c.requires.2)
+    (less_equal _ _ _ _ _ c.requires.0 c.requires.1 c.if-x-y.true c.above_zero.ensures c.branch_of.ensures, c.requires.2)
 
 pub rest_result-top_of-requires : goal.rest_result-top_of-requires
 rest_result-top_of-requires t c = (c.requires.0.holds.laid.laid, good_small _ _ _ c.requires.0.first)
@@ -134,20 +134,20 @@ rest_result-rest_result-requires t c =
     let hx : c.args.k < top c.args.c.now c.args.x = omega (arith, c.top_of.ensures, c.if-k-top_of) in
     let hy : c.args.k < top c.args.c.now c.args.y = omega (arith, c.top_of-then-k-top_of.ensures, c.if-k-top_of-2) in
     let hk = skip_left _ _ _ _ _ c.requires.0 hx hy in
-    (omega arith, (operands_skip _ _ _ _ _ c.requires.0 hx hy, c.requires, c.requires.2))
+    (omega arith, (operands_skip _ _ _ _ _ c.requires.0 hx hy, c.requires.1, c.requires.2))
 
 pub rest_result-returns-in_default : goal.rest_result-returns-in_default
 rest_result-returns-in_default t c =
     let hx : c.args.k < top c.args.c.now c.args.x = omega (arith, c.top_of.ensures, c.if-k-top_of) in
     let hy : c.args.k < top c.args.c.now c.args.y = omega (arith, c.top_of-then-k-top_of.ensures, c.if-k-top_of-2) in
-    let r = less_skip _ _ _ _ _ c.requires.0 hx hy _ _ c.rest_result.result c.requires c.rest_result.ensures.0 in
+    let r = less_skip _ _ _ _ _ c.requires.0 hx hy _ _ c.rest_result.result c.requires.1 c.rest_result.ensures.0 in
     (result_none c.in_default.is r, tt)
 
 pub rest_result-returns-then-k-top_of-2 : goal.rest_result-returns-then-k-top_of-2
 rest_result-returns-then-k-top_of-2 t c =
     let hx : c.args.k < top c.args.c.now c.args.x = omega (arith, c.top_of.ensures, c.if-k-top_of) in
     let hy : c.args.k < top c.args.c.now c.args.y = omega (arith, c.top_of-then-k-top_of.ensures, c.if-k-top_of-2) in
-    let r = less_skip _ _ _ _ _ c.requires.0 hx hy _ _ c.rest_result.result c.requires c.rest_result.ensures.0 in
+    let r = less_skip _ _ _ _ _ c.requires.0 hx hy _ _ c.rest_result.result c.requires.1 c.rest_result.ensures.0 in
     (result_is c.in-Is.is r, subst (Still _ _ _) c.in-Is.is c.rest_result.ensures.1)
 
 pub rest_result-overflow_add-k-2 : goal.rest_result-overflow_add-k-2
@@ -163,20 +163,20 @@ rest_result-returns-in-Known t c =
 pub rest_result-fill_branches-requires : goal.rest_result-fill_branches-requires
 rest_result-fill_branches-requires t c =
     let hk = still_left _ _ _ _ _ c.requires.0 c.if-x-y.false in
-    (omega arith, (c.requires.0, c.requires, c.requires.2, hk, refl))
+    (omega arith, (c.requires.0, c.requires.1, c.requires.2, hk, refl))
 
 pub rest_result-make-requires : goal.rest_result-make-requires
 rest_result-make-requires t c =
     let hk = still_left _ _ _ _ _ c.requires.0 c.if-x-y.false in
-    let n = as_long _ _ c.requires.same in
-    fill_listed c.requires.ready (omega arith) (filled c.fill_branches.new.s.1.1.1.1.1.1.0 c.if-fill_branches.true c.fill_branches.ensures.0)
+    let n = as_long _ _ c.requires.1.same in
+    fill_listed c.requires.1.ready (omega arith) (filled c.fill_branches.new.s.1.1.1.1.1.1.0 c.if-fill_branches.true c.fill_branches.ensures.0)
 
 pub rest_result-returns-in_default-make : goal.rest_result-returns-in_default-make
 rest_result-returns-in_default-make t c =
     let hk = still_left _ _ _ _ _ c.requires.0 c.if-x-y.false in
-    let n = as_long _ _ c.requires.same in
+    let n = as_long _ _ c.requires.1.same in
     let fl = filled c.fill_branches.new.s.1.1.1.1.1.1.0 c.if-fill_branches.true c.fill_branches.ensures.0 in
-    (result_none c.in_default-make.is (fill_make c.requires.ready (omega arith) c.make.result fl c.make.ensures), tt)
+    (result_none c.in_default-make.is (fill_make c.requires.1.ready (omega arith) c.make.result fl c.make.ensures), tt)
 
 pub rest_result-remember-requires : goal.rest_result-remember-requires
 rest_result-remember-requires t c = omega (arith, c.narrow-tag.ensures)
@@ -184,13 +184,13 @@ rest_result-remember-requires t c = omega (arith, c.narrow-tag.ensures)
 pub rest_result-returns-then-fill_branches : goal.rest_result-returns-then-fill_branches
 rest_result-returns-then-fill_branches t c =
     let hk = still_left _ _ _ _ _ c.requires.0 c.if-x-y.false in
-    let n = as_long _ _ c.requires.same in
+    let n = as_long _ _ c.requires.1.same in
     let fl = filled c.fill_branches.new.s.1.1.1.1.1.1.0 c.if-fill_branches.true c.fill_branches.ensures.0 in
     let q = c.in-Is-make.is in
-    let re = result_is q (fill_make c.requires.ready (omega arith) c.make.result fl c.make.ensures) in
+    let re = result_is q (fill_make c.requires.1.ready (omega arith) c.make.result fl c.make.ensures) in
     let so = subst (StillIf _ _ _) c.if-fill_branches.true c.fill_branches.ensures.1 in (
       re,
-      remembers_result _ _ c.args.k _ c.narrow-tag.ensures refl _ _ _ _ c.requires.ready re
+      remembers_result _ _ c.args.k _ c.narrow-tag.ensures refl _ _ _ _ c.requires.1.ready re
           (remembers_made _ _ _ c.args.k c.fill_branches.new.s.1.1.1.1.1.1.0 c.make.result c.in-Is-make.z _ (filling_ready fl) c.make.ensures q so)
           c.remember.ensures,
     )
@@ -198,8 +198,8 @@ rest_result-returns-then-fill_branches t c =
 pub rest_result-returns : goal.rest_result-returns
 rest_result-returns t c =
     let hk = still_left _ _ _ _ _ c.requires.0 c.if-x-y.false in
-    let n = as_long _ _ c.requires.same in (
-      stop_result c.requires.ready (omega arith) (not_filled c.fill_branches.new.s.1.1.1.1.1.1.0 c.if-fill_branches.false
+    let n = as_long _ _ c.requires.1.same in (
+      stop_result c.requires.1.ready (omega arith) (not_filled c.fill_branches.new.s.1.1.1.1.1.1.0 c.if-fill_branches.false
           c.fill_branches.ensures.0),
       tt,
     )

@@ -14,7 +14,7 @@ use Rattle.both_lowest.proofs.+best_low_branch_low_rest_low.Goals as goal
 pub best_low-loop-v-init : goal.best_low-loop-v-init
 best_low-loop-v-init t c =
     let e : c.wide-m.result ≡ size c.args.c.now c.args.k = c.wide-m.ensures.0 ∙ c.size_word.ensures in
-    (e, omega arith, to_none c.args.c.now c.args.r.now c.args.k c.args.x c.args.b, c.requires, refl)
+    (e, omega arith, to_none c.args.c.now c.args.r.now c.args.k c.args.x c.args.b, c.requires.1, refl)
 
 pub best_low-branch_low-requires : goal.best_low-branch_low-requires
 best_low-branch_low-requires t c = let l = c.loop-v in (omega arith, (c.requires.0, l.invariant.3, c.requires.2, omega (arith, l.invariant.0)))

@@ -31,7 +31,7 @@ branch_result-rest_result-requires t c =
       (
         subst (λ (z : ℤ). Operands (plain c.args.t.now) c.args.o c.args.k c.args.a.to c.args.b.to z)
             (sym c.gap_word-g.ensures) c.requires.0.rest,
-        c.requires,
+        c.requires.1,
       ),
     )
 
@@ -64,7 +64,7 @@ pub fill_branches-loop-v-init : goal.fill_branches-loop-v-init
 fill_branches-loop-v-init t c =
     let e : c.wide-m.result ≡ size (plain c.args.t.now) c.args.k = c.wide-m.ensures.0 ∙ c.size_word.ensures
     ∙ sym (plain_head c.args.t.now (3 + c.args.k) (omega (arith, c.requires.0.holds.laid.laid.few, c.requires.2))) in
-    (e, omega arith, fill_start _ c.args.k _ c.requires.0.holds c.requires.2 _ _ c.requires.3 c.requires.4, c.requires, refl, refl)
+    (e, omega arith, fill_start _ c.args.k _ c.requires.0.holds c.requires.2 _ _ c.requires.3 c.requires.4, c.requires.1, refl, refl)
 
 pub fill_branches-arm_in-a-requires : goal.fill_branches-arm_in-a-requires
 fill_branches-arm_in-a-requires t c =
@@ -155,7 +155,7 @@ pub rest_result-end_word-requires : goal.rest_result-end_word-requires
 rest_result-end_word-requires t c = operands_end _ _ _ _ _ _ c.requires.0
 
 pub rest_result-returns-then-x-y-eq0 : goal.rest_result-returns-then-x-y-eq0
-rest_result-returns-then-x-y-eq0 t c = (joint_ends _ _ _ _ _ _ c.requires.0 _ c.if-x-y-eq0.true c.end_word.ensures, c.requires)
+rest_result-returns-then-x-y-eq0 t c = (joint_ends _ _ _ _ _ _ c.requires.0 _ c.if-x-y-eq0.true c.end_word.ensures, c.requires.1)
 
 pub rest_result-lowest-m-requires : goal.rest_result-lowest-m-requires
 rest_result-lowest-m-requires t c = (c.requires.0.holds.laid.laid, good_small _ _ _ c.requires.0.first, good_small _ _ _ c.requires.0.second)
@@ -164,7 +164,7 @@ pub rest_result-rest_result-requires : goal.rest_result-rest_result-requires
 rest_result-rest_result-requires t c =
     let l = c.lowest-m.ensures in
     let m = skip_most _ _ _ _ _ _ l.0 l.1 _ c.requires.0 (omega arith) in
-    (omega arith, (operands_skip _ _ _ _ _ _ l.0 l.1 _ c.requires.0 (omega arith), c.requires))
+    (omega arith, (operands_skip _ _ _ _ _ _ l.0 l.1 _ c.requires.0 (omega arith), c.requires.1))
 
 pub rest_result-returns-in_default : goal.rest_result-returns-in_default
 rest_result-returns-in_default t c =
@@ -184,18 +184,18 @@ rest_result-narrow-tag-requires t c =
     omega (arith, c.requires.0.holds.laid.laid.few)
 
 pub rest_result-recall_in-memo-requires : goal.rest_result-recall_in-memo-requires
-rest_result-recall_in-memo-requires t c = c.requires.room
+rest_result-recall_in-memo-requires t c = c.requires.1.room
 
 pub rest_result-returns-in-Known : goal.rest_result-returns-in-Known
 rest_result-returns-in-Known t c =
-    let h = noted_hit c.args.t.now c.args.s.now _ _ _ _ refl c.requires c.recall_in-memo.ensures c.in-Known.is
+    let h = noted_hit c.args.t.now c.args.s.now _ _ _ _ refl c.requires.1 c.recall_in-memo.ensures c.in-Known.is
     (omega (arith, c.narrow-tag.ensures)) in
-    (recalled_result _ _ c.args.k _ _ _ c.requires.0 c.narrow-tag.ensures h, c.requires)
+    (recalled_result _ _ c.args.k _ _ _ c.requires.0 c.narrow-tag.ensures h, c.requires.1)
 
 pub rest_result-fill_branches-requires : goal.rest_result-fill_branches-requires
 rest_result-fill_branches-requires t c =
     let hk = still_left _ _ _ _ _ _ c.requires.0 c.if-x-y-eq0.false in
-    (omega arith, (c.requires.0, c.requires, hk, empty, empty))
+    (omega arith, (c.requires.0, c.requires.1, hk, empty, empty))
 
 pub rest_result-make_in-requires : goal.rest_result-make_in-requires
 rest_result-make_in-requires t c =

@@ -14,10 +14,10 @@ use Rattle.cost_range.proofs.+branch_ends_fold_branches_rest_ends.Goals as goal
 
 pub branch_ends-returns-then-base-eq0 : goal.branch_ends-returns-then-base-eq0
 branch_ends-returns-then-base-eq0 t c =
-    (base_lost _ _ _ c.args.a.adds _ c.args.b.adds c.requires.0 c.args.minus c.tied_word-base.result c.if-base-eq0.true c.tied_word-base.ensures, refl, c.requires)
+    (base_lost _ _ _ c.args.a.adds _ c.args.b.adds c.requires.0 c.args.minus c.tied_word-base.result c.if-base-eq0.true c.tied_word-base.ensures, refl, c.requires.1)
 
 pub branch_ends-rest_ends-requires : goal.branch_ends-rest_ends-requires
-branch_ends-rest_ends-requires t c = (omega arith, (c.requires.0, c.requires))
+branch_ends-rest_ends-requires t c = (omega arith, (c.requires.0, c.requires.1))
 
 pub branch_ends-returns-in_default : goal.branch_ends-returns-in_default
 branch_ends-returns-in_default t c =
@@ -56,7 +56,7 @@ branch_ends-returns t c =
     )
 
 pub fold_branches-size_word-requires : goal.fold_branches-size_word-requires
-fold_branches-size_word-requires t c = omega (arith, c.requires.room.roomy.room, c.requires.2, c.requires.0.holds.laid.laid.few)
+fold_branches-size_word-requires t c = omega (arith, c.requires.1.room.roomy.room, c.requires.2, c.requires.0.holds.laid.laid.few)
 
 pub fold_branches-loop-v-init : goal.fold_branches-loop-v-init
 fold_branches-loop-v-init t c =
@@ -66,7 +66,7 @@ fold_branches-loop-v-init t c =
       folded_none _ _ _ _,
       folded_none _ _ _ _,
       refl,
-      c.requires,
+      c.requires.1,
       refl,
       refl,
     )
@@ -132,7 +132,7 @@ rest_ends-returns-then-x-eq0 t c =
       first_ended _ _ _ _ c.requires.0 c.args.minus _ _ _ _ c.kept_in.ensures c.kept_in-then-x-eq0.ensures
           c.if-x-eq0.true c.met_ends.result c.met_ends.ensures,
       refl,
-      c.requires,
+      c.requires.1,
     )
 
 pub rest_ends-kept_in-requires-then-y-eq0 : goal.rest_ends-kept_in-requires-then-y-eq0
@@ -147,7 +147,7 @@ rest_ends-returns-then-y-eq0 t c =
       second_ended _ _ _ _ c.requires.0 c.args.minus _ _ _ _ c.kept_in-then-y-eq0.ensures c.kept_in-then-y-eq0-2.ensures
           c.if-y-eq0.true c.met_ends-then-y-eq0.result c.met_ends-then-y-eq0.ensures,
       refl,
-      c.requires,
+      c.requires.1,
     )
 
 pub rest_ends-lowest-j-requires : goal.rest_ends-lowest-j-requires
@@ -166,7 +166,7 @@ rest_ends-narrow-tag-requires t c =
     omega (arith, c.requires.0.holds.laid.laid.few)
 
 pub rest_ends-recall_in-memo-requires : goal.rest_ends-recall_in-memo-requires
-rest_ends-recall_in-memo-requires t c = c.requires.room
+rest_ends-recall_in-memo-requires t c = c.requires.1.room
 
 pub rest_ends-returns-in-Known : goal.rest_ends-returns-in-Known
 rest_ends-returns-in-Known t c =
@@ -175,9 +175,9 @@ rest_ends-returns-in-Known t c =
     let j = m.result in
     let hj = pair_left _ _ _ _ p j m.ensures.0 m.ensures.1 c.if-x-eq0.false in
     let kj = pair_from_lem _ _ _ _ p j m.ensures.0 m.ensures.1 m.ensures.2 in
-    let h = noted_hit c.args.t.now c.args.s.now _ _ _ _ refl c.requires c.recall_in-memo.ensures c.in-Known.is
+    let h = noted_hit c.args.t.now c.args.s.now _ _ _ _ refl c.requires.1 c.recall_in-memo.ensures c.in-Known.is
     (omega (arith, c.narrow-tag.ensures)) in
-    (reaches_jump _ _ _ _ p c.args.minus j m.ensures.0 m.ensures.1 kj hj (Are _ _) (h.at j c.narrow-tag.ensures), refl, c.requires)
+    (reaches_jump _ _ _ _ p c.args.minus j m.ensures.0 m.ensures.1 kj hj (Are _ _) (h.at j c.narrow-tag.ensures), refl, c.requires.1)
 
 pub rest_ends-fold_branches-requires : goal.rest_ends-fold_branches-requires
 rest_ends-fold_branches-requires t c =
@@ -186,7 +186,7 @@ rest_ends-fold_branches-requires t c =
     let j = m.result in
     let hj = pair_left _ _ _ _ p j m.ensures.0 m.ensures.1 c.if-x-eq0.false in
     let kj = pair_from_lem _ _ _ _ p j m.ensures.0 m.ensures.1 m.ensures.2 in
-    (omega arith, (pair_jump _ _ _ _ p j m.ensures.0 m.ensures.1 hj, c.requires, hj))
+    (omega arith, (pair_jump _ _ _ _ p j m.ensures.0 m.ensures.1 hj, c.requires.1, hj))
 
 pub rest_ends-returns-in_default-fold_branches : goal.rest_ends-returns-in_default-fold_branches
 rest_ends-returns-in_default-fold_branches t c =

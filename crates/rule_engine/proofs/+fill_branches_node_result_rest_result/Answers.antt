@@ -33,7 +33,7 @@ fill_branches-loop-v-init t c =
       e,
       omega arith,
       subst (Filling _ _ c.args.k _ 0) (sym c.requires.3) (fill_start _ c.args.k _ c.requires.0.holds c.requires.2 _ refl (λ u h. get_or-replicate 12 u 0 0 h)),
-      c.requires,
+      c.requires.1,
       refl,
       refl,
       refl,
@@ -107,7 +107,7 @@ node_result-operands_at-requires t c = (c.requires.0, c.requires.2, omega (arith
 pub node_result-rest_result-requires : goal.node_result-rest_result-requires
 node_result-rest_result-requires t c =
     let hk = c.requires.2 in
-    (omega arith, (operands_next _ _ _ c.args.k 0 c.args.ops.now _ c.requires.0 hk c.operands_at.ensures.0, c.requires))
+    (omega arith, (operands_next _ _ _ c.args.k 0 c.args.ops.now _ c.requires.0 hk c.operands_at.ensures.0, c.requires.1))
 
 pub node_result-returns-then-f-k : goal.node_result-returns-then-f-k
 node_result-returns-then-f-k t c =
@@ -123,19 +123,19 @@ pub node_result-slice_bounds-recall_in-end : goal.node_result-slice_bounds-recal
 node_result-slice_bounds-recall_in-end t c = omega (arith, c.requires.0.nine, c.key_of.ensures.1)
 
 pub node_result-recall_in-memo-requires : goal.node_result-recall_in-memo-requires
-node_result-recall_in-memo-requires t c = c.requires.room
+node_result-recall_in-memo-requires t c = c.requires.1.room
 
 pub node_result-returns-in-Known : goal.node_result-returns-in-Known
 node_result-returns-in-Known t c =
     let q = key_part c.args.n c.args.k c.args.ops.now _ c.key_of.ensures.0 in
     word_left _ _ c.args.k _ _ c.requires.0.holds
-    (hit _ _ _ _ c.args.k c.args.ops.now _ q (memory c.args.t.now c.args.s.now) _ _ _ c.requires.0 c.requires.right
-    c.recall_in-memo.ensures c.in-Known.is) c.requires
+    (hit _ _ _ _ c.args.k c.args.ops.now _ q (memory c.args.t.now c.args.s.now) _ _ _ c.requires.0 c.requires.1.right
+    c.recall_in-memo.ensures c.in-Known.is) c.requires.1
 
 pub node_result-fill_branches-requires : goal.node_result-fill_branches-requires
 node_result-fill_branches-requires t c =
     let hk = c.requires.2 in
-    (omega arith, (c.requires.0, c.requires, hk, refl))
+    (omega arith, (c.requires.0, c.requires.1, hk, refl))
 
 pub node_result-make_in-requires : goal.node_result-make_in-requires
 node_result-make_in-requires t c =
@@ -185,7 +185,7 @@ rest_result-combine-requires t c = (c.requires.0.two, c.requires.0.nine)
 pub rest_result-returns-then-shortcut : goal.rest_result-returns-then-shortcut
 rest_result-returns-then-shortcut t c =
     word_left _ _ c.args.k _ _ c.requires.0.holds
-    (joint_short _ _ _ _ c.args.k _ c.args.ops.now c.requires.0 (c.shortcut.ensures c.if-shortcut.true) c.combine.ensures) c.requires
+    (joint_short _ _ _ _ c.args.k _ c.args.ops.now c.requires.0 (c.shortcut.ensures c.if-shortcut.true) c.combine.ensures) c.requires.1
 
 pub rest_result-lowest-m-requires : goal.rest_result-lowest-m-requires
 rest_result-lowest-m-requires t c = (c.requires.0.holds.laid.laid, c.requires.0.nine, λ j h. good_small _ _ _ (c.requires.0.each j h))
@@ -201,13 +201,13 @@ rest_result-returns-then-wide-m t c =
     let e : c.wide.result ≡ features (plain c.args.t.now) = c.wide.ensures.0 ∙ c.features_word.ensures
     ∙ plain_features c.args.t.now in
     word_left _ _ c.args.k _ _ c.requires.0.holds
-    (joint_phrases _ _ _ _ c.args.k c.lowest-m.result _ c.args.ops.now c.requires.0 c.lowest-m.ensures (omega arith) c.combine-then-wide-m.ensures) c.requires
+    (joint_phrases _ _ _ _ c.args.k c.lowest-m.result _ c.args.ops.now c.requires.0 c.lowest-m.ensures (omega arith) c.combine-then-wide-m.ensures) c.requires.1
 
 pub rest_result-node_result-requires : goal.rest_result-node_result-requires
 rest_result-node_result-requires t c =
     let e : c.wide.result ≡ features (plain c.args.t.now) = c.wide.ensures.0 ∙ c.features_word.ensures ∙ plain_features c.args.t.now in
     let h = lowest_from _ _ _ c.args.k c.lowest-m.result c.args.ops.now c.requires.0 c.lowest-m.ensures in
-    (omega arith, (operands_jump _ _ _ c.args.k c.lowest-m.result c.args.ops.now c.requires.0 c.lowest-m.ensures, c.requires, omega arith))
+    (omega arith, (operands_jump _ _ _ c.args.k c.lowest-m.result c.args.ops.now c.requires.0 c.lowest-m.ensures, c.requires.1, omega arith))
 
 pub rest_result-returns : goal.rest_result-returns
 rest_result-returns t c =

@@ -7,25 +7,7 @@ use native.Mathlib.Numerals.{add-one}
 use mathlib.Core.Logic.{⊎_elim}
 use borrow.Author.Rules.{rules}
 use Rattle.table_collect.proofs.+copy_node.Goals as goal
-
-abbrev asked : ℕ → In 1 kinds.ps
-asked t = and 1 kinds.ps (is 1 kinds.ps μ-copy-node t) own.Pre
-
-abbrev lower : ℕ → In 1 kinds.ps
-lower t = and 1 kinds.ps (falls 1 kinds.ps ◌<◌ μ-copy-node t) own.Pre
-
-abbrev claims : ℕ → lts.Claims
-claims t = (size.Asked, size.Learnt, way.Asked, way.Learnt, copy.Asked, copy.Learnt, wide.Asked, wide.Learnt, lower t, own.Post, lay.Asked, lay.Learnt, add.Asked, add.Learnt, word.Asked, word.Learnt)
-
--- by either way the next branch's word becomes r
-made : (t : ℕ) (c : lts.Joined1 (claims t) (asked t) own.Post invariant-loop decreases-loop) → let s = c.before.before.before.before.before.before in
-    Done s.before.before.before.before.args.first s.loop.t c.if1.t (moves_step c.before.before.before.way-word.result c.if1.r)
-made t c =
-    let e = c.before.here.ensures in
-    ⊎_elim
-    (λ g. rw (g.6, g.7) (copy_at e g.0.taken g.2.ensures.0 g.3.ensures))
-    (λ g. rw (g.1, g.2) (e.copy g.0.left))
-    c.if1.branch
+use Rattle.table_collect.proofs.+copy_node.Goals.{then-r, else-r}
 
 pub width-m-requires : goal.width-m-requires
 width-m-requires t c =
@@ -61,10 +43,22 @@ copy_node-r-requires t c =
     (omega (arith, g.0), (g.1, g.2, g.3, g.4))
 
 pub lay_branch-requires : goal.lay_branch-requires
-lay_branch-requires t c = lays c.loop-v.invariant (omega arith) c.way_word-x.ensures (made t c)
+lay_branch-requires t c =
+    let made : Done c.args.first c.loop-v.t c.if-r.t (moves_step c.way_word-x.result c.if-r.r) =
+    elim c.if-r.branch [
+      | then-r w ↦ rw (w.t-is, w.r-is) (copy_at c.here-r.ensures w.if-r.true w.wide.ensures.0 w.copy_node-r.ensures)
+      | else-r w ↦ rw (w.t-is, w.r-is) (c.here-r.ensures.copy w.if-r.false)
+    ] in
+    lays c.loop-v.invariant (omega arith) c.way_word-x.ensures made
 
 pub loop-v-preserved : goal.loop-v-preserved
-loop-v-preserved t c = rw add-one (fills c.loop-v.invariant (omega arith) c.way_word-x.ensures (made t c) c.lay_branch.ensures)
+loop-v-preserved t c =
+    let made : Done c.args.first c.loop-v.t c.if-r.t (moves_step c.way_word-x.result c.if-r.r) =
+    elim c.if-r.branch [
+      | then-r w ↦ rw (w.t-is, w.r-is) (copy_at c.here-r.ensures w.if-r.true w.wide.ensures.0 w.copy_node-r.ensures)
+      | else-r w ↦ rw (w.t-is, w.r-is) (c.here-r.ensures.copy w.if-r.false)
+    ] in
+    rw add-one (fills c.loop-v.invariant (omega arith) c.way_word-x.ensures made c.lay_branch.ensures)
 
 pub add_copy-requires : goal.add_copy-requires
 add_copy-requires t c = spare c.loop-v.invariant

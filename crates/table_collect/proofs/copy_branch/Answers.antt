@@ -15,7 +15,7 @@ pub returns-then-r : goal.returns-then-r
 returns-then-r c = copy_at c.here-r.ensures c.if-r.true c.wide.ensures.0 c.copy_node.ensures
 
 pub shape_of-t-then-r : goal.shape_of-t-then-r
-shape_of-t-then-r c = (keeps (returns c) c.requires.0).steady.long
+shape_of-t-then-r c = (keeps (returns-then-r c) c.requires.0).steady.long
 
 pub returns : goal.returns
 returns c = c.here-r.ensures.copy c.if-r.false

@@ -7,10 +7,6 @@ use Rattle.table_sweep.proofs.Marking.{mark_link}
 use mathlib.Core.Path.{◌∙◌}
 use Rattle.table_collect.proofs.here.Goals as goal
 
--- the link is the node's mark
-says : (c : tie.After-record-word) → let a = c.before.before.before.before in c.record-word.result ≡ mark a.args.t.now c.before.wide.result
-says c = let a = c.before.before.before.before in c.record-word.ensures ∙ sym (mark_link a.args.t.now c.before.wide.result (omega (arith, a.requires.2)))
-
 pub returns-then-b-low : goal.returns-then-b-low
 returns-then-b-low c = here_low c.requires.0 c.requires.2 c.if-b-low.true c.requires.1
 
@@ -20,14 +16,18 @@ record_word-c-requires c =
 
 pub overflow_add-result : goal.overflow_add-result
 overflow_add-result c =
+    let says : c.record_word-c.result ≡ mark c.args.t.now c.wide.result = c.record_word-c.ensures ∙ sym (mark_link c.args.t.now c.wide.result (omega (arith, c.requires.2))) in
     let o = c.requires.0 in let f = o.walkable in
-    omega (arith, o.marks c.wide.result (omega (arith, c.requires.1)), says c, (full_open o).fewer, f.within, f.most, f.least)
+    omega (arith, o.marks c.wide.result (omega (arith, c.requires.1)), says, (full_open o).fewer, f.within, f.most, f.least)
 
 pub returns-then-c-gt0 : goal.returns-then-c-gt0
 returns-then-c-gt0 c =
+    let says : c.record_word-c.result ≡ mark c.args.t.now c.wide.result = c.record_word-c.ensures ∙ sym (mark_link c.args.t.now c.wide.result (omega (arith, c.requires.2))) in
     let i = c.wide.result in let n = c.record_word-c.result in
     here_copy c.requires.0
-    (found c.args.t.now c.args.b (c.args.first + (n - 1)) i (n - 1) (omega arith) (omega arith) (omega (arith, c.requires.1)) (omega (arith, says c)))
+    (found c.args.t.now c.args.b (c.args.first + (n - 1)) i (n - 1) (omega arith) (omega arith) (omega (arith, c.requires.1)) (omega (arith, says)))
 
 pub returns : goal.returns
-returns c = here_none c.wide.result (omega arith) (omega (arith, says c))
+returns c =
+    let says : c.record_word-c.result ≡ mark c.args.t.now c.wide.result = c.record_word-c.ensures ∙ sym (mark_link c.args.t.now c.wide.result (omega (arith, c.requires.2))) in
+    here_none c.wide.result (omega arith) (omega (arith, says))

@@ -6,6 +6,7 @@ use native.Mathlib.Numerals.{add-one}
 use mathlib.Core.Logic.{⊎_elim}
 use mathlib.Core.Path.{◌∙◌}
 use Rattle.table_collect.proofs.kept_by.Goals as goal
+use Rattle.table_collect.proofs.kept_by.Goals.{then-first-a, else-first-a}
 
 pub loop-q-init : goal.loop-q-init
 loop-q-init c = (c.requires, omega arith, sym (highest_none c.args.first c.args.t.now))
@@ -34,10 +35,10 @@ loop-q-preserved c =
     let l = c.loop-q in let e = c.head_word-b.ensures in let a = c.args in (
       l.invariant.0,
       omega arith,
-      rw add-one (⊎_elim
-          (λ w. w.1 ∙ highest_up a.first a.t.now l.q l.invariant.2 e w.0.taken)
-          (λ w. w.1 ∙ highest_stay a.first a.t.now l.q l.invariant.2 e w.0.left)
-          c.if-first-a.branch),
+      rw add-one (elim c.if-first-a.branch [
+        | then-first-a w ↦ w.a-is ∙ highest_up a.first a.t.now l.q l.invariant.2 e w.if-first-a.true
+        | else-first-a w ↦ w.a-is ∙ highest_stay a.first a.t.now l.q l.invariant.2 e w.if-first-a.false
+      ]),
     )
 
 pub returns : goal.returns

@@ -30,7 +30,7 @@ copy_branch-r-requires c =
 pub bounds-t-q : goal.bounds-t-q
 bounds-t-q c =
     let l = c.loop-q.invariant in
-    omega (arith, l.2.many, l.1.walkable.room, (root_next l.1 l.2 (omega arith) l.4).long, c.copy_branch-r.auto.0)
+    omega (arith, l.2.many, l.1.walkable.room, (root_next l.1 l.2 (omega arith) l.4).long, c.copy_branch-r.auto.t)
 
 pub loop-q-preserved : goal.loop-q-preserved
 loop-q-preserved c =

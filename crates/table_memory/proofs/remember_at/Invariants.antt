@@ -4,8 +4,8 @@ use Rattle.table_memory.proofs.remember_at.Given as goal
 
 abbrev pub invariant-loop-j : goal.invariant-loop-j
 invariant-loop-j l =
-    (length l.s ≡ length l.initial.s) × (l.j ≤ l.n) × ((l.i : ℕ) → l.i < l.base → get_or l.s l.i 0 ≡ get_or l.initial.s l.i 0)
-    × ((u : ℕ) → u < l.j → get_or l.s (l.base + u) 0 ≡ get_or l.key u 0) × ((l.i : ℕ) → l.base + l.j ≤ l.i → get_or l.s l.i 0 ≡ get_or l.initial.s l.i 0)
+    (length l.s ≡ length l.initial.s) × (l.j ≤ l.n) × ((i : ℕ) → i < l.base → get_or l.s i 0 ≡ get_or l.initial.s i 0)
+    × ((u : ℕ) → u < l.j → get_or l.s (l.base + u) 0 ≡ get_or l.key u 0) × ((i : ℕ) → l.base + l.j ≤ i → get_or l.s i 0 ≡ get_or l.initial.s i 0)
 
 abbrev pub decreases-loop-j : goal.decreases-loop-j
 decreases-loop-j l = l.n - l.j
