@@ -5,7 +5,7 @@ use mathlib.Core.List.{List}
 use Prim.Native.Nat.{ℕ, suc, ◌+◌, ◌-◌, ◌*◌, ◌≤◌, ◌<◌}
 use native.Mathlib.Nat.{le_refl}
 use native.Mathlib.Omega.{arith}
-use lib.ListN.{length, set}
+use lib.ListN.{length}
 use lib.Seq.{get_or-set_other}
 use Rattle.theory.specs.Copying.{marked}
 use Rattle.theory.proofs.Copying.{marked_le, marked_lt, marked_more, marked_kept}

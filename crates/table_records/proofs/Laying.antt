@@ -11,7 +11,7 @@ use Rattle.table_words.proofs.Words.{kept_features, kept_capacity, kept_size, ha
 use Rattle.table_words.proofs.Chains.{last_ext, last_here, last_not}
 use Rattle.table_records.specs.Laid.{Laid}
 use Rattle.table_records.specs.Changes.{Pushed, Popped, RecordIs}
-use Rattle.promises.specs.Words.{word, capacity, features, count, feature, body, link, bucket, hash_of, hash_at, last_of}
+use Rattle.promises.specs.Words.{word, capacity, features, count, body, link, bucket, hash_of, hash_at, last_of}
 
 -- the new record is what was asked for
 pub pushed_is : (w w' : List ℕ) (k : ℕ) (l : List ℕ) {x y : ℕ} → Pushed w w' k l x y → RecordIs w' (count w) k l

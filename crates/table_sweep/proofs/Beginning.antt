@@ -7,7 +7,7 @@ use native.Mathlib.Omega.{arith}
 use lib.ListN.{length, get_or, take}
 use lib.Seq.{get_or-append_seam, take-append-le, take-length}
 use Rattle.theory.specs.Build.{Built, Ext, build, table}
-use Rattle.theory.specs.Diagrams.{Branch, Node, Target, blank, meaning, node}
+use Rattle.theory.specs.Diagrams.{Branch, Node, Target, blank, meaning}
 use Rattle.theory.specs.Functions.{Fun}
 use Rattle.theory.specs.Kind.{Kind}
 use Rattle.theory.proofs.Growing.{build_grows, each_append, each_length, ext_le, ext_trans, take_ext}

@@ -11,7 +11,6 @@ use lib.Seq.{get_or-append_seam}
 use Rattle.theory.specs.Kind.{Kind}
 use Rattle.theory.specs.Settings.{Pos, Valid, zeros}
 use Rattle.theory.specs.Functions.{Agree, Fun, held, lift, parts, zero_fun}
-use Rattle.theory.specs.Diagrams.{at}
 use Rattle.theory.specs.Rests.{Counts, Depends, Equal, Free, IsRest, OfSome, Rest, Seen, after, no_rest, norm}
 use Rattle.theory.specs.Tally.{add, flat, free_decided, gather, own, rests, seen_decided, tally}
 use Rattle.theory.specs.Build.{build, each}

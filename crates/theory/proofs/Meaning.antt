@@ -11,7 +11,7 @@ use Rattle.theory.specs.Kind.{Kind}
 use Rattle.theory.specs.Deciding.{Alike, In, alike_decided, find}
 use Rattle.theory.specs.Settings.{Valid}
 use Rattle.theory.specs.Functions.{Fun, held, parts}
-use Rattle.theory.specs.Diagrams.{Branch, Node, at, base, blank, empty, leaf, less, node_of, value}
+use Rattle.theory.specs.Diagrams.{Branch, Node, base, blank, empty, leaf, less, node_of, value}
 use Rattle.theory.specs.Comparing.{branch_discrete, node_discrete}
 use Rattle.theory.specs.WellFormed.{Fits, Mean, Means, Ok, Under, WellFormed}
 use Rattle.theory.specs.Build.{Built, Ext, below, build, decide, each, make}

@@ -40,11 +40,11 @@ bounds-last-h-in-loop-i c = omega (arith, c.loop-i.invariant.2.sized, c.hash_at-
 pub loop-i-preserved : goal.loop-i-preserved
 loop-i-preserved c =
     let l = c.loop-i in let g = c.hash_at-h.ensures in (
-  l.invariant.0,
-  omega arith,
-  chaining_more _ _ _ _ _ l.invariant.2 (linked_more _ _ _ _ _ l.invariant.2 g.0 g.1 c.record_word.ensures c.if-record_word-last.false)
-      (granted c.alone.result c.if-not-alone.false-raw c.alone.ensures) g.0 g.1 c.narrow.ensures,
-)
+      l.invariant.0,
+      omega arith,
+      chaining_more _ _ _ _ _ l.invariant.2 (linked_more _ _ _ _ _ l.invariant.2 g.0 g.1 c.record_word.ensures c.if-record_word-last.false)
+          (granted c.alone.result c.if-not-alone.false-raw c.alone.ensures) g.0 g.1 c.narrow.ensures,
+    )
 
 pub heads_ok-requires : goal.heads_ok-requires
 heads_ok-requires c = (omega (arith, c.requires.room), c.loop-i.invariant.2.sized)

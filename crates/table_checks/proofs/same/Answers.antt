@@ -18,9 +18,9 @@ returns-then-record_word-2 c =
 pub loop-v-preserved : goal.loop-v-preserved
 loop-v-preserved c =
     let l = c.loop-v in let a = c.args in (
-  omega arith,
-  below_more (λ x. body a.t.now a.i x ≡ body a.t.now a.j x) l.v l.invariant.1 (sym c.record_word-in-loop-v.ensures ∙ c.if-record_word-2.false ∙ c.record_word-in-loop-v-2.ensures),
-)
+      omega arith,
+      below_more (λ x. body a.t.now a.i x ≡ body a.t.now a.j x) l.v l.invariant.1 (sym c.record_word-in-loop-v.ensures ∙ c.if-record_word-2.false ∙ c.record_word-in-loop-v-2.ensures),
+    )
 
 pub returns : goal.returns
 returns c =

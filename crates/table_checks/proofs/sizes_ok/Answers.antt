@@ -16,10 +16,10 @@ returns-then-s-gt8 c = λ z. let g = z.large c.loop-k.k (omega arith) in omega (
 pub loop-k-preserved : goal.loop-k-preserved
 loop-k-preserved c =
     let l = c.loop-k in let w = c.args.t.now in (
-  l.invariant.0,
-  omega arith,
-  below_more (λ x. (2 ≤ size w x) × (size w x ≤ 8)) l.k l.invariant.2 (omega (arith, c.size_word-s.ensures), omega (arith, c.size_word-s.ensures)),
-)
+      l.invariant.0,
+      omega arith,
+      below_more (λ x. (2 ≤ size w x) × (size w x ≤ 8)) l.k l.invariant.2 (omega (arith, c.size_word-s.ensures), omega (arith, c.size_word-s.ensures)),
+    )
 
 pub returns : goal.returns
 returns c = let l = c.loop-k in record { large = λ x h. l.invariant.2 x (omega arith) }

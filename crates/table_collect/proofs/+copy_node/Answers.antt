@@ -1,10 +1,9 @@
 -- `table_collect::copy_node` meets its contract: a branch word of a node says an earlier node, so the measure falls; the first v branches stand in the body (Filling). Assumes nothing.
-use Rattle.std.proofs.Common.{arith, ℕ, ◌<◌}
+use Rattle.std.proofs.Common.{arith}
 use Rattle.table_collect.specs.Walk.{Done, moves_step, empty}
 use Rattle.table_collect.proofs.Keeping.{keeps, copy_at, near, asks, goes, lays, fills, spare, copies}
 use lib.ListN.{get_or-replicate}
 use native.Mathlib.Numerals.{add-one}
-use mathlib.Core.Logic.{⊎_elim}
 use borrow.Author.Rules.{rules}
 use Rattle.table_collect.proofs.+copy_node.Goals as goal
 use Rattle.table_collect.proofs.+copy_node.Goals.{then-r, else-r}

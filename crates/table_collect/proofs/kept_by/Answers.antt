@@ -3,7 +3,6 @@ use Rattle.std.proofs.Common.{arith, ◌≡◌, sym}
 use Rattle.table_collect.proofs.Keeping.{highest_upto}
 use Rattle.table_sweep.proofs.Marking.{highest_none, highest_up, highest_stay}
 use native.Mathlib.Numerals.{add-one}
-use mathlib.Core.Logic.{⊎_elim}
 use mathlib.Core.Path.{◌∙◌}
 use Rattle.table_collect.proofs.kept_by.Goals as goal
 use Rattle.table_collect.proofs.kept_by.Goals.{then-first-a, else-first-a}

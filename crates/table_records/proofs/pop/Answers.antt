@@ -14,12 +14,12 @@ bounds-t-base c = omega (arith, simp length-set at c.loop-v.invariant.0)
 pub loop-v-preserved : goal.loop-v-preserved
 loop-v-preserved c =
     let l = c.loop-v in (
-  simp length-set (simp length-set at l.invariant.0),
-  search rules,
-  (λ j h. get_or-set_other l.t _ j _ 0 (omega arith) ∙ l.invariant.2 j h),
-  zero_more l.t _ l.v (omega (arith, simp length-set at l.invariant.0)) l.invariant.3,
-  (λ j h. get_or-set_other l.t _ j _ 0 (omega arith) ∙ l.invariant.4 j (omega arith)),
-)
+      simp length-set (simp length-set at l.invariant.0),
+      search rules,
+      (λ j h. get_or-set_other l.t _ j _ 0 (omega arith) ∙ l.invariant.2 j h),
+      zero_more l.t _ l.v (omega (arith, simp length-set at l.invariant.0)) l.invariant.3,
+      (λ j h. get_or-set_other l.t _ j _ 0 (omega arith) ∙ l.invariant.4 j (omega arith)),
+    )
 
 pub bounds-t-19 : goal.bounds-t-19
 bounds-t-19 c = omega (arith, simp length-set at c.loop-v.invariant.0)

@@ -14,12 +14,12 @@ bounds-t-base-in-loop-v c = omega (arith, simp length-set at c.loop-v.invariant.
 pub loop-v-preserved : goal.loop-v-preserved
 loop-v-preserved c =
     let l = c.loop-v in (
-  simp length-set (simp length-set at l.invariant.0),
-  search rules,
-  (λ j h. get_or-set_other l.t _ j _ 0 (omega arith) ∙ l.invariant.2 j h),
-  run_more l.t c.args.list _ l.v (omega (arith, simp length-set at l.invariant.0)) l.invariant.3,
-  (λ j h. get_or-set_other l.t _ j _ 0 (omega arith) ∙ l.invariant.4 j (omega arith)),
-)
+      simp length-set (simp length-set at l.invariant.0),
+      search rules,
+      (λ j h. get_or-set_other l.t _ j _ 0 (omega arith) ∙ l.invariant.2 j h),
+      run_more l.t c.args.list _ l.v (omega (arith, simp length-set at l.invariant.0)) l.invariant.3,
+      (λ j h. get_or-set_other l.t _ j _ 0 (omega arith) ∙ l.invariant.4 j (omega arith)),
+    )
 
 pub bounds-t-base-2 : goal.bounds-t-base-2
 bounds-t-base-2 c = omega (arith, simp length-set at c.loop-v.invariant.0)

@@ -39,11 +39,11 @@ returns-then-size_word-small c =
 pub loop-k-preserved : goal.loop-k-preserved
 loop-k-preserved c =
     let l = c.loop-k in (
-  l.invariant.0,
-  l.invariant.1,
-  omega arith,
-  below_more _ _ l.invariant.3 (omega (arith, c.size_word.ensures, c.small.ensures.0)),
-)
+      l.invariant.0,
+      l.invariant.1,
+      omega arith,
+      below_more _ _ l.invariant.3 (omega (arith, c.size_word.ensures, c.small.ensures.0)),
+    )
 
 pub returns : goal.returns
 returns c =

@@ -17,8 +17,7 @@ returns-then-wide-n c =
     ∙ sym (c.wide-n.ensures.0 ∙ c.features_word.ensures))
 
 pub loop-k-init : goal.loop-k-init
-loop-k-init c =
-    (
+loop-k-init c = (
   c.wide-n.ensures.0 ∙ c.features_word.ensures,
   sym (c.wide.ensures.0 ∙ c.features_word-2.ensures) ∙ c.if-wide-n.false ∙ c.wide-n.ensures.0
       ∙ c.features_word.ensures,
@@ -42,8 +41,7 @@ returns-then-size_word c =
     )) ∙ sym c.size_word-in-loop-k.ensures)
 
 pub loop-k-preserved : goal.loop-k-preserved
-loop-k-preserved c =
-    (
+loop-k-preserved c = (
   c.loop-k.invariant.0,
   c.loop-k.invariant.1,
   omega arith,

@@ -16,11 +16,11 @@ bounds-t-j c = omega (arith, c.loop-j.invariant.1)
 pub loop-j-preserved : goal.loop-j-preserved
 loop-j-preserved c =
     let l = c.loop-j in (
-  omega arith,
-  simp length-set l.invariant.1,
-  (λ i h. ⊎_elim (λ e. rw e (get_or-set_same l.t l.j 0 0 (omega (arith, l.invariant.1)))) (λ e. get_or-set_other l.t l.j i 0 0 e ∙ l.invariant.2 i (omega (arith, e))) (same i l.j)),
-  (λ i h. get_or-set_other l.t l.j i 0 0 (omega arith) ∙ l.invariant.3 i (omega arith)),
-)
+      omega arith,
+      simp length-set l.invariant.1,
+      (λ i h. ⊎_elim (λ e. rw e (get_or-set_same l.t l.j 0 0 (omega (arith, l.invariant.1)))) (λ e. get_or-set_other l.t l.j i 0 0 e ∙ l.invariant.2 i (omega (arith, e))) (same i l.j)),
+      (λ i h. get_or-set_other l.t l.j i 0 0 (omega arith) ∙ l.invariant.3 i (omega arith)),
+    )
 
 pub shape_of-t : goal.shape_of-t
 shape_of-t c = c.loop-j.invariant.1

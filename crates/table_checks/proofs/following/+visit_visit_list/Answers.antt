@@ -3,7 +3,6 @@ use Rattle.std.proofs.Common.{arith, ◌≤◌, ap, sym}
 use Rattle.table_checks.specs.Walk.{Visits}
 use Rattle.table_checks.proofs.Walking.{visits_end, visits_done, visits_close, visits_lost, visits_passed, visits_all, visits_none, walk_none, walk_more, walk_lost, sits_branch, says_branch}
 use mathlib.Core.Path.{subst, ◌∙◌}
-use mathlib.Core.Logic.{⊎_elim}
 use Rattle.promises.specs.Words.{size}
 use Rattle.table_checks.proofs.following.+visit_visit_list.Goals as goal
 use Rattle.table_checks.proofs.following.+visit_visit_list.Goals.{visit_list-then-wide-d+else-d-gt-NODES, visit_list-else-wide-d}
@@ -38,13 +37,12 @@ pub visit_list-size_word-requires : goal.visit_list-size_word-requires
 visit_list-size_word-requires t c = let p = c.requires in let k = p.0.known _ p.1 in omega (arith, p.0.header.few, p.0.header.room)
 
 pub visit_list-loop-v-init : goal.visit_list-loop-v-init
-visit_list-loop-v-init t c =
-    (
-      c.wide-s.ensures.0 ∙ c.size_word.ensures ∙ ap (size c.args.t.now)
-          (c.wide.ensures.0 ∙ c.record_word.ensures),
-      omega arith,
-      walk_none _ _ _ _ c.requires.2,
-    )
+visit_list-loop-v-init t c = (
+  c.wide-s.ensures.0 ∙ c.size_word.ensures ∙ ap (size c.args.t.now)
+      (c.wide.ensures.0 ∙ c.record_word.ensures),
+  omega arith,
+  walk_none _ _ _ _ c.requires.2,
+)
 
 pub visit_list-way_word-b-requires : goal.visit_list-way_word-b-requires
 visit_list-way_word-b-requires t c =
@@ -70,11 +68,12 @@ visit_list-loop-v-preserved t c =
     let first = c.args.first in
     let went : (Visits first w b l.d c.if-wide-d.d) × (c.if-wide-d.d ≤ 4096) =
     elim c.if-wide-d.branch [
-      visit_list-then-wide-d+else-d-gt-NODES w ↦ (subst (Visits first c.args.t.now b l.d) (sym w.d-is) w.visit-d.ensures, omega (arith, w.d-is, w.if-d-gt-NODES.false))
-    | visit_list-else-wide-d w ↦ (
-      subst (Visits first c.args.t.now b l.d) (sym w.d-is) (visits_passed _ _ p.0 (omega (arith, w.if-wide-d.false)) l.invariant.2.top),
-      omega (arith, w.d-is, l.invariant.2.top, p.0.header.within, p.0.header.most),
-    ) ] in (
+      | visit_list-then-wide-d+else-d-gt-NODES w ↦ (subst (Visits first c.args.t.now b l.d) (sym w.d-is) w.visit-d.ensures, omega (arith, w.d-is, w.if-d-gt-NODES.false))
+      | visit_list-else-wide-d w ↦ (
+        subst (Visits first c.args.t.now b l.d) (sym w.d-is) (visits_passed _ _ p.0 (omega (arith, w.if-wide-d.false)) l.invariant.2.top),
+        omega (arith, w.d-is, l.invariant.2.top, p.0.header.within, p.0.header.most),
+      )
+    ] in (
       l.invariant.0,
       omega arith,
       walk_more c.if-wide-d.d l.invariant.2 (says_branch _ _ p.0 _ l.v p.1 (omega arith) c.way_word-b.ensures went.0)

@@ -34,12 +34,12 @@ returns-then-not-sits c =
 pub loop-v-preserved : goal.loop-v-preserved
 loop-v-preserved c =
     let l = c.loop-v in let a = c.args in (
-  l.invariant.0,
-  l.invariant.1,
-  omega arith,
-  below_more (λ x. Sits a.first a.t.now a.i (feature a.t.now a.i + 1) (way_of a.first (body a.t.now a.i) x)) l.v l.invariant.3
-      (rw (c.way_word.ensures, l.invariant.0) at (granted c.sits.result c.if-not-sits.false-raw c.sits.ensures)),
-)
+      l.invariant.0,
+      l.invariant.1,
+      omega arith,
+      below_more (λ x. Sits a.first a.t.now a.i (feature a.t.now a.i + 1) (way_of a.first (body a.t.now a.i) x)) l.v l.invariant.3
+          (rw (c.way_word.ensures, l.invariant.0) at (granted c.sits.result c.if-not-sits.false-raw c.sits.ensures)),
+    )
 
 pub returns : goal.returns
 returns c = record { lower = λ x h. c.loop-v.invariant.3 x (omega arith) }

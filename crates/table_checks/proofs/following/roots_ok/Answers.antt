@@ -26,11 +26,11 @@ returns-then-not-sits c =
 pub loop-p-preserved : goal.loop-p-preserved
 loop-p-preserved c =
     let l = c.loop-p in let a = c.args in (
-  l.invariant.0,
-  omega arith,
-  below_more (λ x. Sits a.first a.t.now (count a.t.now) 0 (head a.t.now (32 + x))) l.p l.invariant.2
-      (rw (c.head_word.ensures, l.invariant.0) at (granted c.sits.result c.if-not-sits.false-raw c.sits.ensures)),
-)
+      l.invariant.0,
+      omega arith,
+      below_more (λ x. Sits a.first a.t.now (count a.t.now) 0 (head a.t.now (32 + x))) l.p l.invariant.2
+          (rw (c.head_word.ensures, l.invariant.0) at (granted c.sits.result c.if-not-sits.false-raw c.sits.ensures)),
+    )
 
 pub returns : goal.returns
 returns c = record { rooted = λ x h. c.loop-p.invariant.2 x (omega arith) }

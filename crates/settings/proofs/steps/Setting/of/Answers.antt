@@ -14,8 +14,7 @@ returns-then-count-k c =
     c.loop-k.invariant.3
 
 pub loop-k-preserved : goal.loop-k-preserved
-loop-k-preserved c =
-    (
+loop-k-preserved c = (
   omega arith,
   omega arith,
   length-set c.loop-k.values c.loop-k.k _ ∙ c.loop-k.invariant.2,
