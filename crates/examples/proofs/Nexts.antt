@@ -5,7 +5,7 @@ use mathlib.Core.List.{List, [], ◌∷◌}
 use Prim.Native.Nat.{ℕ, zero, suc, ◌≤◌, ◌<◌}
 use native.Mathlib.Decide.{ℕ_discrete}
 use native.Mathlib.Omega.{arith}
-use lib.ListN.{length, get_or}
+use lib.ListN.{get_or}
 use Rattle.theory.specs.Settings.{Valid, product, sooner, later}
 use Rattle.theory.specs.Counted.{settings_of, Reaches}
 use Rattle.theory.specs.First.{From, FirstFrom, NoneFrom}

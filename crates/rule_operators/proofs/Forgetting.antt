@@ -100,6 +100,7 @@ module _ {x y : ℕ} where
 -- ---- THE NUMBER THAT IS LEFT: all give way to it, and it to whatever all do
 pub under_forgotten : {x : ℕ} (l : List ℕ) → Occurs x l → Under x (forgotten_of l)
 unfolding forgotten_of
+under_forgotten [] m = absurd (Memᴰ.not-nil m)
 under_forgotten (y ∷ l) (Memᴰ.head e) = subst (λ (u : ℕ). Under u (merged_of y (forgotten_of l))) (sym e) (first_under (merging y (forgotten_of l)))
 under_forgotten (y ∷ l) (Memᴰ.tail m) = under_on (under_forgotten l m) (second_under (merging y (forgotten_of l)))
 

@@ -1,5 +1,5 @@
 -- `c_results::put_flag` meets its contract: one word set is one result laid. Assumes nothing.
-use Rattle.std.proofs.Common.{refl}
+use Rattle.std.proofs.Common.{refl, []}
 use Rattle.c_results.proofs.Placing.{first_placed}
 use Rattle.promises.specs.ForC.{bit}
 use Rattle.c_results.proofs.put_flag.Goals as goal

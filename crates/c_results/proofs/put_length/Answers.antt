@@ -1,5 +1,5 @@
 -- `c_results::put_length` meets its contract: one word set is one result laid. Assumes nothing.
-use Rattle.std.proofs.Common.{refl}
+use Rattle.std.proofs.Common.{refl, []}
 use Rattle.c_results.proofs.Placing.{first_placed}
 use Rattle.c_results.proofs.put_length.Goals as goal
 

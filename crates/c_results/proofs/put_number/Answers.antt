@@ -1,5 +1,5 @@
 -- `c_results::put_number` meets its contract: the two words laid are its halves. Assumes nothing.
-use Rattle.std.proofs.Common.{ℕ, ◌%◌, ap, ◌∷◌}
+use Rattle.std.proofs.Common.{ℕ, ◌%◌, ap, ◌∷◌, []}
 use mathlib.Core.Path.{◌∙◌}
 use Rattle.promises.specs.ForC.{placed}
 use Rattle.c_results.proofs.put_number.Goals as goal

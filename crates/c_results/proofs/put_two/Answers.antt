@@ -1,5 +1,5 @@
 -- `c_results::put_two` meets its contract: two words set are two results laid. Assumes nothing.
-use Rattle.std.proofs.Common.{refl, ◌∷◌}
+use Rattle.std.proofs.Common.{refl, ◌∷◌, []}
 use Rattle.c_results.proofs.Placing.{first_placed}
 use Rattle.c_results.proofs.put_two.Goals as goal
 

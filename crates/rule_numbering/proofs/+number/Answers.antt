@@ -6,9 +6,6 @@ use Rattle.rule_numbering.proofs.Numbers.{noted_most, stands_below, branch_below
 use Rattle.promises.specs.Words.{size, count, feature}
 use Rattle.rule_numbering.proofs.+number.Goals as goal
 
-abbrev number_at : ℕ → In 2 number-kinds.ps
-number_at t = and 2 number-kinds.ps (is 2 number-kinds.ps μ-number t) number.Pre
-
 pub returns-then-b-lt-NUMBERS : goal.returns-then-b-lt-NUMBERS
 returns-then-b-lt-NUMBERS t c = numbers_phrase c.requires.0 c.requires.1 c.args.b c.if-b-lt-NUMBERS.true
 

@@ -1,7 +1,7 @@
 -- `rule_operators::pair_op` meets its contract: an arm for each operator number. Assumes nothing.
-use Rattle.std.proofs.Common.{ℕ, ap, sym}
-use borrow.Author.Tests.{ne_eqb}
+use Rattle.std.proofs.Common.{ℕ, ap, sym, arith}
 use mathlib.Core.Path.{◌∙◌}
+use Rattle.std.proofs.lemmas.Bool.Decides.{nat_tests}
 use Rattle.promises.specs.Operators.{pair_of}
 use Rattle.rule_operators.proofs.pair_op.Goals as goal
 
@@ -23,5 +23,4 @@ returns-in-4 c = c.truth-in-4.ensures ∙ sym (ap (λ (o : ℕ). pair_of o c.arg
 
 pub returns-in_default : goal.returns-in_default
 unfolding pair_of
-returns-in_default c =
-    let r = c.in_default.rest in simp (ne_eqb _ _ r.0.0.0.1, ne_eqb _ _ r.0.0.1, ne_eqb _ _ r.0.1, ne_eqb _ _ r.1) c.truth-in_default.ensures
+returns-in_default c = grind (arith, nat_tests)

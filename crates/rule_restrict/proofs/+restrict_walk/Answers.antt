@@ -88,19 +88,15 @@ bounds-list-v t c =
 
 pub loop-v-preserved : goal.loop-v-preserved
 loop-v-preserved t c =
-    let a =
-    c in
     let l = c.loop-v in
     let p = c.top_of-k in
     let i = c.wide-i in
-    let lt : p.result < a.args.f =
-    omega (arith, c.if-f-k) in
-    let ei : i.result ≡ a.args.b - 65536 =
-    omega (arith, c.wide-i) in (
+    let lt : p.result < c.args.f = omega (arith, c.if-f-k) in
+    let ei : i.result ≡ c.args.b - 65536 = omega (arith, c.wide-i) in (
       l.invariant.0,
       omega arith,
       omega (arith, l.invariant.2),
-      loop_more _ _ _ _ a.pre.1 p.result i.result p.ensures lt ei l.t l.list l.v l.invariant.3 l.invariant.4 _ _ _ (omega (arith, l.invariant.0))
+      loop_more _ _ _ _ c.requires p.result i.result p.ensures lt ei l.t l.list l.v l.invariant.3 l.invariant.4 _ _ _ (omega (arith, l.invariant.0))
           c.child_of-c.ensures c.restrict_walk.ensures _ c.in-Is.is,
       c.restrict_walk.ensures.noted,
     )

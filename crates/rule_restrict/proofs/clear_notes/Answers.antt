@@ -15,8 +15,7 @@ pub put_note-requires : goal.put_note-requires
 put_note-requires c = (c.loop-i.invariant.2.room, omega (arith, c.loop-i.invariant.2.within))
 
 pub loop-i-preserved : goal.loop-i-preserved
-loop-i-preserved c =
-    (
+loop-i-preserved c = (
   c.loop-i.invariant.0,
   omega arith,
   rw c.put_note.ensures (clearing_more _ c.loop-i.t c.loop-i.i _

@@ -15,13 +15,12 @@ pub record_word-first-requires : goal.record_word-first-requires
 record_word-first-requires c = let p = c.requires in (omega (arith, p.0.room, p.0.within), omega (arith, p.0.most, p.0.within), omega arith)
 
 pub loop-v-init : goal.loop-v-init
-loop-v-init c =
-    (
-      c.wide-s.ensures.0 ∙ c.size_word.ensures ∙ ap (size c.args.t.now)
-          (c.wide.ensures.0 ∙ c.record_word.ensures),
-      omega arith,
-      λ x h. absurd (omega arith),
-    )
+loop-v-init c = (
+  c.wide-s.ensures.0 ∙ c.size_word.ensures ∙ ap (size c.args.t.now)
+      (c.wide.ensures.0 ∙ c.record_word.ensures),
+  omega arith,
+  λ x h. absurd (omega arith),
+)
 
 pub record_word-requires-in-loop-v : goal.record_word-requires-in-loop-v
 record_word-requires-in-loop-v c =

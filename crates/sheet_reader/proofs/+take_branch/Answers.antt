@@ -22,15 +22,14 @@ pub width_at-m-requires : goal.width_at-m-requires
 width_at-m-requires t c = (c.requires.ready.laid, inside _ _ _ _ c.args.b c.requires _ (omega (arith, c.if-b-lt-NUMBERS)) refl)
 
 pub loop-v-init : goal.loop-v-init
-loop-v-init t c =
-    (
-      c.width_at-m.ensures.0,
-      omega arith,
-      refl,
-      loop_start _ _ _ _ c.args.b c.requires _ (omega (arith, c.if-b-lt-NUMBERS)) refl _
-          c.feature_at-k.ensures.0 _ refl (λ u h. get_or-replicate 12 u 0 0 h),
-      c.requires.noted,
-    )
+loop-v-init t c = (
+  c.width_at-m.ensures.0,
+  omega arith,
+  refl,
+  loop_start _ _ _ _ c.args.b c.requires _ (omega (arith, c.if-b-lt-NUMBERS)) refl _
+      c.feature_at-k.ensures.0 _ refl (λ u h. get_or-replicate 12 u 0 0 h),
+  c.requires.noted,
+)
 
 pub branch_at-c-requires : goal.branch_at-c-requires
 branch_at-c-requires t c =

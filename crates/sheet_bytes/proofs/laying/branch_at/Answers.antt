@@ -19,8 +19,7 @@ pub word_at-requires : goal.word_at-requires
 word_at-requires c = omega (arith, c.spot.ensures, c.requires.2, placed_inside c.requires.0 c.requires.1 c.index.result c.index.ensures)
 
 pub returns : goal.returns
-returns c =
-    (
-      placed_branch c.requires.0 c.requires.1 c.index.result c.spot.result c.args.v c.word_at.result c.index.ensures c.spot.ensures c.word_at.ensures.0,
-      c.word_at.ensures.1,
-    )
+returns c = (
+  placed_branch c.requires.0 c.requires.1 c.index.result c.spot.result c.args.v c.word_at.result c.index.ensures c.spot.ensures c.word_at.ensures.0,
+  c.word_at.ensures.1,
+)

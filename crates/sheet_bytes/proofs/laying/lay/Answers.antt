@@ -18,8 +18,7 @@ pub returns-then-m-gt4096 : goal.returns-then-m-gt4096
 returns-then-m-gt4096 c = laying_lost (λ l. omega (arith, l.room, c.count_of-m.ensures.0))
 
 pub loop-i-init : goal.loop-i-init
-loop-i-init c =
-    (
+loop-i-init c = (
   c.features_of-n.ensures.0,
   c.count_of-m.ensures.0,
   omega arith,

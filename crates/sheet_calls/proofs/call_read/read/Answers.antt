@@ -27,13 +27,12 @@ returns-then-not-same_list c =
     c.in_default-checked.is (stop (denied c.same_list.result c.if-not-same_list.true-raw c.same_list.ensures))))
 
 pub put_read-requires : goal.put_read-requires
-put_read-requires c =
-    (
-      c.door-o.ensures.sound c.in_default.is,
-      (c.door-o.ensures.there c.in_default.is).each 0 (omega arith),
-      c.check-checked.ensures.ready c.in_default-checked.is,
-      granted c.same_list.result c.if-not-same_list.false-raw c.same_list.ensures,
-    )
+put_read-requires c = (
+  c.door-o.ensures.sound c.in_default.is,
+  (c.door-o.ensures.there c.in_default.is).each 0 (omega arith),
+  c.check-checked.ensures.ready c.in_default-checked.is,
+  granted c.same_list.result c.if-not-same_list.false-raw c.same_list.ensures,
+)
 
 pub returns : goal.returns
 returns c =

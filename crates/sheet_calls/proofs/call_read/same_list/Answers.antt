@@ -29,8 +29,7 @@ returns-then-size_at-wide c =
     (omega (arith, c.loop-k.invariant.0)) ∙ sym (c.wide-in-loop-k.ensures.0 ∙ c.size_word.ensures))
 
 pub loop-k-preserved : goal.loop-k-preserved
-loop-k-preserved c =
-    (
+loop-k-preserved c = (
   c.loop-k.invariant.0,
   c.loop-k.invariant.1,
   omega arith,

@@ -6,8 +6,7 @@ use borrow.Author.Rules.{rules}
 use Rattle.sheet_check.proofs.twins.hash_of.Goals as goal
 
 pub loop-v-init : goal.loop-v-init
-loop-v-init c =
-    (
+loop-v-init c = (
   c.width_at-z.ensures.0,
   omega arith,
   c.feature_at-h.ensures.0 ∙ sym (hash_zero c.args.s.now c.args.i),

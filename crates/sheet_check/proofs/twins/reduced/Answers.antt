@@ -11,8 +11,7 @@ pub count_of-m-requires : goal.count_of-m-requires
 count_of-m-requires c = c.requires.opens
 
 pub loop-i-init : goal.loop-i-init
-loop-i-init c =
-    (
+loop-i-init c = (
   c.count_of-m.ensures.0,
   omega arith,
   omega (arith, c.count_of-m.ensures.0, c.requires.room),

@@ -2,7 +2,7 @@
 use Rattle.std.proofs.Common.{sym, ap, arith}
 use mathlib.Core.Path.{◌∙◌}
 use borrow.Author.Count.{below_more}
-use Rattle.promises.specs.Sheet.{sheet_size as size, sheet_feature as feature}
+use Rattle.promises.specs.Sheet.{sheet_size as size}
 use Rattle.sheet_check.proofs.twins.same.Goals as goal
 
 pub returns-then-feature_at : goal.returns-then-feature_at

@@ -19,8 +19,7 @@ returns-then-not-fits c =
     (stop (denied c.fits.result c.if-not-fits.true-raw c.fits.ensures))))
 
 pub walk-requires : goal.walk-requires
-walk-requires c =
-    (
+walk-requires c = (
   c.check-o.ensures.ready c.in_default.is,
   granted c.fits.result c.if-not-fits.false-raw c.fits.ensures,
 )

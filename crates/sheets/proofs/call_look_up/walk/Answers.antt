@@ -52,7 +52,7 @@ loop-b-preserved c =
 pub returns : goal.returns
 returns c =
     let l = c.loop-b in (
-  refl,
-  c.narrow.ensures ∙ find_end c.requires.0.good c.args.t.now c.requires.1 l.asked l.b (omega arith) l.invariant,
-  find_asked c.requires.0.good c.args.t.now c.requires.1 l.asked l.b (omega arith) l.invariant,
-)
+      refl,
+      c.narrow.ensures ∙ find_end c.requires.0.good c.args.t.now c.requires.1 l.asked l.b (omega arith) l.invariant,
+      find_asked c.requires.0.good c.args.t.now c.requires.1 l.asked l.b (omega arith) l.invariant,
+    )

@@ -1,5 +1,5 @@
 -- `sheets::call_look_up_all::look_up_all` meets its contract: the sheet's refusal is handed on; then all rows are tested, and their numbers laid. Assumes nothing.
-use Rattle.std.proofs.Common.{refl, sym, ℕ}
+use Rattle.std.proofs.Common.{refl, sym, ℕ, []}
 use mathlib.Core.Path.{◌∙◌}
 use lib.ListN.{length-replicate}
 use Rattle.settings.proofs.Answers.{granted, denied}
