@@ -110,11 +110,10 @@ node_result-rest_result-requires t c =
     (omega arith, (operands_next _ _ _ c.args.k 0 c.args.ops.now _ c.requires.0 hk c.operands_at.ensures.0, c.requires.1))
 
 pub node_result-returns-then-f-k : goal.node_result-returns-then-f-k
-node_result-returns-then-f-k t c =
-    (
-      joint_forget _ _ _ _ _ c.args.k c.args.ops.now _ _ c.requires.0 c.if-f-k.true c.requires.2 c.operands_at.ensures.0 c.rest_result.ensures.0,
-      c.rest_result.ensures.1,
-    )
+node_result-returns-then-f-k t c = (
+  joint_forget _ _ _ _ _ c.args.k c.args.ops.now _ _ c.requires.0 c.if-f-k.true c.requires.2 c.operands_at.ensures.0 c.rest_result.ensures.0,
+  c.rest_result.ensures.1,
+)
 
 pub node_result-key_of-requires : goal.node_result-key_of-requires
 node_result-key_of-requires t c = (c.requires.0.two, c.requires.0.nine, omega (arith, c.requires.0.holds.laid.laid.few, c.requires.2), refl)
@@ -156,11 +155,10 @@ pub node_result-slice_bounds-remember_in-end : goal.node_result-slice_bounds-rem
 node_result-slice_bounds-remember_in-end t c = omega (arith, c.requires.0.nine, c.key_of.ensures.1)
 
 pub node_result-remember_in-requires : goal.node_result-remember_in-requires
-node_result-remember_in-requires t c =
-    (
-      grown_windowed _ _ c.make_in.ensures.0.grown.kept c.make_in.ensures.1 (subst (StillIf _ _ _ _ _) c.if-fill_branches.true c.fill_branches.ensures.1).room,
-      omega (arith, (key_part c.args.n c.args.k c.args.ops.now _ c.key_of.ensures.0).feature),
-    )
+node_result-remember_in-requires t c = (
+  grown_windowed _ _ c.make_in.ensures.0.grown.kept c.make_in.ensures.1 (subst (StillIf _ _ _ _ _) c.if-fill_branches.true c.fill_branches.ensures.1).room,
+  omega (arith, (key_part c.args.n c.args.k c.args.ops.now _ c.key_of.ensures.0).feature),
+)
 
 pub node_result-returns-then-fill_branches : goal.node_result-returns-then-fill_branches
 node_result-returns-then-fill_branches t c =
@@ -210,8 +208,7 @@ rest_result-node_result-requires t c =
     (omega arith, (operands_jump _ _ _ c.args.k c.lowest-m.result c.args.ops.now c.requires.0 c.lowest-m.ensures, c.requires.1, omega arith))
 
 pub rest_result-returns : goal.rest_result-returns
-rest_result-returns t c =
-    (
-      joint_jump _ _ _ _ _ c.args.k c.lowest-m.result c.args.ops.now _ c.requires.0 c.lowest-m.ensures c.node_result.ensures.0,
-      c.node_result.ensures.1,
-    )
+rest_result-returns t c = (
+  joint_jump _ _ _ _ _ c.args.k c.lowest-m.result c.args.ops.now _ c.requires.0 c.lowest-m.ensures c.node_result.ensures.0,
+  c.node_result.ensures.1,
+)

@@ -13,7 +13,7 @@ pub rest_result-r-requires : goal.rest_result-r-requires
 rest_result-r-requires c =
     let n = c.begin-lent.ensures in (
       operands_plain c.args.t.now _ c.args.f c.args.n 0 c.args.ops.now c.requires.0 c.requires.1 n.same,
-      noted_none _ _ _ _ _ n (lent_cleared c.args.s.now c.clear.new.s (c.begin-lent.result - 0) (omega (arith, n.fits)) c.clear.auto.0 c.clear.ensures),
+      noted_none _ _ _ _ _ n (lent_cleared c.args.s.now c.clear.new.s (c.begin-lent.result - 0) (omega (arith, n.fits)) c.clear.auto.s c.clear.ensures),
     )
 
 pub clear_far-requires : goal.clear_far-requires

@@ -12,7 +12,7 @@ features_word-requires t c = omega (arith, c.requires.0.sound.header.room)
 pub returns-then-wide-k : goal.returns-then-wide-k
 returns-then-wide-k t c =
     let a = c.args in let p = c.requires in
-    seek_end p.0 a.number a.t6 (omega arith) (omega (arith, c.well_formed.1.1.1.1.1.0.1))
+    seek_end p.0 a.number a.from (omega arith) (omega (arith, c.well_formed.1.1.1.1.1.0.1))
 
 pub bounds-from-k : goal.bounds-from-k
 bounds-from-k t c = let p = c.requires in omega (arith, p.0.sound.header.few)
@@ -27,7 +27,7 @@ child-requires t c =
       omega (
         arith,
         c.value_of-v.ensures.0,
-        (seek_valid p.0 a.number a.t6 (omega arith) (omega (arith, c.well_formed.1.1.1.1.1.0.1)) p.2).0,
+        (seek_valid p.0 a.number a.from (omega arith) (omega (arith, c.well_formed.1.1.1.1.1.0.1)) p.2).0,
       ),
     )
 
@@ -38,21 +38,21 @@ seek-same-requires t c =
       (
         spot_next p.0 c.value_of-v.result c.child.result c.child.ensures l,
         p.1,
-        (seek_valid p.0 a.number a.t6 l (omega (arith, c.well_formed.1.1.1.1.1.0.1)) p.2).1,
+        (seek_valid p.0 a.number a.from l (omega (arith, c.well_formed.1.1.1.1.1.0.1)) p.2).1,
       ),
     )
 
 pub returns-then-same : goal.returns-then-same
 returns-then-same t c =
     let a = c.args in let p = c.requires in
-    seek_same p.0 a.number a.t6 (omega arith) (omega (arith, c.well_formed.1.1.1.1.1.0.1)) c.value_of-v.result
+    seek_same p.0 a.number a.from (omega arith) (omega (arith, c.well_formed.1.1.1.1.1.0.1)) c.value_of-v.result
     c.child.result c.value_of-v.ensures.0 c.child.ensures p.2 c.seek-same.result.found
     c.seek-same.result.values c.if-same.true c.seek-same.ensures
 
 pub smallest-w-requires : goal.smallest-w-requires
 smallest-w-requires t c =
     let a = c.args in let p = c.requires in let l : a.k < features a.t.now = omega arith in
-    (p.0, l, omega (arith, c.value_of-v.ensures.0, (seek_valid p.0 a.number a.t6 l (omega (arith, c.well_formed.1.1.1.1.1.0.1)) p.2).0), p.1)
+    (p.0, l, omega (arith, c.value_of-v.ensures.0, (seek_valid p.0 a.number a.from l (omega (arith, c.well_formed.1.1.1.1.1.0.1)) p.2).0), p.1)
 
 pub size_word-requires : goal.size_word-requires
 size_word-requires t c = let h = c.requires.0.sound.header in omega (arith, h.few, h.room)
@@ -60,7 +60,7 @@ size_word-requires t c = let h = c.requires.0.sound.header in omega (arith, h.fe
 pub returns-then-wide-w : goal.returns-then-wide-w
 returns-then-wide-w t c =
     let a = c.args in let p = c.requires in
-    seek_none p.0 a.number a.t6 (omega arith) (omega (arith, c.well_formed.1.1.1.1.1.0.1)) c.value_of-v.result c.child.result c.value_of-v.ensures.0
+    seek_none p.0 a.number a.from (omega arith) (omega (arith, c.well_formed.1.1.1.1.1.0.1)) c.value_of-v.result c.child.result c.value_of-v.ensures.0
     c.child.ensures p.2 c.seek-same.result.found c.seek-same.result.values
     c.smallest-w.result c.if-same.false c.seek-same.ensures
     c.smallest-w.ensures
@@ -94,7 +94,7 @@ complete-requires t c =
 pub returns : goal.returns
 returns t c =
     let a = c.args in let p = c.requires in
-    seek_greater p.0 a.number a.t6 (omega arith) (omega (arith, c.well_formed.1.1.1.1.1.0.1)) c.value_of-v.result c.child.result c.value_of-v.ensures.0
+    seek_greater p.0 a.number a.from (omega arith) (omega (arith, c.well_formed.1.1.1.1.1.0.1)) c.value_of-v.result c.child.result c.value_of-v.ensures.0
     c.child.ensures p.2 c.seek-same.result.found c.seek-same.result.values c.smallest-w.result c.if-same.false
     c.seek-same.ensures c.smallest-w.ensures
     (omega (arith, c.wide-2.ensures.0, c.size_word.ensures))

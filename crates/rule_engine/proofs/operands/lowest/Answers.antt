@@ -23,11 +23,11 @@ top_in-requires c = (c.requires.0, c.requires.2 c.loop-j.j (omega arith))
 pub loop-j-preserved : goal.loop-j-preserved
 loop-j-preserved c =
     let l = c.loop-j in (
-  omega (arith, c.lower-m.ensures.0, l.invariant.0),
-  omega arith,
-  below_more _ _ (λ i h. omega (arith, l.invariant.2 i h, c.lower-m.ensures.0)) (omega (arith, c.lower-m.ensures.1, c.top_in.ensures)),
-  (λ z h k. c.lower-m.ensures.2 z (l.invariant.3 z h (λ i lt. k i (omega arith))) (omega (arith, k l.j (omega arith), c.top_in.ensures))),
-)
+      omega (arith, c.lower-m.ensures.0, l.invariant.0),
+      omega arith,
+      below_more _ _ (λ i h. omega (arith, l.invariant.2 i h, c.lower-m.ensures.0)) (omega (arith, c.lower-m.ensures.1, c.top_in.ensures)),
+      (λ z h k. c.lower-m.ensures.2 z (l.invariant.3 z h (λ i lt. k i (omega arith))) (omega (arith, k l.j (omega arith), c.top_in.ensures))),
+    )
 
 pub returns : goal.returns
 returns c =

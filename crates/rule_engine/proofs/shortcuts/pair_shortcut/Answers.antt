@@ -12,7 +12,7 @@ pub returns-in-4 : goal.returns-in-4
 returns-in-4 c e = short_less _ _ _ c.in-4.is (eqb-true _ _ e)
 
 pub returns-in-1 : goal.returns-in-1
-returns-in-1 c e = short_zero _ _ _ (omega (arith, c.if-o-lt1.false)) (omega (arith, c.if-o-lt3.true)) (sym c.smaller.ensures ∙ eqb-true _ _ e)
+returns-in-1 c e = short_zero _ _ _ (omega (arith, c.in-1)) (omega (arith, c.in-1)) (sym c.smaller.ensures ∙ eqb-true _ _ e)
 
 pub returns-in_default : goal.returns-in_default
 returns-in_default c e = never e
