@@ -25,15 +25,14 @@ pub branch_result-gap_word-g-requires : goal.branch_result-gap_word-g-requires
 branch_result-gap_word-g-requires t c = operands_more _ _ _ _ _ _ c.requires.0.rest
 
 pub branch_result-rest_result-requires : goal.branch_result-rest_result-requires
-branch_result-rest_result-requires t c =
-    (
-      omega arith,
-      (
-        subst (λ (z : ℤ). Operands (plain c.args.t.now) c.args.o c.args.k c.args.a.to c.args.b.to z)
-            (sym c.gap_word-g.ensures) c.requires.0.rest,
-        c.requires.1,
-      ),
-    )
+branch_result-rest_result-requires t c = (
+  omega arith,
+  (
+    subst (λ (z : ℤ). Operands (plain c.args.t.now) c.args.o c.args.k c.args.a.to c.args.b.to z)
+        (sym c.gap_word-g.ensures) c.requires.0.rest,
+    c.requires.1,
+  ),
+)
 
 pub branch_result-returns-in_default : goal.branch_result-returns-in_default
 branch_result-returns-in_default t c =

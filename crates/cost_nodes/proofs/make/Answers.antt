@@ -21,8 +21,8 @@ find-requires c =
     let k = c.args.k in
     let x = c.args.goes.now in
     let y = c.args.adds.now in
-    let r = c.lowered.new.1.1.0 in
-    let l = c.pack.new.1.1.0 in
+    let r = c.lowered.new.list in
+    let l = c.pack.new.list in
     let em : c.wide-m.result ≡ size w k = c.wide-m.ensures.0 ∙ c.size_word.ensures in
     let lo : Lowered (size w k) y r = subst (λ (n : ℕ). Lowered n y r) em c.lowered.ensures in
     (c.requires.0, c.requires.1, levelled w k x y r l c.requires.0 c.requires.1 c.requires.2 lo c.pack.ensures)
@@ -33,20 +33,19 @@ sides_of-pair-requires c =
     let k = c.args.k in
     let x = c.args.goes.now in
     let y = c.args.adds.now in
-    let r = c.lowered.new.1.1.0 in
-    let l = c.pack.new.1.1.0 in
+    let r = c.lowered.new.list in
+    let l = c.pack.new.list in
     let em : c.wide-m.result ≡ size w k = c.wide-m.ensures.0 ∙ c.size_word.ensures in
     let lo : Lowered (size w k) y r = subst (λ (n : ℕ). Lowered n y r) em c.lowered.ensures in
     bodied w k x y r l c.requires.0 c.requires.1 c.requires.2 lo c.pack.ensures _ (omega (arith, c.requires.0.laid.laid.large k c.requires.1))
     (omega (arith, c.requires.0.laid.laid.large k c.requires.1))
 
 pub push-requires : goal.push-requires
-push-requires c =
-    (
-      c.requires.0.laid.laid,
-      omega (arith, c.if-count_word-capacity_word.true, c.capacity_word.ensures, c.count_word.ensures),
-      omega (arith, c.requires.1, c.requires.0.laid.laid.few),
-    )
+push-requires c = (
+  c.requires.0.laid.laid,
+  omega (arith, c.if-count_word-capacity_word.true, c.capacity_word.ensures, c.count_word.ensures),
+  omega (arith, c.requires.1, c.requires.0.laid.laid.few),
+)
 
 pub narrow-i-requires : goal.narrow-i-requires
 narrow-i-requires c = omega (arith, c.push.ensures.0, c.requires.0.laid.laid.within, c.requires.0.laid.laid.most)
@@ -60,8 +59,8 @@ returns-then-count_word-capacity_word c =
     let k = c.args.k in
     let x = c.args.goes.now in
     let y = c.args.adds.now in
-    let r = c.lowered.new.1.1.0 in
-    let l = c.pack.new.1.1.0 in
+    let r = c.lowered.new.list in
+    let l = c.pack.new.list in
     let em : c.wide-m.result ≡ size w k = c.wide-m.ensures.0 ∙ c.size_word.ensures in
     let lo : Lowered (size w k) y r = subst (λ (n : ℕ). Lowered n y r) em c.lowered.ensures in
     let ab = found_missing w k l _ c.in_default.is c.find.ensures in
@@ -75,8 +74,8 @@ returns-in_default c =
     let k = c.args.k in
     let x = c.args.goes.now in
     let y = c.args.adds.now in
-    let r = c.lowered.new.1.1.0 in
-    let l = c.pack.new.1.1.0 in
+    let r = c.lowered.new.list in
+    let l = c.pack.new.list in
     let em : c.wide-m.result ≡ size w k = c.wide-m.ensures.0 ∙ c.size_word.ensures in
     let lo : Lowered (size w k) y r = subst (λ (n : ℕ). Lowered n y r) em c.lowered.ensures in
     let ab = found_missing w k l _ c.in_default.is c.find.ensures in
@@ -84,7 +83,7 @@ returns-in_default c =
     (omega (arith, c.if-count_word-capacity_word.false, c.capacity_word.ensures, c.count_word.ensures))
 
 pub target_word-requires-2 : goal.target_word-requires-2
-target_word-requires-2 c = (found_at c.args.t.now c.args.k c.pack.new.1.1.0 _ c.in-At.x c.in-At.is c.find.ensures).1
+target_word-requires-2 c = (found_at c.args.t.now c.args.k c.pack.new.list _ c.in-At.x c.in-At.is c.find.ensures).1
 
 pub returns : goal.returns
 returns c =
@@ -92,8 +91,8 @@ returns c =
     let k = c.args.k in
     let x = c.args.goes.now in
     let y = c.args.adds.now in
-    let r = c.lowered.new.1.1.0 in
-    let l = c.pack.new.1.1.0 in
+    let r = c.lowered.new.list in
+    let l = c.pack.new.list in
     let em : c.wide-m.result ≡ size w k = c.wide-m.ensures.0 ∙ c.size_word.ensures in
     let lo : Lowered (size w k) y r = subst (λ (n : ℕ). Lowered n y r) em c.lowered.ensures in
     made_there w k x y r l c.requires.0 c.requires.1 c.requires.2 lo c.pack.ensures _ c.in-At.x c.target_word-2.ensures

@@ -59,17 +59,16 @@ pub fold_branches-size_word-requires : goal.fold_branches-size_word-requires
 fold_branches-size_word-requires t c = omega (arith, c.requires.1.room.roomy.room, c.requires.2, c.requires.0.holds.laid.laid.few)
 
 pub fold_branches-loop-v-init : goal.fold_branches-loop-v-init
-fold_branches-loop-v-init t c =
-    (
-      c.wide-m.ensures.0 ∙ c.size_word.ensures ∙ sym (plain_head _ _ (omega (arith, c.requires.2, c.requires.0.holds.laid.laid.few))),
-      omega arith,
-      folded_none _ _ _ _,
-      folded_none _ _ _ _,
-      refl,
-      c.requires.1,
-      refl,
-      refl,
-    )
+fold_branches-loop-v-init t c = (
+  c.wide-m.ensures.0 ∙ c.size_word.ensures ∙ sym (plain_head _ _ (omega (arith, c.requires.2, c.requires.0.holds.laid.laid.few))),
+  omega arith,
+  folded_none _ _ _ _,
+  folded_none _ _ _ _,
+  refl,
+  c.requires.1,
+  refl,
+  refl,
+)
 
 pub fold_branches-arm_in-a-requires : goal.fold_branches-arm_in-a-requires
 fold_branches-arm_in-a-requires t c =
@@ -127,13 +126,12 @@ pub rest_ends-kept_in-requires-then-x-eq0 : goal.rest_ends-kept_in-requires-then
 rest_ends-kept_in-requires-then-x-eq0 t c = let p = c.requires.0 in (p.holds.laid.laid, good_small _ _ _ p.second)
 
 pub rest_ends-returns-then-x-eq0 : goal.rest_ends-returns-then-x-eq0
-rest_ends-returns-then-x-eq0 t c =
-    (
-      first_ended _ _ _ _ c.requires.0 c.args.minus _ _ _ _ c.kept_in.ensures c.kept_in-then-x-eq0.ensures
-          c.if-x-eq0.true c.met_ends.result c.met_ends.ensures,
-      refl,
-      c.requires.1,
-    )
+rest_ends-returns-then-x-eq0 t c = (
+  first_ended _ _ _ _ c.requires.0 c.args.minus _ _ _ _ c.kept_in.ensures c.kept_in-then-x-eq0.ensures
+      c.if-x-eq0.true c.met_ends.result c.met_ends.ensures,
+  refl,
+  c.requires.1,
+)
 
 pub rest_ends-kept_in-requires-then-y-eq0 : goal.rest_ends-kept_in-requires-then-y-eq0
 rest_ends-kept_in-requires-then-y-eq0 t c = let p = c.requires.0 in (p.holds.laid.laid, good_small _ _ _ p.first)
@@ -142,13 +140,12 @@ pub rest_ends-kept_in-requires-then-y-eq0-2 : goal.rest_ends-kept_in-requires-th
 rest_ends-kept_in-requires-then-y-eq0-2 t c = let p = c.requires.0 in (p.holds.laid.laid, good_small _ _ _ p.second)
 
 pub rest_ends-returns-then-y-eq0 : goal.rest_ends-returns-then-y-eq0
-rest_ends-returns-then-y-eq0 t c =
-    (
-      second_ended _ _ _ _ c.requires.0 c.args.minus _ _ _ _ c.kept_in-then-y-eq0.ensures c.kept_in-then-y-eq0-2.ensures
-          c.if-y-eq0.true c.met_ends-then-y-eq0.result c.met_ends-then-y-eq0.ensures,
-      refl,
-      c.requires.1,
-    )
+rest_ends-returns-then-y-eq0 t c = (
+  second_ended _ _ _ _ c.requires.0 c.args.minus _ _ _ _ c.kept_in-then-y-eq0.ensures c.kept_in-then-y-eq0-2.ensures
+      c.if-y-eq0.true c.met_ends-then-y-eq0.result c.met_ends-then-y-eq0.ensures,
+  refl,
+  c.requires.1,
+)
 
 pub rest_ends-lowest-j-requires : goal.rest_ends-lowest-j-requires
 rest_ends-lowest-j-requires t c = (c.requires.0.holds.laid.laid, good_small _ _ _ c.requires.0.first, good_small _ _ _ c.requires.0.second)

@@ -32,20 +32,18 @@ returns-in-Subtract c =
     )
 
 pub returns-in-Smaller : goal.returns-in-Smaller
-returns-in-Smaller c =
-    (
-      refl,
-      told _ _ (meaning (nodes c.args.t.now) (branch c.args.b.to c.args.b.adds)) c.args.o _ c.in-Smaller.is true
-          (smaller_within c.requires.first.within c.requires.second.within),
-    )
+returns-in-Smaller c = (
+  refl,
+  told _ _ (meaning (nodes c.args.t.now) (branch c.args.b.to c.args.b.adds)) c.args.o _ c.in-Smaller.is true
+      (smaller_within c.requires.first.within c.requires.second.within),
+)
 
 pub returns-in-Larger : goal.returns-in-Larger
-returns-in-Larger c =
-    (
-      refl,
-      told _ _ (meaning (nodes c.args.t.now) (branch c.args.b.to c.args.b.adds)) c.args.o _ c.in-Larger.is true
-          (larger_within c.requires.first.within c.requires.second.within),
-    )
+returns-in-Larger c = (
+  refl,
+  told _ _ (meaning (nodes c.args.t.now) (branch c.args.b.to c.args.b.adds)) c.args.o _ c.in-Larger.is true
+      (larger_within c.requires.first.within c.requires.second.within),
+)
 
 pub returns-in-Scale : goal.returns-in-Scale
 returns-in-Scale c =

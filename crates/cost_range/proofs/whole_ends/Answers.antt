@@ -9,7 +9,7 @@ pub branch_ends-r-requires : goal.branch_ends-r-requires
 branch_ends-r-requires c =
     let n = c.begin-lent.ensures in (
       rest_pair _ _ c.requires.1 n.same _ _ c.requires.0,
-      noted_none _ _ _ _ _ n (lent_cleared c.args.s.now c.clear.new.s (c.begin-lent.result - 0) (omega (arith, n.fits)) c.clear.auto.0 c.clear.ensures),
+      noted_none _ _ _ _ _ n (lent_cleared c.args.s.now c.clear.new.s (c.begin-lent.result - 0) (omega (arith, n.fits)) c.clear.auto.s c.clear.ensures),
     )
 
 pub clear_window-requires : goal.clear_window-requires

@@ -22,14 +22,13 @@ pub size_word-requires : goal.size_word-requires
 size_word-requires c = let p = c.requires in omega (arith, p.0.room, p.0.few)
 
 pub loop-v-init : goal.loop-v-init
-loop-v-init c =
-    (
-      sym c.adds_at.ensures ∙ c.if-adds_at.false,
-      c.wide-s.ensures.0 ∙ c.size_word.ensures ∙ ap (size c.args.t.now)
-          (c.wide.ensures.0 ∙ c.record_word.ensures),
-      omega arith,
-      λ x h. absurd (omega arith),
-    )
+loop-v-init c = (
+  sym c.adds_at.ensures ∙ c.if-adds_at.false,
+  c.wide-s.ensures.0 ∙ c.size_word.ensures ∙ ap (size c.args.t.now)
+      (c.wide.ensures.0 ∙ c.record_word.ensures),
+  omega arith,
+  λ x h. absurd (omega arith),
+)
 
 pub adds_at-a-requires : goal.adds_at-a-requires
 adds_at-a-requires c =
@@ -44,12 +43,12 @@ returns-then-a-gt4147483648 c = λ z. omega (arith, fit_words _ (z.fits c.loop-v
 pub loop-v-preserved : goal.loop-v-preserved
 loop-v-preserved c =
     let l = c.loop-v in let a = c.args in (
-  l.invariant.0,
-  l.invariant.1,
-  omega arith,
-  below_more (λ x. Fit add_most (int (added (body a.t.now a.i) x))) l.v l.invariant.3
-      (words_fit add_most _ (omega (arith, c.adds_at-a.ensures)) (omega (arith, c.adds_at-a.ensures))),
-)
+      l.invariant.0,
+      l.invariant.1,
+      omega arith,
+      below_more (λ x. Fit add_most (int (added (body a.t.now a.i) x))) l.v l.invariant.3
+          (words_fit add_most _ (omega (arith, c.adds_at-a.ensures)) (omega (arith, c.adds_at-a.ensures))),
+    )
 
 pub returns : goal.returns
 returns c = let l = c.loop-v in record { level = l.invariant.0; fits = λ x h. l.invariant.3 x (omega arith) }

@@ -17,15 +17,14 @@ pub goes_to-first-requires : goal.goes_to-first-requires
 goes_to-first-requires c = let p = c.requires in (omega (arith, p.0.room, p.0.within), omega (arith, p.0.most, p.0.within), omega arith)
 
 pub loop-v-init : goal.loop-v-init
-loop-v-init c =
-    (
-      c.wide-s.ensures.0 ∙ c.size_word.ensures ∙ ap (size c.args.t.now)
-          (c.wide.ensures.0 ∙ c.record_word.ensures),
-      omega arith,
-      c.goes_to-first.ensures,
-      (λ x h. absurd (omega arith)),
-      λ x h. absurd (omega arith),
-    )
+loop-v-init c = (
+  c.wide-s.ensures.0 ∙ c.size_word.ensures ∙ ap (size c.args.t.now)
+      (c.wide.ensures.0 ∙ c.record_word.ensures),
+  omega arith,
+  c.goes_to-first.ensures,
+  (λ x h. absurd (omega arith)),
+  λ x h. absurd (omega arith),
+)
 
 pub goes_to-requires : goal.goes_to-requires
 goes_to-requires c =

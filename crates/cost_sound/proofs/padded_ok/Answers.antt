@@ -23,11 +23,11 @@ returns-then-adds_at-ne0 c = λ z. c.if-adds_at-ne0.true (c.adds_at.ensures ∙ 
 pub loop-v-preserved : goal.loop-v-preserved
 loop-v-preserved c =
     let l = c.loop-v in (
-  omega arith,
-  omega arith,
-  (λ x a h. ⊎_elim (λ e. rw e (sym c.goes_to.ensures ∙ c.if-goes_to-ne0.false)) (λ n. l.invariant.2 x a (omega (arith, n))) (same x l.v)),
-  λ x a h. ⊎_elim (λ e. rw e (sym c.adds_at.ensures ∙ c.if-adds_at-ne0.false)) (λ n. l.invariant.3 x a (omega (arith, n))) (same x l.v),
-)
+      omega arith,
+      omega arith,
+      (λ x a h. ⊎_elim (λ e. rw e (sym c.goes_to.ensures ∙ c.if-goes_to-ne0.false)) (λ n. l.invariant.2 x a (omega (arith, n))) (same x l.v)),
+      λ x a h. ⊎_elim (λ e. rw e (sym c.adds_at.ensures ∙ c.if-adds_at-ne0.false)) (λ n. l.invariant.3 x a (omega (arith, n))) (same x l.v),
+    )
 
 pub returns : goal.returns
 returns c = let l = c.loop-v in record { targets = λ x a h. l.invariant.2 x a (omega arith); addeds = λ x a h. l.invariant.3 x a (omega arith) }

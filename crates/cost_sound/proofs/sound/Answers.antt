@@ -31,18 +31,17 @@ pub returns-then-not-roots_ok : goal.returns-then-not-roots_ok
 returns-then-not-roots_ok c = λ z. denied c.roots_ok.result c.if-not-roots_ok.true-raw c.roots_ok.ensures (record { rooted = z.roots_ok.rooted })
 
 pub order_ok-requires : goal.order_ok-requires
-order_ok-requires c =
-    (
-      formed (record {
-        header = granted c.header_ok.result c.if-not-header_ok.false-raw c.header_ok.ensures;
-        nodes_ok = granted c.nodes_ok.result c.if-not-nodes_ok.false-raw
-            c.nodes_ok.ensures;
-        chained =
-            granted c.chains_ok.result c.if-not-chains_ok.false-raw c.chains_ok.ensures;
-      }),
-      granted c.roots_ok.result c.if-not-roots_ok.false-raw c.roots_ok.ensures,
-      omega arith,
-    )
+order_ok-requires c = (
+  formed (record {
+    header = granted c.header_ok.result c.if-not-header_ok.false-raw c.header_ok.ensures;
+    nodes_ok = granted c.nodes_ok.result c.if-not-nodes_ok.false-raw
+        c.nodes_ok.ensures;
+    chained =
+        granted c.chains_ok.result c.if-not-chains_ok.false-raw c.chains_ok.ensures;
+  }),
+  granted c.roots_ok.result c.if-not-roots_ok.false-raw c.roots_ok.ensures,
+  omega arith,
+)
 
 pub returns-then-not-order_ok : goal.returns-then-not-order_ok
 returns-then-not-order_ok c = λ z. denied c.order_ok.result c.if-not-order_ok.true-raw c.order_ok.ensures (sym (order_is _) ∙ z.in_order)

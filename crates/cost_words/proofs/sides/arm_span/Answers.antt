@@ -10,12 +10,12 @@ kept_span-below-requires c = subst (Near c.args.t.now) (sym c.half_of.ensures) (
 
 pub returns-then-high-eq0 : goal.returns-then-high-eq0
 returns-then-high-eq0 c =
-    let a = c.args in arm_lost a.t.now a.t2 a.v c.half_of.result c.kept_span-below.result.low
+    let a = c.args in arm_lost a.t.now a.list a.v c.half_of.result c.kept_span-below.result.low
     c.kept_span-below.result.high c.half_of.ensures c.kept_span-below.ensures
     c.sum_or_lost-high.result c.if-high-eq0.true c.sum_or_lost-high.ensures
 
 pub returns : goal.returns
 returns c =
-    let a = c.args in arm_stands a.t.now a.t2 a.v c.half_of.result c.kept_span-below.result.low
+    let a = c.args in arm_stands a.t.now a.list a.v c.half_of.result c.kept_span-below.result.low
     c.kept_span-below.result.high c.half_of.ensures c.kept_span-below.ensures
     c.sum_or_lost-low.result c.sum_or_lost-high.result (omega (arith, c.if-high-eq0.false)) c.sum_or_lost-low.ensures c.sum_or_lost-high.ensures
