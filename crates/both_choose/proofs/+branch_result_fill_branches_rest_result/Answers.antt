@@ -139,16 +139,14 @@ fill_branches-bounds-adds-v t c =
 
 pub fill_branches-loop-v-preserved : goal.fill_branches-loop-v-preserved
 fill_branches-loop-v-preserved t c =
-    let a =
-    c in
     let l = c.loop-v in
     let fl = l.invariant.2 in (
       l.invariant.0,
       omega (arith, c.loop-v-test),
-      fill_more (plain a.args.t.now) a.args.k _ a.pre.1.0.holds a.pre.1.2 (plain l.t) _ l.v _ _ l.goes l.adds _ _ fl
+      fill_more (plain c.args.t.now) c.args.k _ c.requires.0.holds c.requires.2 (plain l.t) _ l.v _ _ l.goes l.adds _ _ fl
           (omega (arith, l.invariant.0, c.loop-v-test))
-          (choice_held _ (plain a.args.t.now) a.args.k _ _ _ _ a.pre.1.0 (plain l.t) l.v _ _ _ _ _
-          (filling_ext (plain a.args.t.now) a.args.k _ a.pre.1.0.holds a.pre.1.2 (plain l.t) l.v l.goes l.adds fl)
+          (choice_held _ (plain c.args.t.now) c.args.k _ _ _ _ c.requires.0 (plain l.t) l.v _ _ _ _ _
+          (filling_ext (plain c.args.t.now) c.args.k _ c.requires.0.holds c.requires.2 (plain l.t) l.v l.goes l.adds fl)
           c.branch_at-c.ensures
           c.arm_in-p.ensures
           c.arm_in-q.ensures)

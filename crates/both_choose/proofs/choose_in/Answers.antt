@@ -15,7 +15,7 @@ pub branch_result-requires : goal.branch_result-requires
 branch_result-requires c =
     let n = c.begin-lent.ensures in (
       start _ _ _ _ _ _ _ (choosable_plain _ _ _ _ _ _ c.requires n.same) _ int_zero,
-      noted_none _ _ _ _ _ n (lent_cleared c.args.s.now c.clear.new.s (c.begin-lent.result - 0) (omega (arith, n.fits)) c.clear.auto.0 c.clear.ensures),
+      noted_none _ _ _ _ _ n (lent_cleared c.args.s.now c.clear.new.s (c.begin-lent.result - 0) (omega (arith, n.fits)) c.clear.auto.s c.clear.ensures),
     )
 
 pub clear_far-requires : goal.clear_far-requires

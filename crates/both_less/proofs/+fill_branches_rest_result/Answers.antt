@@ -1,5 +1,6 @@
 -- `both_less::rest_result` and `fill_branches` meet their contracts: the remaining features fall; the first v branches are filled, and the memory is right for the rule table so far. Assumes nothing.
-use Rattle.std.proofs.Common.{List, ◌≡◌, refl, ap, ℕ, ◌<◌, arith, pos, length, lt_z}
+use Rattle.std.proofs.Common.{List, ◌≡◌, refl, ap, ℕ, ◌<◌, arith, pos, length}
+use Rattle.std.specs.Int.Signed.{lt_z}
 use mathlib.Core.Path.{subst, ◌∙◌}
 use lib.ListN.{get_or-replicate}
 use Rattle.table_words.specs.Words.{listed}
@@ -85,23 +86,21 @@ fill_branches-bounds-list-v t c =
 
 pub fill_branches-loop-v-preserved : goal.fill_branches-loop-v-preserved
 fill_branches-loop-v-preserved t c =
-    let a =
-    c in
     let l = c.loop-v in
-    let hv : l.v < size a.args.c.now a.args.k = omega (
+    let hv : l.v < size c.args.c.now c.args.k = omega (
       arith,
       l.invariant.1,
       c.loop-v-test,
     ) in
     let g = onward_word _ _ _ _ _ c.sum_word.ensures
     c.difference_word-g.ensures in
-    let n = as_long _ _ a.pre.1.1.same in (
+    let n = as_long _ _ c.requires.1.same in (
       l.invariant.0,
       l.invariant.1,
       omega (arith, c.loop-v-test),
-      fill_more a.pre.1.1.ready (omega (arith, n, a.pre.1.3)) c.rest_result.result l.invariant.3
+      fill_more c.requires.1.ready (omega (arith, n, c.requires.3)) c.rest_result.result l.invariant.3
           (omega (arith, l.invariant.0, c.loop-v-test))
-          (less_held _ _ _ _ _ a.pre.1.0 a.pre.1.3 l.v _ _ _ _ hv
+          (less_held _ _ _ _ _ c.requires.0 c.requires.3 l.v _ _ _ _ hv
           c.arm_at-a.ensures
           c.arm_at-b.ensures _ g)
           c.rest_result.ensures.0 c.in-Is.is,
@@ -169,13 +168,13 @@ pub rest_result-make-requires : goal.rest_result-make-requires
 rest_result-make-requires t c =
     let hk = still_left _ _ _ _ _ c.requires.0 c.if-x-y.false in
     let n = as_long _ _ c.requires.1.same in
-    fill_listed c.requires.1.ready (omega arith) (filled c.fill_branches.new.s.1.1.1.1.1.1.0 c.if-fill_branches.true c.fill_branches.ensures.0)
+    fill_listed c.requires.1.ready (omega arith) (filled c.fill_branches.new.list c.if-fill_branches.true c.fill_branches.ensures.0)
 
 pub rest_result-returns-in_default-make : goal.rest_result-returns-in_default-make
 rest_result-returns-in_default-make t c =
     let hk = still_left _ _ _ _ _ c.requires.0 c.if-x-y.false in
     let n = as_long _ _ c.requires.1.same in
-    let fl = filled c.fill_branches.new.s.1.1.1.1.1.1.0 c.if-fill_branches.true c.fill_branches.ensures.0 in
+    let fl = filled c.fill_branches.new.list c.if-fill_branches.true c.fill_branches.ensures.0 in
     (result_none c.in_default-make.is (fill_make c.requires.1.ready (omega arith) c.make.result fl c.make.ensures), tt)
 
 pub rest_result-remember-requires : goal.rest_result-remember-requires
@@ -185,13 +184,13 @@ pub rest_result-returns-then-fill_branches : goal.rest_result-returns-then-fill_
 rest_result-returns-then-fill_branches t c =
     let hk = still_left _ _ _ _ _ c.requires.0 c.if-x-y.false in
     let n = as_long _ _ c.requires.1.same in
-    let fl = filled c.fill_branches.new.s.1.1.1.1.1.1.0 c.if-fill_branches.true c.fill_branches.ensures.0 in
+    let fl = filled c.fill_branches.new.list c.if-fill_branches.true c.fill_branches.ensures.0 in
     let q = c.in-Is-make.is in
     let re = result_is q (fill_make c.requires.1.ready (omega arith) c.make.result fl c.make.ensures) in
     let so = subst (StillIf _ _ _) c.if-fill_branches.true c.fill_branches.ensures.1 in (
       re,
       remembers_result _ _ c.args.k _ c.narrow-tag.ensures refl _ _ _ _ c.requires.1.ready re
-          (remembers_made _ _ _ c.args.k c.fill_branches.new.s.1.1.1.1.1.1.0 c.make.result c.in-Is-make.z _ (filling_ready fl) c.make.ensures q so)
+          (remembers_made _ _ _ c.args.k c.fill_branches.new.list c.make.result c.in-Is-make.z _ (filling_ready fl) c.make.ensures q so)
           c.remember.ensures,
     )
 
@@ -199,7 +198,7 @@ pub rest_result-returns : goal.rest_result-returns
 rest_result-returns t c =
     let hk = still_left _ _ _ _ _ c.requires.0 c.if-x-y.false in
     let n = as_long _ _ c.requires.1.same in (
-      stop_result c.requires.1.ready (omega arith) (not_filled c.fill_branches.new.s.1.1.1.1.1.1.0 c.if-fill_branches.false
+      stop_result c.requires.1.ready (omega arith) (not_filled c.fill_branches.new.list c.if-fill_branches.false
           c.fill_branches.ensures.0),
       tt,
     )

@@ -1,5 +1,6 @@
 -- `both_less::above_zero` meets its contract: words have the order of their integers. Assumes nothing.
-use Rattle.std.proofs.Common.{◌≡◌, sym, ap, Bool, cond, ℕ, arith, ℤ, pos, lt_z}
+use Rattle.std.proofs.Common.{◌≡◌, sym, ap, Bool, cond, ℕ, arith, ℤ, pos}
+use Rattle.std.specs.Int.Signed.{lt_z}
 use mathlib.Core.Path.{◌∙◌}
 use Rattle.theory_costs.proofs.Words.{int_lt, int_le}
 use Rattle.cost_words.proofs.Packing.{int_zero}
