@@ -8,7 +8,7 @@ use Rattle.theory.specs.Functions.{Agree}
 use Rattle.theory.specs.Build.{build, table}
 use Rattle.theory.specs.Tally.{tally}
 use Rattle.theory.specs.WellFormed.{Mean}
-use Rattle.theory.specs.Rules.{Rule, Branch, Node, says}
+use Rattle.theory.specs.Rules.{Rule, Branch, Node}
 use Rattle.theory.proofs.Canonical.{canonical}
 use Rattle.theory.proofs.Tables.{room}
 pub use Rattle.table_calls.proofs.Theorems.{ended}

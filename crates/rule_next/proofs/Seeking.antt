@@ -24,7 +24,7 @@ use Rattle.rule_next.specs.Marks.{Leads, Spot, Smallest, rule_from}
 use Rattle.rule_next.specs.Next.{Completes, Finds, Seeks, Answers}
 use Rattle.rule_next.proofs.Stepping.{spot_is, rule_next_lem, sizes_left}
 use Rattle.rule_next.proofs.Marking.{phrase_gives}
-use Rattle.promises.specs.Words.{features, size, sizes, count}
+use Rattle.promises.specs.Words.{features, size, sizes}
 use Rattle.promises.specs.RuleWords.{decode, rule_node_list as nodes, rule_root as root, rule_of}
 use Rattle.promises.specs.RuleSound.{RuleSound as Sound}
 

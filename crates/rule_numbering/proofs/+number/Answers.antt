@@ -1,5 +1,5 @@
 -- `rule_numbering::number` meets its contract: a branch word of a node says an earlier node, so the measure falls; the first v branches are numbered (Numbering). Assumes nothing.
-use Rattle.std.proofs.Common.{◌≡◌, ℕ, ◌<◌, arith}
+use Rattle.std.proofs.Common.{◌≡◌, ◌<◌, arith}
 use native.Mathlib.Numerals.{add-one}
 use Rattle.rule_numbering.specs.Numbering.{mark}
 use Rattle.rule_numbering.proofs.Numbers.{noted_most, stands_below, branch_below, branch_stands, numbers_phrase, numbers_done, numbering_none, numbering_more, numbers_left, numbers_new}

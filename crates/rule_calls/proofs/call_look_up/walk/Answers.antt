@@ -60,7 +60,7 @@ loop-b-preserved c =
 pub returns : goal.returns
 returns c =
     let l = c.loop-b in (
-  refl,
-  way_end c.args.t.now c.args.setting.now c.args.place c.requires.0 c.requires.1 c.requires.2 l.asked l.b (omega arith) l.invariant,
-  way_asked c.args.t.now c.args.setting.now c.args.place c.requires.0 c.requires.1 c.requires.2 l.asked l.b (omega arith) l.invariant,
-)
+      refl,
+      way_end c.args.t.now c.args.setting.now c.args.place c.requires.0 c.requires.1 c.requires.2 l.asked l.b (omega arith) l.invariant,
+      way_asked c.args.t.now c.args.setting.now c.args.place c.requires.0 c.requires.1 c.requires.2 l.asked l.b (omega arith) l.invariant,
+    )

@@ -15,14 +15,14 @@ pub loop-v-preserved : goal.loop-v-preserved
 unfolding bit_of
 loop-v-preserved c =
     let l = c.loop-v in (
-  simp length-set l.invariant.0,
-  omega arith,
-  (λ u h. ⊎_elim
-      (λ e. rw e (get_or-set_same l.list l.v _ 0 (omega arith)))
-      (λ n. get_or-set_other l.list l.v u _ 0 n ∙ l.invariant.2 u (omega (arith, n)))
-      (same u l.v)),
-  (λ u a h. get_or-set_other l.list l.v u _ 0 (omega arith) ∙ l.invariant.3 u (omega arith) h),
-)
+      simp length-set l.invariant.0,
+      omega arith,
+      (λ u h. ⊎_elim
+          (λ e. rw e (get_or-set_same l.list l.v _ 0 (omega arith)))
+          (λ n. get_or-set_other l.list l.v u _ 0 n ∙ l.invariant.2 u (omega (arith, n)))
+          (same u l.v)),
+      (λ u a h. get_or-set_other l.list l.v u _ 0 (omega arith) ∙ l.invariant.3 u (omega arith) h),
+    )
 
 pub returns : goal.returns
 returns c =
