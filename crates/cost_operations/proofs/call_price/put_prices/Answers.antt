@@ -18,13 +18,12 @@ words_of-adds-requires c =
     (d.priced, omega (arith, d.long, (c.requires.0.header.fit.large c.args.feature d.known).1))
 
 pub make-r-requires : goal.make-r-requires
-make-r-requires c =
-    (
-      sound_holds c.requires.0,
-      c.requires.2.known,
-      price_armed c.args.t.now c.args.feature c.args.prices.now c.words_of-adds.result (sound_holds c.requires.0)
-          c.requires.2 c.words_of-adds.ensures (sound_narrow c.requires.0),
-    )
+make-r-requires c = (
+  sound_holds c.requires.0,
+  c.requires.2.known,
+  price_armed c.args.t.now c.args.feature c.args.prices.now c.words_of-adds.result (sound_holds c.requires.0)
+      c.requires.2 c.words_of-adds.ensures (sound_narrow c.requires.0),
+)
 
 pub settle-requires : goal.settle-requires
 settle-requires c =

@@ -21,13 +21,13 @@ word_of-requires c =
 pub loop-v-preserved : goal.loop-v-preserved
 loop-v-preserved c =
     let l = c.loop-v in let z = get_or c.args.prices.now l.v (pos 0) in (
-  simp length-set l.invariant.0,
-  omega arith,
-  λ u h. ⊎_elim
-      (λ e. rw (e, get_or-set_same l.list l.v c.word_of.result 0 (omega arith)) (c.word_of.ensures ∙ amount_read z c.word_of-arg-1.given))
-      (λ n. rw (get_or-set_other l.list l.v u c.word_of.result 0 n) (l.invariant.2 u (omega (arith, n))))
-      (same u l.v),
-)
+      simp length-set l.invariant.0,
+      omega arith,
+      λ u h. ⊎_elim
+          (λ e. rw (e, get_or-set_same l.list l.v c.word_of.result 0 (omega arith)) (c.word_of.ensures ∙ amount_read z c.word_of-arg-1.given))
+          (λ n. rw (get_or-set_other l.list l.v u c.word_of.result 0 n) (l.invariant.2 u (omega (arith, n))))
+          (same u l.v),
+    )
 
 pub returns : goal.returns
 returns c = record { each = λ v h. c.loop-v.invariant.2 v (omega arith) }
