@@ -17,7 +17,7 @@ use Rattle.settings.specs.Step.{setting_of}
 use Rattle.settings.specs.Refusals.{Cases}
 use Rattle.settings.specs.declared.refusals.Refusal.TheVariants.{BadPlace, OtherFeatures, None}
 use Rattle.promises.specs.CostOperations.{chosen_of, chosen, is_below}
-use Rattle.promises.specs.Lowest.{lowest_call, NoneMarked}
+use Rattle.promises.specs.Lowest.{Lowest, NoneMarked}
 use Rattle.promises.specs.State.{State, on, room_cases}
 use Rattle.promises.specs.RuleDeeds.{ruled}
 use Rattle.promises.specs.CostDeeds.{costed, range_cases}
@@ -27,7 +27,7 @@ use Rattle.theory_costs.proofs.Lowest.{lowest_unique}
 use Rattle.demands.specs.Agrees.{Agrees}
 use Rattle.demands.specs.Ground.{together}
 use Rattle.demands.specs.TableGround.{table_ground}
-use Rattle.demands.specs.BothCalls.{Call, on_rules_call, on_costs_call, choose_call, less_call, lowest_call as Seek, deed}
+use Rattle.demands.specs.BothCalls.{Call, on_rules_call, on_costs_call, choose_call, less_call, lowest_call, deed}
 use Rattle.demands.proofs.Firm.{neg, sure, rests, leaves, none_marked}
 use Rattle.demands.proofs.Matching.{room_like, as_framed}
 use Rattle.demands.proofs.Effects.{Effects, kept, replaced, on_two}
@@ -99,9 +99,9 @@ less_lawful p i j =
 none_like : {S T : List ℕ} {g h : Rule} → T ≡ S → Agree S g h → NoneMarked S g → NoneMarked T h
 none_like {S} {T} e a n = record { none = λ u v. let k = subst (λ (L : List ℕ). Valid L u) e v in sym (numbers (a u k)) ∙ n.none u k }
 
-lowest_like : {S T : List ℕ} {f k : Cost} {g h : Rule} {c : ℤ} {t : List ℕ} → T ≡ S → Agree S f k → Agree S g h → lowest_call S f g c t → lowest_call T k h c t
+lowest_like : {S T : List ℕ} {f k : Cost} {g h : Rule} {c : ℤ} {t : List ℕ} → T ≡ S → Agree S f k → Agree S g h → Lowest S f g c t → Lowest T k h c t
 lowest_like {S} {T} {f} {k} {g} {h} {c} {t} e af ag n =
-    subst (λ (L : List ℕ). lowest_call L k h c t) (sym e)
+    subst (λ (L : List ℕ). Lowest L k h c t) (sym e)
     (record {
       valid = n.valid;
       marked = λ z. n.marked (numbers (ag t n.valid) ∙ z);
@@ -130,4 +130,4 @@ lawful (on_rules_call c) = first_lawful R.frame C.frame (R.lawful c)
 lawful (on_costs_call c) = second_lawful R.frame C.frame (C.lawful c)
 lawful (choose_call p q i j) = choose_lawful p q i j
 lawful (less_call p i j) = less_lawful p i j
-lawful (Seek i q) = lowest_lawful i q
+lawful (lowest_call i q) = lowest_lawful i q

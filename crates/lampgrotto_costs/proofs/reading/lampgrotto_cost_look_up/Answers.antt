@@ -1,5 +1,5 @@
 -- `lampgrotto_costs::reading::lampgrotto_cost_look_up` meets its contract: the answer is a cost, so it has a word. Assumes nothing.
-use Rattle.std.proofs.Common.{refl, ap, ◌∷◌, ℤ}
+use Rattle.std.proofs.Common.{[], refl, ap, ◌∷◌, ℤ}
 use mathlib.Core.Path.{◌∙◌}
 use Rattle.cost_amounts.proofs.Signed.{amount_back}
 use Rattle.lampgrotto_costs.proofs.Fitting.{looked_fits, fits_back}

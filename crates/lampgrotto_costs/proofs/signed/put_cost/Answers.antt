@@ -1,5 +1,5 @@
 -- `lampgrotto_costs::signed::put_cost` meets its contract: the first word laid is the cost's. Assumes nothing.
-use Rattle.std.proofs.Common.{ap, ◌∷◌, ℕ, to_z-of_z}
+use Rattle.std.proofs.Common.{[], ap, ◌∷◌, ℕ, to_z-of_z}
 use mathlib.Core.Path.{◌∙◌}
 use Rattle.promises.specs.ForC.{placed, signed}
 use Rattle.lampgrotto_costs.proofs.signed.put_cost.Goals as goal
