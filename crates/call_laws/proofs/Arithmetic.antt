@@ -32,10 +32,11 @@ Below [] = Unit {0}
 Below (p ∷ l) = (p < 16) × Below l
 
 below : {r : ℕ} (l : List ℕ) → Among r l → Below l → r < 16
+below {r = r} [] x h = elim x [ ]
 below (p ∷ l) (first e) h = omega (arith, h.0, e)
 below (p ∷ l) (later m) h = below l m h.1
 
-in_front : {k : List ℕ} {r : ℕ} (l : List ℕ) → Among r k → Among r (k ++ l)
+in_front : {r : ℕ} {k : List ℕ} (l : List ℕ) → Among r k → Among r (k ++ l)
 in_front l (first e) = first e
 in_front l (later m) = later (in_front l m)
 
