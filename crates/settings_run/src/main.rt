@@ -2,11 +2,11 @@
 // sizes 3, 5, 2, 8, and the numbers of refused steps.
 #![tactic(auto)]
 
-use libc::STDOUT_FILENO;
 use settings::Setting;
+use std::io;
 
-fn line() {
-    io::write_all(STDOUT_FILENO, b"\n");
+fn line(rt: &impl Print) -> io::Result<()> {
+    rt.print("\n")
 }
 
 fn wide(x: u8) -> u64 {
@@ -14,30 +14,30 @@ fn wide(x: u8) -> u64 {
 }
 
 // The first two values of a setting, on a line.
-fn pair(s: Setting) {
+fn pair(rt: &impl Print, s: Setting) -> io::Result<()> {
     let values = s.values;
-    io::print_decimal(STDOUT_FILENO, wide(values[0]));
-    io::write_all(STDOUT_FILENO, b" ");
-    io::print_decimal(STDOUT_FILENO, wide(values[1]));
-    line();
+    rt.print(wide(values[0]))?;
+    rt.print(" ")?;
+    rt.print(wide(values[1]))?;
+    line(rt)
 }
 
 // The settings from all zeros up to the last, and what the last step gives.
-fn pairs(features: &[u8]) {
+fn pairs(rt: &impl Print, features: &[u8]) -> io::Result<()> {
     let mut s = Setting::zero(2);
     let mut n: u32 = 0;
     while n < 100 {
-        pair(s);
+        pair(rt, s)?;
         let r = s.next(features);
         let t = r.setting;
         if r.last {
-            io::write_all(STDOUT_FILENO, b"last, then ");
-            pair(t);
-            return;
+            rt.print("last, then ")?;
+            return pair(rt, t);
         }
         s = t;
         n += 1;
     }
+    Ok(())
 }
 
 // How many settings are met from all zeros up to the last.
@@ -57,22 +57,22 @@ fn met(features: &[u8]) -> u32 {
 }
 
 // The number of one step's ending, on a line.
-fn ending(values: &[u8], features: &[u8]) {
+fn ending(rt: &impl Print, values: &[u8], features: &[u8]) -> io::Result<()> {
     let r = Setting::of(values).next(features);
     let o = r.outcome;
-    io::print_decimal(STDOUT_FILENO, settings::outcome_number(o) as u64);
-    line();
+    rt.print(settings::outcome_number(o))?;
+    line(rt)
 }
 
-fn main() {
-    pairs(&[2, 3]);
-    io::print_decimal(STDOUT_FILENO, met(&[3, 5, 2, 8]) as u64);
-    line();
-    ending(&[], &[]);
-    ending(&[0; 17], &[2; 17]);
-    ending(&[0, 0], &[2, 1]);
-    ending(&[0, 0], &[2, 9]);
-    ending(&[0, 3], &[2, 3]);
-    ending(&[0, 0, 0], &[2, 3]);
-    ending(&[0; 16], &[8; 16]);
+fn main(rt: HostRuntime) -> io::Result<()> {
+    pairs(&rt, &[2, 3])?;
+    rt.print(met(&[3, 5, 2, 8]))?;
+    line(&rt)?;
+    ending(&rt, &[], &[])?;
+    ending(&rt, &[0; 17], &[2; 17])?;
+    ending(&rt, &[0, 0], &[2, 1])?;
+    ending(&rt, &[0, 0], &[2, 9])?;
+    ending(&rt, &[0, 3], &[2, 3])?;
+    ending(&rt, &[0, 0, 0], &[2, 3])?;
+    ending(&rt, &[0; 16], &[8; 16])
 }

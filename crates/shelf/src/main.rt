@@ -3,6 +3,8 @@
 
 mod turns; // turns.rt: which command a line is, and the lines in turn
 
-fn main() {
-    turns::run();
+use std::io;
+
+fn main(rt: HostRuntime) -> io::Result<()> {
+    turns::run(&rt)
 }

@@ -2,6 +2,7 @@
 ghost use Rattle.std.specs.Prelude.{◌≡◌, ◌≤◌, length, take};
 
 use shelf_lines::say_number;
+use std::io;
 
 // What a parameter of the type i64 is passed for a number.
 fn as_amount(x: u64) -> i64 {
@@ -41,14 +42,12 @@ pub fn amounts_of(numbers: &[u64], first: usize, amounts: &mut [i64]) -> usize
 }
 
 // An amount, written as one number more of an answer.
-pub fn say_amount(z: i64) {
+pub fn say_amount(rt: &impl Print, z: i64) -> io::Result<()> {
     if z < -9223372036854775807 {
-        say_number(9223372036854775808);
-        return;
+        return say_number(rt, 9223372036854775808);
     }
     if z < 0 {
-        say_number(std::num::wrapping_sub_u64(0, (0 - z) as u64));
-        return;
+        return say_number(rt, std::num::wrapping_sub_u64(0, (0 - z) as u64));
     }
-    say_number(z as u64);
+    say_number(rt, z as u64)
 }

@@ -2,6 +2,7 @@
 use crate::amounts::say_amount;
 use settings::Outcome;
 use shelf_lines::{BOTH, Desk, Entry, entry_in, lent, say, say_values, size_at};
+use std::io;
 
 const CHOOSE: usize = 0;
 
@@ -29,30 +30,57 @@ fn worked(
 }
 
 // `lowest A RULE`; the setting has as many values as the cost table's list
-fn lowest(n: &[u64], count: usize, rules: &[u32], costs: &[u32], scratch: &mut [u32]) {
+fn lowest(
+    rt: &impl Print,
+    n: &[u64],
+    count: usize,
+    rules: &[u32],
+    costs: &[u32],
+    scratch: &mut [u32],
+) -> io::Result<()> {
     let found = both_calls::lowest(costs, rules, scratch, size_at(n, 0), size_at(n, 1));
     let outcome = found.outcome;
     let setting = found.setting;
-    say(outcome);
-    say_amount(found.cost);
-    say_values(setting, count);
+    say(rt, outcome)?;
+    say_amount(rt, found.cost)?;
+    say_values(rt, setting, count)
 }
 
 // The command of this code on the lent words of both.
-fn call(code: usize, n: &[u64], desk: Desk, rules: &mut [u32], costs: &mut [u32]) {
+fn call(
+    rt: &impl Print,
+    code: usize,
+    n: &[u64],
+    desk: &Desk,
+    rules: &mut [u32],
+    costs: &mut [u32],
+) -> io::Result<()> {
     let word = desk.fill;
     let mut scratch = [word; 16384];
     let size = lent(&scratch, desk.scratch);
     if code <= LESS {
-        say(worked(code, n, rules, costs, &mut scratch[..size]));
-        return;
+        return say(rt, worked(code, n, rules, costs, &mut scratch[..size]));
     }
-    lowest(n, desk.cost_features, rules, costs, &mut scratch[..size]);
+    lowest(
+        rt,
+        n,
+        desk.cost_features,
+        rules,
+        costs,
+        &mut scratch[..size],
+    )
 }
 
 // The command of this code, with the numbers that follow its name.
-pub fn both_command(code: usize, n: &[u64], desk: Desk, rules: &mut [u32], costs: &mut [u32]) {
+pub fn both_command(
+    rt: &impl Print,
+    code: usize,
+    n: &[u64],
+    desk: &Desk,
+    rules: &mut [u32],
+    costs: &mut [u32],
+) -> io::Result<()> {
     let size = lent(rules, desk.rules);
     let length = lent(costs, desk.costs);
-    call(code, n, desk, &mut rules[..size], &mut costs[..length]);
+    call(rt, code, n, desk, &mut rules[..size], &mut costs[..length])
 }

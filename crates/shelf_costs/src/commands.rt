@@ -4,35 +4,52 @@ use crate::names::{COPEN, CSUM, PRICE, SCALE};
 use crate::questions::{ask, open};
 use crate::workings::work;
 use shelf_lines::{Desk, handle, lent, say};
+use std::io;
 
 // A call that writes a place, or one that only reads.
-fn numbered(code: usize, n: &[u64], desk: Desk, table: &mut [u32]) {
+fn numbered(
+    rt: &impl Print,
+    code: usize,
+    n: &[u64],
+    desk: &Desk,
+    table: &mut [u32],
+) -> io::Result<()> {
     if code <= SCALE {
-        say(work(code, n, desk.scratch, desk.fill, table));
-        return;
+        return say(rt, work(code, n, desk.scratch, desk.fill, table));
     }
     if code <= PRICE {
-        say(change(code, n, table));
-        return;
+        return say(rt, change(code, n, table));
     }
-    ask(code, n, table);
+    ask(rt, code, n, table)
 }
 
 // A call on the lent words.
-fn call(code: usize, n: &[u64], desk: Desk, table: &mut [u32]) -> Desk {
+fn call(
+    rt: &impl Print,
+    code: usize,
+    n: &[u64],
+    desk: Desk,
+    table: &mut [u32],
+) -> io::Result<Desk> {
     if code == COPEN {
-        return open(n, desk, table);
+        return open(rt, n, desk, table);
     }
-    numbered(code, n, desk, table);
-    desk
+    numbered(rt, code, n, &desk, table)?;
+    Ok(desk)
 }
 
 // The command of this code, with the numbers that follow its name.
-pub fn cost_command(code: usize, n: &[u64], desk: Desk, words: &mut [u32]) -> Desk {
+pub fn cost_command(
+    rt: &impl Print,
+    code: usize,
+    n: &[u64],
+    desk: Desk,
+    words: &mut [u32],
+) -> io::Result<Desk> {
     if code <= CSUM {
-        handle(code, n, words);
-        return desk;
+        handle(rt, code, n, words)?;
+        return Ok(desk);
     }
     let size = lent(words, desk.costs);
-    call(code, n, desk, &mut words[..size])
+    call(rt, code, n, desk, &mut words[..size])
 }

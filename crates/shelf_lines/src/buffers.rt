@@ -5,6 +5,7 @@ use crate::numbers::as_word;
 use crate::saying::{say, say_number, say_word};
 use crate::words::size_at;
 use settings::Outcome;
+use std::io;
 
 fn wide(x: u32) -> u64
     ensures { (result ≡ x) × (result < 4294967296) }
@@ -13,10 +14,11 @@ fn wide(x: u32) -> u64
 }
 
 // One word.
-fn say_one(words: &[u32], i: usize) {
+fn say_one(rt: &impl Print, words: &[u32], i: usize) -> io::Result<()> {
     if i < words.len() {
-        say_word(words[i]);
+        return say_word(rt, words[i]);
     }
+    Ok(())
 }
 
 // One word is overwritten.
@@ -38,16 +40,15 @@ fn checksum(words: &[u32]) -> u64 {
 }
 
 // The command of this code on all words of a buffer: 0 `word INDEX`, 1 `poke INDEX WORD`, else `sum`.
-pub fn handle(code: usize, n: &[u64], words: &mut [u32]) {
-    say(Outcome::Taken);
+pub fn handle(rt: &impl Print, code: usize, n: &[u64], words: &mut [u32]) -> io::Result<()> {
+    say(rt, Outcome::Taken)?;
     let index = size_at(n, 0);
     if code == 0 {
-        say_one(words, index);
-        return;
+        return say_one(rt, words, index);
     }
     if code == 1 {
         poke(words, index, as_word(size_at(n, 1)));
-        return;
+        return Ok(());
     }
-    say_number(checksum(words));
+    say_number(rt, checksum(words))
 }

@@ -1,5 +1,5 @@
 // What is lent to the calls.
-ghost use Rattle.io.specs.Counts.{IsPrefixLen};
+ghost use Rattle.std.specs.Counts.{IsPrefixLen};
 
 use settings::Outcome;
 

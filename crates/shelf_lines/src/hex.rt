@@ -1,9 +1,9 @@
 // Bytes as two lower-case hex digits each, and `-` for none.
-ghost use Rattle.io.specs.Counts.{IsPrefixLen};
+ghost use Rattle.std.specs.Counts.{IsPrefixLen};
 
 use crate::numbers::digit;
 use crate::words::{Listed, none};
-use libc::STDOUT_FILENO;
+use std::io;
 
 fn wide(x: u8) -> u32 {
     x as u32
@@ -53,7 +53,7 @@ pub fn bytes_in(text: &[u8], bytes: &mut [u8]) -> Listed
     if text.len() == 0 {
         return none();
     }
-    if check::same(text, b"-") {
+    if text == b"-".as_slice() {
         return Listed {
             known: true,
             count: 0,
@@ -98,13 +98,12 @@ fn digits_of(bytes: &[u8], text: &mut [u8]) -> usize
 }
 
 // A space, and bytes as hex digits, `-` for none: by way of a text of 16,384 bytes, which those of 8,192 fill.
-pub fn say_bytes(bytes: &[u8]) {
+pub fn say_bytes(rt: &impl Print, bytes: &[u8]) -> io::Result<()> {
     if bytes.len() == 0 {
-        io::write_all(STDOUT_FILENO, b" -");
-        return;
+        return rt.print(" -");
     }
-    io::write_all(STDOUT_FILENO, b" ");
+    rt.print(" ")?;
     let mut text = [0u8; 16384];
     let n = digits_of(bytes, &mut text);
-    io::write_all(STDOUT_FILENO, &text[..n]);
+    rt.write_all(&text[..n])
 }

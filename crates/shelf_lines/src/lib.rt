@@ -18,5 +18,5 @@ pub use numbers::{Parsed, as_size, as_word, number_in};
 pub use own::{own_command, own_entry};
 pub use saying::{say, say_end, say_flag, say_number, say_unknown, say_values, say_word};
 pub use words::{
-    Listed, bytes_after, bytes_listed, bytes_of, first_word, next_word, size_at, words_of,
+    Listed, bytes_after, bytes_listed, bytes_of, find, first_word, next_word, size_at, words_of,
 };

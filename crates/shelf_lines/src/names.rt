@@ -1,8 +1,8 @@
 // A command's name, and the numbers that may follow it.
 ghost use Rattle.std.specs.Prelude.{◌≤◌, length};
-ghost use Rattle.io.specs.Counts.{IsPrefixLen};
+ghost use Rattle.std.specs.Counts.{IsPrefixLen};
 
-use crate::words::{Listed, none, numbers_in, size_at};
+use crate::words::{Listed, find, none, numbers_in, size_at};
 
 // The families of commands, by what they work on; the last has none.
 pub const OWN: usize = 0;
@@ -36,8 +36,8 @@ pub fn entry_in(family: usize, name: &[u8], names: &[u8], kinds: &[u8]) -> Entry
     let mut from: usize = 0;
     let mut code: usize = 0;
     while code < kinds.len() {
-        let end = bytes::scan::find(names, from, names.len(), b' ');
-        if check::same(name, &names[from..end]) {
+        let end = find(names, from, b' ');
+        if name == &names[from..end] {
             return Entry {
                 family,
                 code,

@@ -5,6 +5,7 @@ use crate::numbers::as_word;
 use crate::saying::{say, say_flag, say_unknown, say_values};
 use crate::words::{bytes_after, bytes_listed, first_word, size_at};
 use settings::{Outcome, Setting};
+use std::io;
 
 const LEND: usize = 1;
 
@@ -15,29 +16,28 @@ pub fn own_entry(name: &[u8]) -> Entry {
 }
 
 // The step from the setting of the values, over the sizes.
-fn stepped(sizes: &[u8], values: &[u8]) {
+fn stepped(rt: &impl Print, sizes: &[u8], values: &[u8]) -> io::Result<()> {
     let step = Setting::of(values).next(sizes);
     let outcome = step.outcome;
-    say(outcome);
-    say_flag(step.last);
+    say(rt, outcome)?;
+    say_flag(rt, step.last)?;
     let setting = step.setting;
-    say_values(setting, setting.count);
+    say_values(rt, setting, setting.count)
 }
 
 // `step S0,S1,.. V0 V1 ..`, of which the text is what follows the name.
-fn step(text: &[u8]) {
+fn step(rt: &impl Print, text: &[u8]) -> io::Result<()> {
     let end = first_word(text);
     let mut sizes = [0u8; 64];
     let listed = bytes_listed(&text[..end], b',', &mut sizes);
     let mut values = [0u8; 64];
     let after = bytes_after(listed.known, text, end, &mut values);
     if !after.known {
-        say_unknown();
-        return;
+        return say_unknown(rt);
     }
     let n = listed.count;
     let m = after.count;
-    stepped(&sizes[..n], &values[..m]);
+    stepped(rt, &sizes[..n], &values[..m])
 }
 
 // `scratch LENGTH WORD`, `lend LENGTH` or `clend LENGTH`: what is lent from now on.
@@ -57,11 +57,17 @@ fn arranged(code: usize, length: usize, word: usize, desk: Desk) -> Desk {
 }
 
 // The command of this code, with the text or the numbers that follow its name.
-pub fn own_command(code: usize, text: &[u8], n: &[u64], desk: Desk) -> Desk {
+pub fn own_command(
+    rt: &impl Print,
+    code: usize,
+    text: &[u8],
+    n: &[u64],
+    desk: Desk,
+) -> io::Result<Desk> {
     if code <= CLEND {
-        say(Outcome::Taken);
-        return arranged(code, size_at(n, 0), size_at(n, 1), desk);
+        say(rt, Outcome::Taken)?;
+        return Ok(arranged(code, size_at(n, 0), size_at(n, 1), desk));
     }
-    step(text);
-    desk
+    step(rt, text)?;
+    Ok(desk)
 }

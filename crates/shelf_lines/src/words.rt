@@ -1,6 +1,6 @@
 // The words of a line: the first, and lists of numbers.
-ghost use Rattle.std.specs.Prelude.{◌≡◌, ◌≤◌, length};
-ghost use Rattle.io.specs.Counts.{IsPrefixLen};
+ghost use Rattle.std.specs.Prelude.{◌≡◌, ◌≢◌, ℕ, ◌<◌, ◌≤◌, length, slice_index};
+ghost use Rattle.std.specs.Counts.{IsPrefixLen};
 
 use crate::numbers::{as_byte, as_size, as_word, number_in};
 
@@ -21,11 +21,29 @@ pub fn none() -> Listed
     }
 }
 
+// The place of the first mark of a text from a place on, or the text's length where none is left.
+pub fn find(text: &[u8], from: usize, mark: u8) -> usize
+    requires { from ≤ length text.now }
+    ensures low { from ≤ result }
+    ensures high { result ≤ length text.now }
+    ensures before { (k : ℕ) → from ≤ k → k < result → slice_index text.now k ≢ mark }
+    ensures found { result < length text.now → slice_index text.now result ≡ mark }
+{
+    let mut at = from;
+    while at < text.len() {
+        if text[at] == mark {
+            return at;
+        }
+        at += 1;
+    }
+    at
+}
+
 // Where the first word of a line ends: at its first space, or at its end.
 pub fn first_word(line: &[u8]) -> usize
     ensures { IsPrefixLen result line.now }
 {
-    bytes::scan::find(line, 0, line.len(), b' ')
+    find(line, 0, b' ')
 }
 
 // The numbers of a text with one mark between each two, put at the start of the list, which has to hold them all.
@@ -35,7 +53,7 @@ pub fn numbers_in(text: &[u8], mark: u8, list: &mut [u64]) -> Listed
     let mut from: usize = 0;
     let mut count: usize = 0;
     while count < list.len() {
-        let end = bytes::scan::find(text, from, text.len(), mark);
+        let end = find(text, from, mark);
         let parsed = number_in(&text[from..end]);
         if !parsed.known {
             return none();

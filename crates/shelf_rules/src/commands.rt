@@ -6,39 +6,58 @@ use crate::questions::ask;
 use crate::sheeting::sheet;
 use crate::workings::work;
 use shelf_lines::{Desk, handle, lent, say};
+use std::io;
 
 // A call that writes a place, or answers a number.
-fn numbered(code: usize, n: &[u64], desk: Desk, table: &mut [u32]) {
+fn numbered(
+    rt: &impl Print,
+    code: usize,
+    n: &[u64],
+    desk: &Desk,
+    table: &mut [u32],
+) -> io::Result<()> {
     if code <= FORGET {
-        say(work(code, n, desk.scratch, desk.fill, table));
-        return;
+        return say(rt, work(code, n, desk.scratch, desk.fill, table));
     }
     if code <= RESTRICT {
-        say(change(code, n, table));
-        return;
+        return say(rt, change(code, n, table));
     }
-    ask(code, n, table);
+    ask(rt, code, n, table)
 }
 
 // A call on the lent words.
-fn call(code: usize, text: &[u8], n: &[u64], desk: Desk, table: &mut [u32]) -> Desk {
+fn call(
+    rt: &impl Print,
+    code: usize,
+    text: &[u8],
+    n: &[u64],
+    desk: Desk,
+    table: &mut [u32],
+) -> io::Result<Desk> {
     if code <= WRITE {
-        sheet(code, text, n, table);
-        return desk;
+        sheet(rt, code, text, n, table)?;
+        return Ok(desk);
     }
     if code <= NEXT {
-        return list(code, n, desk, table);
+        return list(rt, code, n, desk, table);
     }
-    numbered(code, n, desk, table);
-    desk
+    numbered(rt, code, n, &desk, table)?;
+    Ok(desk)
 }
 
 // The command of this code, with the text or the numbers that follow its name.
-pub fn rule_command(code: usize, text: &[u8], n: &[u64], desk: Desk, words: &mut [u32]) -> Desk {
+pub fn rule_command(
+    rt: &impl Print,
+    code: usize,
+    text: &[u8],
+    n: &[u64],
+    desk: Desk,
+    words: &mut [u32],
+) -> io::Result<Desk> {
     if code <= SUM {
-        handle(code, n, words);
-        return desk;
+        handle(rt, code, n, words)?;
+        return Ok(desk);
     }
     let size = lent(words, desk.rules);
-    call(code, text, n, desk, &mut words[..size])
+    call(rt, code, text, n, desk, &mut words[..size])
 }

@@ -1,59 +1,63 @@
 // The commands that answer a number: literal, same, count, tally.
 use crate::names::{COUNT, LITERAL, SAME};
 use shelf_lines::{as_word, say, say_flag, say_number, say_word, size_at};
+use std::io;
 
 // `literal P FEATURE BITS`
-fn literal(place: usize, feature: usize, bits: usize, table: &mut [u32]) {
+fn literal(
+    rt: &impl Print,
+    place: usize,
+    feature: usize,
+    bits: usize,
+    table: &mut [u32],
+) -> io::Result<()> {
     let made = rule_operations::literal(table, place, feature, as_word(bits));
     let outcome = made.outcome;
-    say(outcome);
-    say_word(made.size);
+    say(rt, outcome)?;
+    say_word(rt, made.size)
 }
 
 // `same P Q`
-fn same(a: usize, b: usize, table: &[u32]) {
+fn same(rt: &impl Print, a: usize, b: usize, table: &[u32]) -> io::Result<()> {
     let compared = rule_calls::same(table, a, b);
     let outcome = compared.outcome;
-    say(outcome);
-    say_flag(compared.same);
+    say(rt, outcome)?;
+    say_flag(rt, compared.same)
 }
 
 // `count P NUMBER`
-fn count(place: usize, number: usize, table: &[u32]) {
+fn count(rt: &impl Print, place: usize, number: usize, table: &[u32]) -> io::Result<()> {
     let counted = rule_operations::count(table, place, as_word(number));
     let outcome = counted.outcome;
-    say(outcome);
-    say_number(counted.count);
+    say(rt, outcome)?;
+    say_number(rt, counted.count)
 }
 
 // `tally`
-fn tally(table: &[u32]) {
+fn tally(rt: &impl Print, table: &[u32]) -> io::Result<()> {
     let tallied = rule_calls::tally(table);
     let outcome = tallied.outcome;
-    say(outcome);
-    say_word(tallied.count);
+    say(rt, outcome)?;
+    say_word(rt, tallied.count)
 }
 
 // `same`, `count` or `tally`.
-fn asked(code: usize, place: usize, a: usize, table: &[u32]) {
+fn asked(rt: &impl Print, code: usize, place: usize, a: usize, table: &[u32]) -> io::Result<()> {
     if code == SAME {
-        same(place, a, table);
-        return;
+        return same(rt, place, a, table);
     }
     if code == COUNT {
-        count(place, a, table);
-        return;
+        return count(rt, place, a, table);
     }
-    tally(table);
+    tally(rt, table)
 }
 
 // The one of this code.
-pub fn ask(code: usize, n: &[u64], table: &mut [u32]) {
+pub fn ask(rt: &impl Print, code: usize, n: &[u64], table: &mut [u32]) -> io::Result<()> {
     let place = size_at(n, 0);
     let a = size_at(n, 1);
     if code == LITERAL {
-        literal(place, a, size_at(n, 2), table);
-        return;
+        return literal(rt, place, a, size_at(n, 2), table);
     }
-    asked(code, place, a, table);
+    asked(rt, code, place, a, table)
 }

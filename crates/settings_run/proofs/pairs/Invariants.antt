@@ -3,7 +3,7 @@ use Rattle.std.proofs.Common.{◌≤◌, ◌-◌}
 use Rattle.settings_run.proofs.pairs.Given as goal
 
 abbrev pub invariant-loop-n : goal.invariant-loop-n
-invariant-loop-n l = n ≤ 100
+invariant-loop-n g l = l.n ≤ 100
 
 abbrev pub decreases-loop-n : goal.decreases-loop-n
-decreases-loop-n l = 100 - n
+decreases-loop-n g l = 100 - l.n
