@@ -46,7 +46,7 @@ module _ {K : Kind} {T : Layout K} (L : Lawful T) where
   pub grown_over : (w t : List ℕ) (M N : List (Node K)) → Grown T w t M → T.capacity w < length M → Ext M N → Grown T w t N
   grown_over w t M N g h e = record { kept = g.kept; well = g.well; holds = g.holds ∙ sym (take_ext (T.capacity w) e (omega arith)) }
 
-  -- the nodes of w come first in t, Also where there was no room for all of N
+  -- the nodes of w come first in t, also where there was no room for all of N
   pub grown_ext : (w t : List ℕ) (N : List (Node K)) → Holds T w → Grown T w t N → Ext (T.nodes w) N → Ext (T.nodes w) (T.nodes t)
   grown_ext w t N ok g e =
       let h : length (T.nodes w) + (T.capacity w - length (T.nodes w)) ≡ T.capacity w = omega (arith, L.within w ok.laid) in
