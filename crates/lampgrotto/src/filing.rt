@@ -8,13 +8,7 @@ use c_results::put_length;
 use settings::outcome_number;
 
 // Writes the sheet of the place's rule to the front of the bytes; the result is how long it is.
-#[unsafe(no_mangle)]
-pub extern "C" fn lampgrotto_write(
-    t: &[u32],
-    place: usize,
-    sheet: &mut [u8],
-    out: &mut [u32],
-) -> u32
+pub fn lampgrotto_write(t: &[u32], place: usize, sheet: &mut [u8], out: &mut [u32]) -> u32
     ensures { Hears (Meets (F.write_sheet place sheet.old) t.now t.now) (tell_filed out.old) (heard result out.new sheet.new) }
 {
     let r = sheet_calls::write(t, place, sheet);
@@ -24,8 +18,7 @@ pub extern "C" fn lampgrotto_write(
 }
 
 // The rule of the sheet becomes the rule of the place.
-#[unsafe(no_mangle)]
-pub extern "C" fn lampgrotto_read(t: &mut [u32], place: usize, sheet: &[u8]) -> u32
+pub fn lampgrotto_read(t: &mut [u32], place: usize, sheet: &[u8]) -> u32
     ensures { Hears (Meets (F.read_sheet place sheet.now) t.old t.new) (tell_ending []) (heard result [] []) }
 {
     outcome_number(sheet_calls::read(t, place, sheet))

@@ -11,32 +11,28 @@ use c_results::put;
 use settings::outcome_number;
 
 // Opens a rule table over the feature list in the words t, with room for capacity nodes.
-#[unsafe(no_mangle)]
-pub extern "C" fn lampgrotto_open(t: &mut [u32], features: &[u8], capacity: usize) -> u32
+pub fn lampgrotto_open(t: &mut [u32], features: &[u8], capacity: usize) -> u32
     ensures { Hears (Meets (D.open_table ruled features.now capacity (length t.old)) t.old t.new) (tell_ending []) (heard result [] []) }
 {
     outcome_number(rule_calls::open(t, features, capacity))
 }
 
 // The rule of the place becomes the constant number.
-#[unsafe(no_mangle)]
-pub extern "C" fn lampgrotto_constant(t: &mut [u32], place: usize, number: u32) -> u32
+pub fn lampgrotto_constant(t: &mut [u32], place: usize, number: u32) -> u32
     ensures { Hears (Meets (D.constant ruled place (says number)) t.old t.new) (tell_ending []) (heard result [] []) }
 {
     outcome_number(rule_calls::constant(t, place, number))
 }
 
 // The rule of the place becomes that of another.
-#[unsafe(no_mangle)]
-pub extern "C" fn lampgrotto_copy(t: &mut [u32], place: usize, from: usize) -> u32
+pub fn lampgrotto_copy(t: &mut [u32], place: usize, from: usize) -> u32
     ensures { Hears (Meets (D.copy ruled place from) t.old t.new) (tell_ending []) (heard result [] []) }
 {
     outcome_number(rule_calls::copy(t, place, from))
 }
 
 // The rule of the place becomes 1 where the feature's value is in the set of bits, else 0; the result is how many values the set has.
-#[unsafe(no_mangle)]
-pub extern "C" fn lampgrotto_literal(
+pub fn lampgrotto_literal(
     t: &mut [u32],
     place: usize,
     feature: usize,
@@ -52,8 +48,7 @@ pub extern "C" fn lampgrotto_literal(
 }
 
 // The rule of the place becomes, at each setting, that of the branches whose index is the selector's number.
-#[unsafe(no_mangle)]
-pub extern "C" fn lampgrotto_case(
+pub fn lampgrotto_case(
     t: &mut [u32],
     scratch: &mut [u32],
     place: usize,
@@ -66,8 +61,7 @@ pub extern "C" fn lampgrotto_case(
 }
 
 // The rule of the place becomes the operator of two others: 1 smaller, 2 larger, 3 equal, 4 less, 5 differ.
-#[unsafe(no_mangle)]
-pub extern "C" fn lampgrotto_apply(
+pub fn lampgrotto_apply(
     t: &mut [u32],
     scratch: &mut [u32],
     place: usize,
@@ -81,8 +75,7 @@ pub extern "C" fn lampgrotto_apply(
 }
 
 // The rule of the place becomes another with the feature held at the value.
-#[unsafe(no_mangle)]
-pub extern "C" fn lampgrotto_restrict(
+pub fn lampgrotto_restrict(
     t: &mut [u32],
     place: usize,
     from: usize,
@@ -95,8 +88,7 @@ pub extern "C" fn lampgrotto_restrict(
 }
 
 // The rule of the place becomes another with a feature removed: 0, the one other number over its values, or 65,535 where two differ.
-#[unsafe(no_mangle)]
-pub extern "C" fn lampgrotto_forget(
+pub fn lampgrotto_forget(
     t: &mut [u32],
     scratch: &mut [u32],
     place: usize,

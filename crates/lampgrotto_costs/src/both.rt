@@ -8,8 +8,7 @@ use crate::signed::put_found;
 use settings::outcome_number;
 
 // The cost of the place becomes that of the first place where the rule is not 0, else that of the second.
-#[unsafe(no_mangle)]
-pub extern "C" fn lampgrotto_choose(
+pub fn lampgrotto_choose(
     t: &mut [u32],
     rules: &[u32],
     scratch: &mut [u32],
@@ -24,8 +23,7 @@ pub extern "C" fn lampgrotto_choose(
 }
 
 // The rule of the place becomes 1 where the cost of the first place is below that of the second, else 0.
-#[unsafe(no_mangle)]
-pub extern "C" fn lampgrotto_less(
+pub fn lampgrotto_less(
     t: &mut [u32],
     costs: &[u32],
     scratch: &mut [u32],
@@ -39,8 +37,7 @@ pub extern "C" fn lampgrotto_less(
 }
 
 // The lowest cost that the place gives where the rule is not 0, then the first setting that has it: 16 words, its values and 0 past them.
-#[unsafe(no_mangle)]
-pub extern "C" fn lampgrotto_lowest(
+pub fn lampgrotto_lowest(
     costs: &[u32],
     rules: &[u32],
     scratch: &mut [u32],

@@ -7,35 +7,21 @@ ghost use Rattle.promises.specs.CostDeeds as C;
 use settings::outcome_number;
 
 // The cost of the place becomes the price of the feature's value.
-#[unsafe(no_mangle)]
-pub extern "C" fn lampgrotto_price(
-    t: &mut [u32],
-    place: usize,
-    feature: usize,
-    prices: &[i64],
-) -> u32
+pub fn lampgrotto_price(t: &mut [u32], place: usize, feature: usize, prices: &[i64]) -> u32
     ensures { Hears (Meets (C.price place feature prices.now) t.old t.new) (tell_ending []) (heard result [] []) }
 {
     outcome_number(cost_operations::price(t, place, feature, prices))
 }
 
 // The cost of the place becomes the sum of those of two places.
-#[unsafe(no_mangle)]
-pub extern "C" fn lampgrotto_add(
-    t: &mut [u32],
-    scratch: &mut [u32],
-    place: usize,
-    a: usize,
-    b: usize,
-) -> u32
+pub fn lampgrotto_add(t: &mut [u32], scratch: &mut [u32], place: usize, a: usize, b: usize) -> u32
     ensures { Hears (Meets (C.add place a b) t.old t.new) (tell_ending []) (heard result [] []) }
 {
     outcome_number(cost_operations::add(t, scratch, place, a, b))
 }
 
 // The cost of the place becomes that of the first less that of the second.
-#[unsafe(no_mangle)]
-pub extern "C" fn lampgrotto_subtract(
+pub fn lampgrotto_subtract(
     t: &mut [u32],
     scratch: &mut [u32],
     place: usize,
@@ -48,8 +34,7 @@ pub extern "C" fn lampgrotto_subtract(
 }
 
 // The cost of the place becomes the smaller of those of two places.
-#[unsafe(no_mangle)]
-pub extern "C" fn lampgrotto_smaller(
+pub fn lampgrotto_smaller(
     t: &mut [u32],
     scratch: &mut [u32],
     place: usize,
@@ -62,8 +47,7 @@ pub extern "C" fn lampgrotto_smaller(
 }
 
 // The cost of the place becomes the larger of those of two places.
-#[unsafe(no_mangle)]
-pub extern "C" fn lampgrotto_larger(
+pub fn lampgrotto_larger(
     t: &mut [u32],
     scratch: &mut [u32],
     place: usize,
@@ -76,8 +60,7 @@ pub extern "C" fn lampgrotto_larger(
 }
 
 // The cost of the place becomes that of another times a factor.
-#[unsafe(no_mangle)]
-pub extern "C" fn lampgrotto_scale(
+pub fn lampgrotto_scale(
     t: &mut [u32],
     scratch: &mut [u32],
     place: usize,

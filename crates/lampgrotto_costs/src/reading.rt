@@ -10,13 +10,7 @@ use c_results::{put, put_flag};
 use settings::outcome_number;
 
 // The cost that the place gives the setting, then how many features were asked.
-#[unsafe(no_mangle)]
-pub extern "C" fn lampgrotto_cost_look_up(
-    t: &[u32],
-    place: usize,
-    setting: &[u8],
-    out: &mut [u32],
-) -> u32
+pub fn lampgrotto_cost_look_up(t: &[u32], place: usize, setting: &[u8], out: &mut [u32]) -> u32
     ensures { Hears (Meets (D.look_up costed place setting.now) t.now t.now) (tell_cost_looked out.old) (heard result out.new []) }
 {
     let r = cost_calls::look_up(t, place, setting);
@@ -26,8 +20,7 @@ pub extern "C" fn lampgrotto_cost_look_up(
 }
 
 // Whether the costs of two places agree at every setting: 1 or 0.
-#[unsafe(no_mangle)]
-pub extern "C" fn lampgrotto_cost_same(t: &[u32], a: usize, b: usize, out: &mut [u32]) -> u32
+pub fn lampgrotto_cost_same(t: &[u32], a: usize, b: usize, out: &mut [u32]) -> u32
     ensures { Hears (Meets (D.same costed a b) t.now t.now) (tell_compared out.old) (heard result out.new []) }
 {
     let r = cost_calls::same(t, a, b);
@@ -37,8 +30,7 @@ pub extern "C" fn lampgrotto_cost_same(t: &[u32], a: usize, b: usize, out: &mut 
 }
 
 // The number of distinct rests of all 16 costs.
-#[unsafe(no_mangle)]
-pub extern "C" fn lampgrotto_cost_tally(t: &[u32], out: &mut [u32]) -> u32
+pub fn lampgrotto_cost_tally(t: &[u32], out: &mut [u32]) -> u32
     ensures { Hears (Meets (D.tally_all costed) t.now t.now) (tell_tallied out.old) (heard result out.new []) }
 {
     let r = cost_calls::tally(t);

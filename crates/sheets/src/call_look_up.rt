@@ -77,8 +77,7 @@ pub fn look_up(sheet: &[u8], setting: &[u8]) -> Looked
 }
 
 // The same for C: the phrase number, or 65,536 plus the refusal number.
-#[unsafe(no_mangle)]
-pub extern "C" fn lampgrotto_look_up(sheet: &[u8], setting: &[u8]) -> u32
+pub fn lampgrotto_look_up(sheet: &[u8], setting: &[u8]) -> u32
     ensures { Hears (Meets (look_up_in sheet.now setting.now) tt tt) (tell_returned []) (heard result [] []) }
 {
     let looked = look_up(sheet, setting);

@@ -101,8 +101,7 @@ pub fn look_up_all(sheet: &[u8], settings: &[u8], numbers: &mut [u32]) -> Outcom
 }
 
 // The same for C: the number of the ending, and the numbers in the lent words.
-#[unsafe(no_mangle)]
-pub extern "C" fn lampgrotto_look_up_all(sheet: &[u8], settings: &[u8], numbers: &mut [u32]) -> u32
+pub fn lampgrotto_look_up_all(sheet: &[u8], settings: &[u8], numbers: &mut [u32]) -> u32
     ensures { Hears (Meets (look_up_all_in sheet.now settings.now numbers.old) tt tt) tell_filled (heard result numbers.new []) }
 {
     outcome_number(look_up_all(sheet, settings, numbers))
