@@ -112,12 +112,12 @@ module _ {L : Loan} {G : Ground L} {E : Effects G} (F : Frame E) {d : Deed L} (l
 
 -- A PART KEEPS ITS WORD: its words have the laws of a loan, and its deeds are lawful
 pub record Kept (P : Part) : Type 1 where
-  pub effects : Effects P.ground
+  pub effects : Effects P.basis
   pub frame : Frame effects
   pub lawful : (c : P.Call) → Lawful effects (P.deed c)
 
 module _ {P : Part} (K : Kept P) where
-  step_by_step : {z : P.loan.Plain} {l : List (Event P)} {w : P.loan.Words} → Run P z l w → Told P z l × Holds P.ground w (ran P z l)
+  step_by_step : {z : P.loan.Plain} {l : List (Event P)} {w : P.loan.Words} → Run P z l w → Told P z l × Holds P.basis w (ran P z l)
   step_by_step (begun h) = (tt, h)
   step_by_step (called c r e m) =
       let i = step_by_step e in
@@ -136,11 +136,11 @@ module _ {P : Part} (K : Kept P) where
     pub run_told : Run P z l w → Told P z l
     run_told r = (step_by_step r).0
 
-    pub run_holds : Run P z l w → Holds P.ground w (ran P z l)
+    pub run_holds : Run P z l w → Holds P.basis w (ran P z l)
     run_holds r = (step_by_step r).1
 
   -- words that hold the same functions are the same up to the bounds
-  pub same_words : (w u : P.loan.Words) (z : P.loan.Plain) → Holds P.ground w z → Holds P.ground u z → P.ground.Alike w u
+  pub same_words : (w u : P.loan.Words) (z : P.loan.Plain) → Holds P.basis w z → Holds P.basis u z → P.basis.Alike w u
   same_words = K.frame.alike_held
 
   -- the calls decide: two runs of the same calls return the same, and leave the same words up to the bounds
@@ -148,8 +148,8 @@ module _ {P : Part} (K : Kept P) where
     pub runs_return : l ≡ k
     runs_return = told_one z s (run_told a) (run_told b)
 
-    pub runs_leave : P.ground.Alike w u
-    runs_leave = K.frame.alike_held w u (ran P z l) (run_holds a) (subst (λ (m : List (Event P)). Holds P.ground u (ran P z m)) (sym runs_return) (run_holds b))
+    pub runs_leave : P.basis.Alike w u
+    runs_leave = K.frame.alike_held w u (ran P z l) (run_holds a) (subst (λ (m : List (Event P)). Holds P.basis u (ran P z m)) (sym runs_return) (run_holds b))
 
   -- ---- REFUSALS: in any words, each number exactly if its condition holds and no lower number's does
   pub refused_exactly : (c : P.Call) (w w' : P.loan.Words) (r : (P.deed c).Result) → Meets (P.deed c) w w' r → Exact (refusals (P.deed c) w) ((P.deed c).ending r)
@@ -169,8 +169,8 @@ module _ {P : Part} (K : Kept P) where
   ascends c w = (omega arith, (K.lawful c).ordered (P.loan.says w))
 
   -- ---- PAST THE BOUND: words that are the same up to the bounds give the same answer, and are the same up to the bounds afterwards
-  pub past_the_bound : (c : P.Call) (w u w' u' : P.loan.Words) (r q : (P.deed c).Result) → P.ground.Alike w u → Meets (P.deed c) w w' r → Meets (P.deed c) u u' q
-      → (r ≡ q) × P.ground.Alike w' u'
+  pub past_the_bound : (c : P.Call) (w u w' u' : P.loan.Words) (r q : (P.deed c).Result) → P.basis.Alike w u → Meets (P.deed c) w w' r → Meets (P.deed c) u u' q
+      → (r ≡ q) × P.basis.Alike w' u'
   past_the_bound c w u w' u' r q b m n = (answer_past K.frame (K.lawful c) b m n, words_past K.frame (K.lawful c) b m n)
 
   -- ---- DECIDED: two outcomes that meet a promise are equal, in what they return and in every word

@@ -28,4 +28,4 @@ deed (less_call p a b) = D.less_than p a b
 deed (lowest_call a q) = D.lowest a q
 
 abbrev pub on_both : Part
-on_both = record { loan = both; ground = together (table_ground ruled) (table_ground costed); Call = Call; deed = deed }
+on_both = record { loan = both; basis = together (table_ground ruled) (table_ground costed); Call = Call; deed = deed }

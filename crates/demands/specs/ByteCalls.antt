@@ -19,4 +19,4 @@ deed (look_up_call s t) = look_up_in s t
 deed (look_up_all_call s t out) = look_up_all_in s t out
 
 abbrev pub on_bytes : Part
-on_bytes = record { loan = no_table; ground = no_ground; Call = Call; deed = deed }
+on_bytes = record { loan = no_table; basis = no_ground; Call = Call; deed = deed }

@@ -39,4 +39,4 @@ deed (same_call p q) = T.same costed p q
 deed tally_call = T.tally_all costed
 
 abbrev pub on_costs : Part
-on_costs = record { loan = table costed; ground = table_ground costed; Call = Call; deed = deed }
+on_costs = record { loan = table costed; basis = table_ground costed; Call = Call; deed = deed }

@@ -46,4 +46,4 @@ deed (next_call p x s) = D.next_with p x s
 deed (write_call p out) = S.write_sheet p out
 
 abbrev pub on_rules : Part
-on_rules = record { loan = table ruled; ground = table_ground ruled; Call = Call; deed = deed }
+on_rules = record { loan = table ruled; basis = table_ground ruled; Call = Call; deed = deed }

@@ -7,7 +7,7 @@ use Rattle.demands.specs.Does.{Does, afterwards}
 
 pub record Part : Type 1 where
   pub loan : Loan
-  pub ground : Ground loan
+  pub basis : Ground loan
   -- each call with its arguments
   pub Call : Type 0
   -- what it does to functions: its function is proved to meet that on words
@@ -20,13 +20,13 @@ module _ (P : Part) where
 
   -- A RUN: from words that hold the functions z any calls, refused ones included; the events so far, the last first, and the words that they left
   pub data Run (z : P.loan.Plain) : List Event → P.loan.Words → Type 0 where
-    begun : {w : P.loan.Words} → Holds P.ground w z → Run z [] w
+    begun : {w : P.loan.Words} → Holds P.basis w z → Run z [] w
     called : {l : List Event} {w w' : P.loan.Words} (c : P.Call) (r : (P.deed c).Result) → Run z l w → Meets (P.deed c) w w' r → Run z ((c, r) ∷ l) w'
 
   -- THE RUN ON FUNCTIONS: the functions after the events, and that each event is what its call does to the functions that it finds
   abbrev pub ran : P.loan.Plain → List Event → P.loan.Plain
   ran z [] = z
-  ran z (e ∷ l) = afterwards P.ground (P.deed e.0) (ran z l) e.1
+  ran z (e ∷ l) = afterwards P.basis (P.deed e.0) (ran z l) e.1
 
   abbrev pub Told : P.loan.Plain → List Event → Type 0
   Told z [] = Unit {0}
