@@ -46,7 +46,7 @@ fn obey(
         return cost_command(rt, code, n, desk, costs);
     }
     if entry.family == BOTH {
-        both_command(rt, code, n, &desk, rules, costs)?;
+        both_command(rt, code, n, desk, rules, costs)?;
         return Ok(desk);
     }
     if entry.family == NONE {

@@ -51,7 +51,7 @@ fn call(
     rt: &impl Print,
     code: usize,
     n: &[u64],
-    desk: &Desk,
+    desk: Desk,
     rules: &mut [u32],
     costs: &mut [u32],
 ) -> io::Result<()> {
@@ -76,7 +76,7 @@ pub fn both_command(
     rt: &impl Print,
     code: usize,
     n: &[u64],
-    desk: &Desk,
+    desk: Desk,
     rules: &mut [u32],
     costs: &mut [u32],
 ) -> io::Result<()> {

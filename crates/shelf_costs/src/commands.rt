@@ -11,7 +11,7 @@ fn numbered(
     rt: &impl Print,
     code: usize,
     n: &[u64],
-    desk: &Desk,
+    desk: Desk,
     table: &mut [u32],
 ) -> io::Result<()> {
     if code <= SCALE {
@@ -34,7 +34,7 @@ fn call(
     if code == COPEN {
         return open(rt, n, desk, table);
     }
-    numbered(rt, code, n, &desk, table)?;
+    numbered(rt, code, n, desk, table)?;
     Ok(desk)
 }
 

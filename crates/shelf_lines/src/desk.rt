@@ -5,7 +5,7 @@ use settings::Outcome;
 
 // The first words of the rule and the cost buffer are lent, and scratch words that each hold the fill before a call; a
 // setting is printed with as many values as the last accepted feature list of its table has.
-#[derive(Drop)]
+#[derive(Clone, Copy)]
 pub struct Desk {
     pub rules: usize,
     pub costs: usize,

@@ -16,7 +16,7 @@ pub const BOTH: usize = 3;
 pub const NONE: usize = 4;
 
 // A command's family, its code there, and the kind of what follows its name.
-#[derive(Drop)]
+#[derive(Clone, Copy)]
 pub struct Entry {
     pub family: usize,
     pub code: usize,

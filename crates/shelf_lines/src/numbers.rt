@@ -2,7 +2,7 @@
 ghost use Rattle.std.specs.Prelude.{◌≡◌, ◌≤◌};
 
 // The number that a text is, where it is one of -2^63 .. 2^63 - 1.
-#[derive(Drop)]
+#[derive(Clone, Copy)]
 pub struct Parsed {
     pub known: bool,
     pub number: u64,

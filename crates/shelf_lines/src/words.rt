@@ -5,7 +5,7 @@ ghost use Rattle.std.specs.Counts.{IsPrefixLen};
 use crate::numbers::{as_byte, as_size, as_word, number_in};
 
 // How many numbers were read, where all of a text was numbers.
-#[derive(Drop)]
+#[derive(Clone, Copy)]
 pub struct Listed {
     pub known: bool,
     pub count: usize,

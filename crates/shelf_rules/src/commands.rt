@@ -13,7 +13,7 @@ fn numbered(
     rt: &impl Print,
     code: usize,
     n: &[u64],
-    desk: &Desk,
+    desk: Desk,
     table: &mut [u32],
 ) -> io::Result<()> {
     if code <= FORGET {
@@ -41,7 +41,7 @@ fn call(
     if code <= NEXT {
         return list(rt, code, n, desk, table);
     }
-    numbered(rt, code, n, &desk, table)?;
+    numbered(rt, code, n, desk, table)?;
     Ok(desk)
 }
 
