@@ -1,36 +1,23 @@
--- Signed numbers tested and turned into words. Assumes nothing.
+-- Signed numbers turned into words. Assumes nothing.
 use mathlib.Core.Path.{◌≡◌}
-use mathlib.Core.Bool.{true, false}
 use Prim.Native.Nat.{◌^◌, ◌<◌}
 use native.Mathlib.Omega.{arith}
-use lib.IntN.{ℤ, pos, negsuc, ◌+ℤ◌}
-use lib.Signed.{lt_z, mag}
+use lib.IntN.{ℤ, pos, ◌+ℤ◌}
+use lib.Signed.{mag}
 use mir.Syntax.{w64}
 use mir.Val.{SFits, to_z, of_z}
 use mir.Facts.{to_z-of_z}
 use Rattle.theory_costs.specs.Integers.{word_for}
-use Rattle.theory_costs.proofs.Integers.{rise_near, fall_near, test_lt, test_le}
 use Rattle.theory_costs.proofs.Words.{fits_signed, word_signed}
 use Rattle.promises.specs.Integers.{Fit, bias}
 use Rattle.promises.specs.Range.{cost_most}
 
--- ---- the two tests
-pub too_low : (z : ℤ) → lt_z z (negsuc 999999999) ≡ true → Fit cost_most z → ⊥
-too_low z e f = omega (arith, test_lt z (negsuc 999999999) e, f.bottom)
-
-pub too_high : (z : ℤ) → lt_z (pos 1000000000) z ≡ true → Fit cost_most z → ⊥
-too_high z e f = omega (arith, test_lt (pos 1000000000) z e, f.top)
-
-pub between : (z : ℤ) → lt_z z (negsuc 999999999) ≡ false → lt_z (pos 1000000000) z ≡ false → Fit cost_most z
-between z l h =
-    record { top = rise_near z (omega (arith, test_le (pos 1000000000) z h)); bottom = fall_near z (omega (arith, test_le z (negsuc 999999999) l)) }
-
 -- ---- with the bias on it a number is its word
 module _ {z : ℤ} (f : Fit cost_most z) where
-  pub biased : z +ℤ pos bias ≡ pos (word_for z)
+  biased : z +ℤ pos bias ≡ pos (word_for z)
   biased = word_signed z (omega (arith, f.bottom))
 
-  pub biased_fits : SFits w64 (pos (word_for z))
+  biased_fits : SFits w64 (pos (word_for z))
   biased_fits = record { sfits = omega (arith, f.top) }
 
   pub biased_word : SFits w64 z → to_z w64 (of_z w64 (to_z w64 (of_z w64 z) +ℤ pos bias)) ≡ pos (word_for z)

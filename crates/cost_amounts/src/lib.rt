@@ -13,13 +13,7 @@ const ZERO: i64 = 2147483648;
 pub fn amount_ok(z: i64) -> bool
     ensures { Tells result (Fit cost_most z) }
 {
-    if z < -1000000000 {
-        return false;
-    }
-    if 1000000000 < z {
-        return false;
-    }
-    true
+    (-1000000000..=1000000000).contains(&z)
 }
 
 // The word that stands for a number.
@@ -34,5 +28,5 @@ pub fn word_of(z: i64) -> u32
 pub fn cost_of(w: u32) -> i64
     ensures { result ≡ int w }
 {
-    (w as i64) - ZERO
+    i64::from(w) - ZERO
 }

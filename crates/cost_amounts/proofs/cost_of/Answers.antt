@@ -9,8 +9,5 @@ use Rattle.cost_amounts.proofs.cost_of.Goals as goal
 fits : (w : ℕ) → w < 2 ^ 32 → SFits w64 (pos w -ℤ pos bias)
 fits w h = fits_signed _ (omega (arith, minus_rise (pos w) (pos bias))) (omega (arith, minus_fall (pos w) (pos bias)))
 
-pub overflow_sub-result : goal.overflow_sub-result
-overflow_sub-result c = rw (signed_small c.args.w (omega arith)) (fits c.args.w (omega arith))
-
 pub returns : goal.returns
-returns c = rw (signed_small c.args.w (omega arith)) (to_z-of_z (fits c.args.w (omega arith)) ∙ signed_word c.args.w)
+returns c = rw (c.from.ensures, signed_small c.args.w (omega arith)) (to_z-of_z (fits c.args.w (omega arith)) ∙ signed_word c.args.w)
