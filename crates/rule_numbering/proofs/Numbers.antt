@@ -76,6 +76,10 @@ module _ {w : List ℕ} (s : Walkable w) where
   pub stands_below : (b : ℕ) → Stands w b → b < 65536 + count w
   stands_below b o = omega (arith, goal_below regular (nodes w) (length (nodes w)) 0 b o, length_nodes w)
 
+  -- the node that it says is one of the table's
+  pub node_below : {b : ℕ} → 65536 ≤ b → Stands w b → b - 65536 < count w
+  node_below {b} h o = omega (arith, stands_below b o)
+
   branch_under : (i v : ℕ) → i < count w → v < size w (feature w i) → Under (nodes w) i (suc (at (nodes w) i).feature) (decode (body w i v)).to
   branch_under i v h hv =
       subst (λ (b : Branch). Under (nodes w) i (suc (at (nodes w) i).feature) b.to) (branch_at_lem w i v h hv) ((s.wf.fits i (omega (arith, length_nodes w))).lower v)
@@ -168,13 +172,13 @@ module _ {w : List ℕ} (s : Walkable w) where
         }
 
   -- ---- a node that gets a number
+  -- while it has none there is one left
+  pub room_left : {n t : List ℕ} {i v c d : ℕ} → i < count w → mark n i ≡ 0 → Numbering w n t i v c d → d < 4096
+  room_left {n} {t} {i} h none m = omega (arith, m.noted.tallied, marked_lt (mark t) (count w) i h (m.later i h (omega arith) ∙ none), s.most)
+
   module _ {n t : List ℕ} {i c d : ℕ} (h : i < count w) (was : Noted w n c) (none : mark n i ≡ 0) (m : Numbering w n t i (size w (feature w i)) c d) where
     unmarked : mark t i ≡ 0
     unmarked = m.later i h (omega arith) ∙ none
-
-    -- there is a number left
-    pub numbers_left : d < count w
-    numbers_left = omega (arith, m.noted.tallied, marked_lt (mark t) (count w) i h unmarked)
 
     abbrev now_notes : List ℕ
     now_notes = set (set t i (d + 1)) (4096 + d) i
@@ -192,7 +196,7 @@ module _ {w : List ℕ} (s : Walkable w) where
     member_new : member now_notes d ≡ i
     member_new =
         let q = s.most in
-        let l = numbers_left in
+        let l = room_left h none m in
         get_or-set_same (set t i (d + 1)) (4096 + d) i 0 (simp length-set (omega (arith, m.noted.long)))
 
     member_old : (j : ℕ) → j < d → member now_notes j ≡ member t j

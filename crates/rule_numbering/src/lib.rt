@@ -9,7 +9,7 @@ ghost use Rattle.rule_numbering.specs.Running.{Run, Blank, Ran};
 ghost use Rattle.promises.specs.Words.{size, count, feature};
 
 use rule_words::{NUMBERS, root_word};
-use table_words::{narrow, record_word, size_word, wide};
+use table_words::record_word;
 
 // The branch word of a node whose index is told as one more.
 const BEFORE_NODES: u32 = 65535;
@@ -19,7 +19,7 @@ pub fn width(t: &[u32], i: usize) -> usize
     requires { (Walkable t.now) × (i < count t.now) }
     ensures { (result ≡ size t.now (feature t.now i)) × (result ≤ 8) }
 {
-    wide(size_word(t, wide(record_word(t, i, 0))))
+    table_words::width(t, i)
 }
 
 // Numbers what the branch of word b reaches, c nodes having numbers: how many have one then. Each node is walked once.
@@ -30,19 +30,17 @@ pub fn number(t: &[u32], notes: &mut [u32; 8192], b: u32, c: usize) -> usize
     if b < NUMBERS {
         return c;
     }
-    let i = wide(b - NUMBERS);
+    let i = (b - NUMBERS) as usize;
     if 0 < notes[i] {
         return c;
     }
     let m = width(t, i);
     let mut d = c;
-    let mut v: usize = 0;
-    while v < m {
+    for v in 0..m {
         d = number(t, notes, record_word(t, i, 1 + v), d);
-        v += 1;
     }
-    notes[i] = narrow(d + 1);
-    notes[4096 + d] = narrow(i);
+    notes[i] = (d + 1) as u32;
+    notes[4096 + d] = i as u32;
     d + 1
 }
 
@@ -52,10 +50,8 @@ pub fn number_run(t: &[u32], notes: &mut [u32; 8192], place: usize, many: usize)
     ensures { Ran t.now notes.new place many result }
 {
     let mut c: usize = 0;
-    let mut q: usize = 0;
-    while q < many {
+    for q in 0..many {
         c = number(t, notes, root_word(t, place + q), c);
-        q += 1;
     }
     c
 }
@@ -68,7 +64,7 @@ pub fn renumber(notes: &[u32; 8192], b: u32) -> u32
     if b < NUMBERS {
         return b;
     }
-    BEFORE_NODES + notes[wide(b - NUMBERS)]
+    BEFORE_NODES + notes[(b - NUMBERS) as usize]
 }
 
 // The node that has the number j.
@@ -76,5 +72,5 @@ pub fn node_of(notes: &[u32; 8192], j: usize) -> usize
     requires { (length notes.now ≡ 8192) × (j < 4096) }
     ensures { result ≡ member notes.now j }
 {
-    wide(notes[4096 + j])
+    notes[4096 + j] as usize
 }
