@@ -24,6 +24,7 @@ use Rattle.table_words.proofs.Filling.{grown_refl}
 use Rattle.table_words.proofs.Sparing.{spare_ext}
 use Rattle.table_words.proofs.Tab.{split, tab_snoc, tab_ext, length_tab, get_or_tab}
 use Rattle.table_words.proofs.Words.{length_sizes, at_sizes, kept_refl, kept_trans, kept_capacity, kept_size, kept_sizes, pos_sizes}
+use Rattle.std.proofs.Common.{None}
 use Rattle.table_records.specs.Changes.{Pushed, RecordIs, Finds}
 use Rattle.table_records.specs.Nodes.{NodesLaid, layout_of, Listed, node_of, Behind, Absent}
 use Rattle.table_records.proofs.Laying.{pushed_kept, pushed_laid}
@@ -155,11 +156,11 @@ module _ {K : Kind} {T : Table K} (L : Regular T) where
         (at_nodes T w i h ∙ node_is L w i k (size w k) (listed l) q.feature refl many.1 q.each) n
 
     -- neither: the branch must be made
-    pub found_none : (r : ℕ) → r ≡ 0 → ¬ Alike blank bs → Finds w k l r → Absent T w k l
-    found_none r z n f =
+    pub found_none : ¬ Alike blank bs → Finds w k l None → Absent T w k l
+    found_none n f =
         record {
           varied = n;
-          missing = λ q. let h : q.0 < count w = omega (arith, q.1, length_nodes T w) in f.none z q.0 h (node_record q.0 h q.2);
+          missing = λ q. let h : q.0 < count w = omega (arith, q.1, length_nodes T w) in f q.0 h (node_record q.0 h q.2);
         }
 
     -- ---- making

@@ -1,5 +1,5 @@
 -- Contract between layers: one record more, one fewer, the records from n on taken away, and a record found. Assumes nothing.
-use Rattle.std.specs.Prelude.{◌≡◌, List, ℕ, zero, suc, ◌+◌, ◌*◌, ◌-◌, ◌≤◌, ◌<◌, length, get_or}
+use Rattle.std.specs.Prelude.{◌≡◌, List, ℕ, zero, suc, Option, Some, None, ◌+◌, ◌*◌, ◌≤◌, ◌<◌, length, get_or}
 use Rattle.table_words.specs.Words.{listed, Kept}
 use Rattle.table_records.specs.Laid.{Laid}
 use Rattle.promises.specs.Words.{head, word, count, feature, body, link, bucket, hash_of, hash_at}
@@ -44,8 +44,7 @@ pub record RecordIs (w : List ℕ) (i k : ℕ) (l : List ℕ) : Type 0 where
   pub feature : feature w i ≡ k
   pub each : (v : ℕ) → v < 12 → body w i v ≡ listed l v
 
--- r is 1 + the index of a record in use that has the feature k and the body l, or 0 where there is none
-pub record Finds (w : List ℕ) (k : ℕ) (l : List ℕ) (r : ℕ) : Type 0 where
-  pub within : r ≤ count w
-  pub there : 0 < r → RecordIs w (r - 1) k l
-  pub none : r ≡ 0 → (i : ℕ) → i < count w → RecordIs w i k l → ⊥
+-- r is the index of a record in use that has the feature k and the body l, or none where there is no such record
+abbrev pub Finds : List ℕ → ℕ → List ℕ → Option ℕ → Type 0
+Finds w k l (Some i) = (i < count w) × RecordIs w i k l
+Finds w k l None = (i : ℕ) → i < count w → RecordIs w i k l → ⊥

@@ -70,32 +70,22 @@ pub fn record_is(t: &[u32], i: usize, k: usize, list: [u32; 12]) -> bool
     requires { (8192 + 16 * i + 16 ≤ length t.now) × (i < 8192) }
     ensures { Tells result (RecordIs t.now i k list) }
 {
-    if wide(record_word(t, i, 0)) != k {
-        return false;
-    }
-    let mut v: usize = 0;
-    while v < 12 {
-        if record_word(t, i, 1 + v) != list[v] {
-            return false;
-        }
-        v += 1;
-    }
-    true
+    let from = RECORDS + 16 * i + 1;
+    record_word(t, i, 0) as usize == k && t[from..from + 12] == list[..]
 }
 
-// 1 + the index of the record of feature k with the list as its body, searched along its chain, or 0.
-pub fn find_record(t: &[u32], k: usize, list: [u32; 12]) -> usize
+// The index of the record of feature k with the list as its body, searched along its chain.
+pub fn find_record(t: &[u32], k: usize, list: [u32; 12]) -> Option<usize>
     requires { (Laid t.now) × (k < 4294967296) }
     ensures { Finds t.now k list result }
 {
-    let h = hash_of(k, list);
-    let mut c = wide(bucket_word(t, h));
+    let mut c = bucket_word(t, hash_of(k, list)) as usize;
     while 0 < c {
         let i = c - 1;
         if record_is(t, i, k, list) {
-            return c;
+            return Some(i);
         }
-        c = wide(record_word(t, i, 13));
+        c = record_word(t, i, 13) as usize;
     }
-    0
+    None
 }
