@@ -12,8 +12,7 @@ use Rattle.table_notes.specs.Plain.{Cleared, plain}
 use Rattle.table_notes.specs.Far.{far, window, memory, Aside, Windowed, Begun}
 use Rattle.table_notes.proofs.Far.{memory_far, memory_scratch, aside_memory, grown_windowed, length_far, far_part, back_plain, back_memory, back_windowed}
 use Rattle.table_memory.specs.Memory.{noted, key_at, Inside, Remembers, Entry, Recalls, Stored, Noted}
-use Rattle.table_memory.specs.declared.Memo.{Memo}
-use Rattle.table_memory.specs.declared.Memo.TheVariants.{Known}
+use Rattle.std.proofs.Common.{Option, Some}
 use Rattle.table_memory.proofs.Entries.{at_key, key_like}
 use Rattle.promises.specs.Words.{capacity}
 
@@ -60,7 +59,7 @@ module _ {R : List ℕ → ℕ → ℕ → Type 0} where
 
 module _ {n : ℕ} {R : List ℕ → ℕ → ℕ → Type 0} (key : List ℕ) (e : length key ≡ n) where
   -- what is known is right
-  pub hit : (s : List ℕ) (x y : ℕ) (r : Memo) → Remembers n R s → Recalls s key r → r ≡ Known x y → 0 < get_or key 0 0 → R key x y
+  pub hit : (s : List ℕ) (x y : ℕ) (r : Option (ℕ × ℕ)) → Remembers n R s → Recalls s key r → r ≡ Some (x, y) → 0 < get_or key 0 0 → R key x y
   hit s x y r m c q h =
       let f : (i : ℕ) × Entry s i key x y = subst (Recalls s key) q c in
       known s key x y (subst (λ (k : ℕ). Remembers k R s) (sym e) m) f.0 f.1 h
@@ -90,13 +89,13 @@ pub stored_scratch : (w s s' key : List ℕ) (x y : ℕ) → window w ≡ 0 → 
 stored_scratch w s s' key x y h st = rw (memory_scratch w s (omega arith), memory_scratch w s' (omega arith)) st
 
 -- what is recalled is what the memory has
-pub recalls_far : (w s : List ℕ) (from m : ℕ) (key : List ℕ) (r : Memo) → Windowed w → from ≡ 8192 + 16 * capacity w → m ≡ window w → 0 < m → Recalls (take m (drop from w)) key r
+pub recalls_far : (w s : List ℕ) (from m : ℕ) (key : List ℕ) (r : Option (ℕ × ℕ)) → Windowed w → from ≡ 8192 + 16 * capacity w → m ≡ window w → 0 < m → Recalls (take m (drop from w)) key r
     → Recalls (memory w s) key r
 recalls_far w s from m key r d a e h q =
     subst (λ (u : List ℕ). Recalls u key r)
     (far_part w m from a (omega (arith, d.short)) ∙ ap (λ (i : ℕ). take i (far w)) e ∙ sym (memory_far w s (omega arith))) q
 
-pub recalls_scratch : (w s key : List ℕ) (r : Memo) → window w ≡ 0 → Recalls s key r → Recalls (memory w s) key r
+pub recalls_scratch : (w s key : List ℕ) (r : Option (ℕ × ℕ)) → window w ≡ 0 → Recalls s key r → Recalls (memory w s) key r
 recalls_scratch w s key r h q = subst (λ (u : List ℕ). Recalls u key r) (sym (memory_scratch w s (omega arith))) q
 
 module _ {n : ℕ} {R : List ℕ → List ℕ → ℕ → ℕ → Type 0} where
@@ -105,7 +104,7 @@ module _ {n : ℕ} {R : List ℕ → List ℕ → ℕ → ℕ → Type 0} where
   noted_none w w' s lent m b z = record { room = b.windowed; right = remembers_none (memory w' s) (b.none s z) }
 
   -- what is known is right
-  pub noted_hit : (w s key : List ℕ) (x y : ℕ) (r : Memo) → length key ≡ n → Noted n R w s → Recalls (memory w s) key r → r ≡ Known x y → 0 < get_or key 0 0 → R (plain w) key x y
+  pub noted_hit : (w s key : List ℕ) (x y : ℕ) (r : Option (ℕ × ℕ)) → length key ≡ n → Noted n R w s → Recalls (memory w s) key r → r ≡ Some (x, y) → 0 < get_or key 0 0 → R (plain w) key x y
   noted_hit w s key x y r e d c q h = hit key e (memory w s) x y r d.right c q h
 
   -- after `remember_in`: one result more

@@ -1,9 +1,7 @@
 -- Contract between layers: what walks remember: words in entries, each the n words of a key, the first of them not 0 (0: empty), and the two words of a result. Assumes nothing.
-use Rattle.std.specs.Prelude.{◌≡◌, ◌⊎◌, List, ℕ, ◌+◌, ◌*◌, ◌≤◌, ◌<◌, length, get_or, take, drop}
+use Rattle.std.specs.Prelude.{◌≡◌, ◌⊎◌, List, ℕ, Option, Some, None, ◌+◌, ◌*◌, ◌≤◌, ◌<◌, length, get_or, take, drop}
 use Rattle.table_notes.specs.Far.{memory, Windowed}
 use Rattle.table_notes.specs.Plain.{plain}
-use Rattle.table_memory.specs.declared.Memo.{Memo}
-use Rattle.table_memory.specs.declared.Memo.TheVariants.{Known, Unknown}
 
 -- word j of entry i
 abbrev pub noted : ℕ → List ℕ → ℕ → ℕ → ℕ
@@ -29,9 +27,9 @@ pub record Entry (s : List ℕ) (i : ℕ) (key : List ℕ) (x y : ℕ) : Type 0 
   pub second : noted (length key) s i (length key + 1) ≡ y
 
 -- what is known stands in some entry
-abbrev pub Recalls : List ℕ → List ℕ → Memo → Type 0
-Recalls s key (Known x y) = (i : ℕ) × Entry s i key x y
-Recalls s key Unknown = Unit {0}
+abbrev pub Recalls : List ℕ → List ℕ → Option (ℕ × ℕ) → Type 0
+Recalls s key (Some r) = (i : ℕ) × Entry s i key r.0 r.1
+Recalls s key None = Unit {0}
 
 -- every entry of s' is the new one, or as in s
 pub record Stored (s s' key : List ℕ) (x y : ℕ) : Type 0 where

@@ -11,14 +11,7 @@ ghost use Rattle.table_memory.specs.Memory.{Inside, Recalls, Stored};
 
 use slots::{mixed, slot_after, slot_at};
 use table_notes::window_word;
-use table_words::{RECORDS, capacity_word, wide};
-
-// A remembered result, or none.
-#[derive(Clone, Copy)]
-pub enum Memo {
-    Known(u32, u32),
-    Unknown,
-}
+use table_words::{RECORDS, capacity_word};
 
 // The entry to begin at, by the operator and all words of the key, from the last to the first: a walk knows its operands before the feature that it begins with.
 fn slot_of(slots: usize, o: u32, key: &[u32]) -> usize
@@ -26,29 +19,24 @@ fn slot_of(slots: usize, o: u32, key: &[u32]) -> usize
     ensures { result < slots }
 {
     let mut h = o;
-    let mut j = key.len();
-    while 0 < j {
-        j -= 1;
-        h = mixed(h, key[j]);
+    for x in key.iter().rev() {
+        h = mixed(h, *x);
     }
     slot_at(h, slots)
 }
 
 // What entry i remembers, where it is for this key.
-fn recall_at(s: &[u32], i: usize, key: &[u32]) -> Memo
+fn recall_at(s: &[u32], i: usize, key: &[u32]) -> Option<(u32, u32)>
     requires { Inside (length key.now) s.now i }
     ensures { Recalls s.now key.now result }
 {
     let n = key.len();
     let base = (n + 2) * i;
-    let mut same: usize = 0;
-    while same < n {
-        if s[base + same] != key[same] {
-            return Memo::Unknown;
-        }
-        same += 1;
+    if &s[base..base + n] == key {
+        Some((s[base + n], s[base + (n + 1)]))
+    } else {
+        None
     }
-    Memo::Known(s[base + n], s[base + (n + 1)])
 }
 
 // Makes entry i remember the result's words x and y for this key.
@@ -58,29 +46,21 @@ fn remember_at(s: &mut [u32], i: usize, key: &[u32], x: u32, y: u32)
 {
     let n = key.len();
     let base = (n + 2) * i;
-    let mut j: usize = 0;
-    while j < n {
-        s[base + j] = key[j];
-        j += 1;
-    }
+    s[base..base + n].copy_from_slice(key);
     s[base + n] = x;
     s[base + (n + 1)] = y;
 }
 
 // What these words remember for a key, in either entry; the operator only chooses these.
-pub fn recall(s: &[u32], o: u32, key: &[u32]) -> Memo
+pub fn recall(s: &[u32], o: u32, key: &[u32]) -> Option<(u32, u32)>
     ensures { Recalls s.now key.now result }
 {
     let slots = s.len() / (key.len() + 2);
     if slots == 0 {
-        return Memo::Unknown;
+        return None;
     }
     let i = slot_of(slots, o, key);
-    let memo = recall_at(s, i, key);
-    if let Memo::Known(x, y) = memo {
-        return memo;
-    }
-    recall_at(s, slot_after(i, slots), key)
+    recall_at(s, i, key).or_else(|| recall_at(s, slot_after(i, slots), key))
 }
 
 // Makes these words remember the result's words x and y for a key: in the first entry if that is empty, else in the one after it.
@@ -92,16 +72,18 @@ pub fn remember(s: &mut [u32], o: u32, key: &[u32], x: u32, y: u32)
     if slots == 0 {
         return;
     }
-    let i = slot_of(slots, o, key);
-    if s[(key.len() + 2) * i] == 0 {
-        remember_at(s, i, key, x, y);
-        return;
-    }
-    remember_at(s, slot_after(i, slots), key, x, y);
+    let first = slot_of(slots, o, key);
+    let empty = s[(key.len() + 2) * first] == 0;
+    let i = if empty {
+        first
+    } else {
+        slot_after(first, slots)
+    };
+    remember_at(s, i, key, x, y);
 }
 
 // What is remembered for a key, of the table t with the scratch s.
-pub fn recall_in(t: &[u32], s: &[u32], o: u32, key: &[u32]) -> Memo
+pub fn recall_in(t: &[u32], s: &[u32], o: u32, key: &[u32]) -> Option<(u32, u32)>
     requires { Windowed t.now }
     ensures { Recalls (memory t.now s.now) key.now result }
 {
@@ -109,9 +91,8 @@ pub fn recall_in(t: &[u32], s: &[u32], o: u32, key: &[u32]) -> Memo
     if m == 0 {
         return recall(s, o, key);
     }
-    let from = RECORDS + 16 * wide(capacity_word(t));
-    let end = from + m;
-    recall(&t[from..end], o, key)
+    let from = RECORDS + 16 * capacity_word(t) as usize;
+    recall(&t[from..from + m], o, key)
 }
 
 // Remembers the result's words x and y for a key.
@@ -122,10 +103,8 @@ pub fn remember_in(t: &mut [u32], s: &mut [u32], o: u32, key: &[u32], x: u32, y:
 {
     let m = window_word(t);
     if m == 0 {
-        remember(s, o, key, x, y);
-        return;
+        return remember(s, o, key, x, y);
     }
-    let from = RECORDS + 16 * wide(capacity_word(t));
-    let end = from + m;
-    remember(&mut t[from..end], o, key, x, y);
+    let from = RECORDS + 16 * capacity_word(t) as usize;
+    remember(&mut t[from..from + m], o, key, x, y);
 }

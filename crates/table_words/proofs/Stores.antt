@@ -7,6 +7,8 @@ use native.Mathlib.Decide.{dec_lt}
 use native.Mathlib.Omega.{arith}
 use lib.ListN.{length, get_or, set, length-set}
 use lib.Seq.{sets, get_or-set_same, get_or-set_other}
+use borrow.Rule.Slice.PartMut.{put_mid}
+use Rattle.std.proofs.lemmas.List.{places}
 
 -- q lies before the run of n from p on, in it, or after it
 pub data Where (p n q : ℕ) : Type 0 where
@@ -41,3 +43,17 @@ module _ {A : Type 0} (d : A) where
       let e : p + suc i ≡ suc p + i = omega arith in
       ap (λ (q : ℕ). get_or (sets l p (a ∷ vs)) q d) e
       ∙ sets_within vs (set l p a) (suc p) i (omega arith) (omega (arith, length-set l p a))
+
+-- a part of k words from p on was written at once
+module _ {A : Type 0} (d : A) (p k : ℕ) (l vs : List A) (room : p + k ≤ length l) (long : length vs ≡ k) where
+  pub length_put : length (put_mid p k l vs) ≡ length l
+  length_put = grind (arith, places)
+
+  pub put_before : (q : ℕ) → q < p → get_or (put_mid p k l vs) q d ≡ get_or l q d
+  put_before q h = grind (arith, places)
+
+  pub put_within : (i : ℕ) → i < k → get_or (put_mid p k l vs) (p + i) d ≡ get_or vs i d
+  put_within i h = grind (arith, places)
+
+  pub put_behind : (q : ℕ) → p + k ≤ q → get_or (put_mid p k l vs) q d ≡ get_or l q d
+  put_behind q h = grind (arith, places)

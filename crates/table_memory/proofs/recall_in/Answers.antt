@@ -11,8 +11,8 @@ returns-then-m-eq0 c = recalls_scratch c.args.t.now c.args.s.now _ c.recall.resu
 pub returns : goal.returns
 returns c =
     let n : ℕ = c.window_word-m.result in
-    let from : ℕ = 8192 + 16 * c.wide.result in
-    let e : from ≡ 8192 + 16 * capacity c.args.t.now = ap (λ (x : ℕ). 8192 + 16 * x) (c.wide.ensures.0 ∙ c.capacity_word.ensures) in
+    let from : ℕ = 8192 + 16 * c.capacity_word.result in
+    let e : from ≡ 8192 + 16 * capacity c.args.t.now = ap (λ (x : ℕ). 8192 + 16 * x) c.capacity_word.ensures in
     let k : from + n - from ≡ n = omega arith in
     recalls_far c.args.t.now c.args.s.now from (from + n - from) _ c.recall-2.result c.requires e (k ∙ c.window_word-m.ensures)
     (omega (arith, c.if-m-eq0.false)) c.recall-2.ensures

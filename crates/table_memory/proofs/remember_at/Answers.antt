@@ -1,27 +1,19 @@
--- `table_memory::remember_at` meets its contract: the key's first j words are written, the words around the entry are as before. Assumes nothing.
-use Rattle.std.proofs.Common.{arith}
+-- `table_memory::remember_at` meets its contract: the key stands in the entry, the words around the entry are as before. Assumes nothing.
+use Rattle.std.proofs.Common.{arith, ap, length, ◌≡◌, ◌+◌, ◌*◌, ◌≤◌, ◌-◌, ℕ, ◌∙◌, get_or, List}
 use Rattle.table_memory.proofs.Entries.{stored}
-use Rattle.table_records.proofs.Writing.{run_more}
-use lib.Seq.{get_or-set_other}
-use lib.ListN.{length-set}
-use mathlib.Core.Path.{◌∙◌}
-use borrow.Author.Rules.{rules}
+use Rattle.table_words.proofs.Stores.{length_put, put_before, put_within, put_behind}
 use Rattle.table_memory.proofs.remember_at.Goals as goal
-
-pub loop-j-preserved : goal.loop-j-preserved
-loop-j-preserved c =
-    let l = c.loop-j in (
-      simp length-set l.invariant.0,
-      search rules,
-      (λ i h. get_or-set_other l.s _ i _ 0 (omega arith) ∙ l.invariant.2 i h),
-      run_more l.s c.args.key.now _ l.j (omega arith) l.invariant.3,
-      (λ i h. get_or-set_other l.s _ i _ 0 (omega arith) ∙ l.invariant.4 i (omega arith)),
-    )
-
-pub bounds-s-base-3 : goal.bounds-s-base-3
-bounds-s-base-3 c = simp length-set (omega arith)
 
 pub returns : goal.returns
 returns c =
-    let l = c.loop-j in
-    stored c.args.s.now l.s c.args.key.now c.args.i _ _ c.requires l.invariant.0 l.invariant.2 (λ u h. l.invariant.3 u (omega arith)) (λ i h. l.invariant.4 i (omega arith))
+    let key : List ℕ = c.args.key.now in
+    let s : List ℕ = c.args.s.now in
+    let ys : List ℕ = c.copy_from_slice.new.self in
+    let n : ℕ = length key in
+    let base : ℕ = (n + 2) * c.args.i in
+    let e : base + n - base ≡ n = omega arith in
+    let room : base + (base + n - base) ≤ length s = omega arith in
+    let l : length ys ≡ base + n - base = ap length c.copy_from_slice.ensures.after ∙ omega arith in
+    stored s _ key c.args.i _ _ c.requires (length_put 0 base (base + n - base) s ys room l) (put_before 0 base (base + n - base) s ys room l)
+    (λ u h. put_within 0 base (base + n - base) s ys room l u (omega arith) ∙ ap (λ (k : List ℕ). get_or k u 0) c.copy_from_slice.ensures.after)
+    (λ i h. put_behind 0 base (base + n - base) s ys room l i (omega arith))

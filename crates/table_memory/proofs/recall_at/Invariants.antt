@@ -1,9 +1,0 @@
--- `table_memory::recall_at` meets its contract: so many words of the entry are the same as those of the key. Assumes nothing.
-use Rattle.std.proofs.Common.{get_or, ℕ, ◌+◌, ◌-◌, ◌≤◌, ◌<◌, ◌≡◌}
-use Rattle.table_memory.proofs.recall_at.Given as goal
-
-abbrev pub invariant-loop-same : goal.invariant-loop-same
-invariant-loop-same l = (l.same ≤ l.n) × ((u : ℕ) → u < l.same → get_or l.s (l.base + u) 0 ≡ get_or l.key u 0)
-
-abbrev pub decreases-loop-same : goal.decreases-loop-same
-decreases-loop-same l = l.n - l.same
