@@ -10,7 +10,7 @@ use Rattle.promises.specs.Lowest.{Lowest, NoneMarked}
 use Rattle.promises.specs.State.{on, Places, room_cases}
 use Rattle.promises.specs.Loan.{Loan, ◌and◌}
 use Rattle.promises.specs.Table.{table, keeps, puts}
-use Rattle.promises.specs.Deed.{Answer, Deed, plain, reads}
+use Rattle.promises.specs.Deed.{Answer, Deed, carried, plain, reads}
 use Rattle.promises.specs.RuleDeeds.{ruled}
 use Rattle.promises.specs.CostDeeds.{costed, range_cases}
 
@@ -36,16 +36,12 @@ less_than p a b =
     (λ z. both_front (p ∷ []) (a ∷ b ∷ []) z (room_cases (is_below (on z.1 a) (on z.1 b)) z.0))
     (λ z. (puts p (is_below (on z.1 a) (on z.1 b)), keeps))
 
--- LOWEST: the lowest that the cost of place a gives where the rule of place q is not 0, and the first setting that has it; refused, 0 and the setting of no values
+-- LOWEST: the lowest that the cost of place a gives where the rule of place q is not 0, and the first setting that has it
 abbrev pub found : Answer (ℤ × Setting)
 found =
-    record {
-      Result = Found;
-      ending = λ r. r.outcome;
-      value = λ r. (r.cost, r.setting);
-      made = λ o a. record { outcome = o; cost = a.0; setting = a.1 };
-      nothing_else = λ r. refl;
-    }
+    let read : Found → ℤ × Setting = λ v. (v.cost, v.setting) in
+    let write : ℤ × Setting → Found = λ a. record { cost = a.0; setting = a.1 } in
+    carried read write (pos 0, setting_of []) (λ v. refl)
 
 abbrev pub lowest : ℕ → ℕ → Deed both
 lowest a q =

@@ -12,17 +12,13 @@ use Rattle.promises.specs.CostWords.{costs_of}
 use Rattle.promises.specs.CostSound.{CostSound}
 use Rattle.promises.specs.State.{State, on, front, room_cases}
 use Rattle.promises.specs.Table.{Tabled, table, puts}
-use Rattle.promises.specs.Deed.{Answer, Deed, plain}
+use Rattle.promises.specs.Deed.{Answer, Deed, carried, plain}
 
 abbrev pub cost_looked : Answer (Amount costs × ℕ)
 cost_looked =
-    record {
-      Result = CostLooked;
-      ending = λ r. r.outcome;
-      value = λ r. (amount r.cost, r.asked);
-      made = λ o a. record { outcome = o; cost = a.0.off; asked = a.1 };
-      nothing_else = λ r. refl;
-    }
+    let read : CostLooked → Amount costs × ℕ = λ v. (amount v.cost, v.asked) in
+    let write : Amount costs × ℕ → CostLooked = λ a. record { cost = a.0.off; asked = a.1 } in
+    carried read write (amount (pos 0), 0) (λ v. refl)
 
 -- THE COST TABLE
 abbrev pub costed : Tabled costs

@@ -1,18 +1,11 @@
 -- WHAT C HEARS of a call: the number that it returns, results laid into words that C lends, and the bytes that it may write. Assumes nothing.
-use Rattle.std.specs.Prelude.{◌≡◌, Bool, true, false, List, [], ◌∷◌, ℕ, suc, ◌+◌, ◌-◌, ◌/◌, ◌%◌, ℤ, pos, negsuc}
-use Rattle.settings.specs.Refusals.{number_of, outcome_number}
-use Rattle.settings.specs.declared.refusals.Outcome.{Outcome}
-use Rattle.settings.specs.declared.refusals.Outcome.TheVariants.{Taken, Refused}
-use Rattle.settings.specs.declared.steps.Stepped.{Stepped}
+use Rattle.std.specs.Prelude.{◌≡◌, Bool, true, false, List, [], ◌∷◌, ℕ, suc, ◌+◌, ◌-◌, ◌/◌, ◌%◌, ℤ, pos, negsuc, replicate, Option as Maybe, Some, None, Result, Ok, Err}
+use Rattle.settings.specs.Refusals.{number_of, Outcome, ending_of, outcome_number}
+use Rattle.settings.specs.declared.refusals.Refusal.{Refusal}
+use Rattle.settings.specs.declared.steps.Setting.{Setting}
 use Rattle.promises.specs.declared.Looked.{Looked}
 use Rattle.promises.specs.declared.CostLooked.{CostLooked}
-use Rattle.promises.specs.declared.Compared.{Compared}
-use Rattle.promises.specs.declared.Tallied.{Tallied}
-use Rattle.promises.specs.declared.Spelled.{Spelled}
-use Rattle.promises.specs.declared.Counted.{Counted}
-use Rattle.promises.specs.declared.Met.{Met}
 use Rattle.promises.specs.declared.Found.{Found}
-use Rattle.promises.specs.declared.Wrote.{Wrote}
 
 -- what C has after a call: the number, the words that it lent for results, the bytes that it lent for a sheet
 pub record Heard : Type 0 where
@@ -57,51 +50,63 @@ signed (negsuc n) = 4294967296 - suc n
 abbrev pub told : Outcome → List ℕ → List ℕ → Heard
 told o l out = heard (outcome_number o) (placed l out) []
 
+-- the results of a call that says its value v in words: of n words, all 0 where it was refused
+abbrev pub spoken : {V : Type 0} → (V → List ℕ) → ℕ → Result V Refusal → List ℕ
+spoken words n (Ok v) = words v
+spoken words n (Err x) = replicate n 0
+
+abbrev pub tell : {V : Type 0} → (V → List ℕ) → ℕ → List ℕ → Result V Refusal → Heard
+tell words n out r = told (ending_of r) (spoken words n r) out
+
 abbrev pub tell_ending : List ℕ → Outcome → Heard
 tell_ending out o = told o [] out
 
 -- the number, then how many features were asked
-abbrev pub tell_looked : List ℕ → Looked → Heard
-tell_looked out r = told r.outcome (r.number ∷ r.asked ∷ []) out
+abbrev pub tell_looked : List ℕ → Result Looked Refusal → Heard
+tell_looked = tell (λ v. v.number ∷ v.asked ∷ []) 2
 
-abbrev pub tell_cost_looked : List ℕ → CostLooked → Heard
-tell_cost_looked out r = told r.outcome (signed r.cost ∷ r.asked ∷ []) out
+abbrev pub tell_cost_looked : List ℕ → Result CostLooked Refusal → Heard
+tell_cost_looked = tell (λ v. signed v.cost ∷ v.asked ∷ []) 2
 
-abbrev pub tell_compared : List ℕ → Compared → Heard
-tell_compared out r = told r.outcome (bit r.same ∷ []) out
+abbrev pub tell_compared : List ℕ → Result Bool Refusal → Heard
+tell_compared = tell (λ b. bit b ∷ []) 1
 
-abbrev pub tell_tallied : List ℕ → Tallied → Heard
-tell_tallied out r = told r.outcome (r.count ∷ []) out
+abbrev pub tell_tallied : List ℕ → Result ℕ Refusal → Heard
+tell_tallied = tell (λ n. n ∷ []) 1
 
-abbrev pub tell_spelled : List ℕ → Spelled → Heard
-tell_spelled out r = told r.outcome (r.size ∷ []) out
+abbrev pub tell_spelled : List ℕ → Result ℕ Refusal → Heard
+tell_spelled = tell (λ n. n ∷ []) 1
 
-abbrev pub tell_counted : List ℕ → Counted → Heard
-tell_counted out r = told r.outcome (halves r.count) out
+abbrev pub tell_counted : List ℕ → Result ℕ Refusal → Heard
+tell_counted = tell halves 2
 
 -- a setting is 16 words: its values, and 0 for each place past them
-abbrev pub tell_met : List ℕ → Met → Heard
-tell_met out r = told r.outcome r.setting.values out
+abbrev pub tell_met : List ℕ → Result Setting Refusal → Heard
+tell_met = tell (λ s. s.values) 16
 
 -- the cost, then the setting
-abbrev pub tell_found : List ℕ → Found → Heard
-tell_found out r = told r.outcome (signed r.cost ∷ r.setting.values) out
+abbrev pub tell_found : List ℕ → Result Found Refusal → Heard
+tell_found = tell (λ v. signed v.cost ∷ v.setting.values) 17
 
--- whether it was the last, then the setting
-abbrev pub tell_stepped : List ℕ → Stepped → Heard
-tell_stepped out r = told r.outcome (bit r.last ∷ r.setting.values) out
+-- whether it was the last, then the setting; after the last, 0 for each place
+abbrev pub step_words : Maybe Setting → List ℕ
+step_words (Some s) = 0 ∷ s.values
+step_words None = 1 ∷ replicate 16 0
+
+abbrev pub tell_stepped : List ℕ → Result (Maybe Setting) Refusal → Heard
+tell_stepped = tell step_words 17
 
 -- how many bytes the sheet has, and the lent bytes afterwards
-abbrev pub tell_filed : List ℕ → (Wrote × List ℕ) → Heard
-tell_filed out r = heard (outcome_number r.0.outcome) (placed (r.0.length ∷ []) out) r.1
+abbrev pub tell_filed : List ℕ → (Result ℕ Refusal × List ℕ) → Heard
+tell_filed out r = heard (outcome_number (ending_of r.0)) (placed (spoken (λ n. n ∷ []) 1 r.0) out) r.1
 
 -- the phone's look up returns the phrase number itself, or 65,536 plus the refusal's number
-abbrev pub returned : Outcome → ℕ → ℕ
-returned Taken n = n
-returned (Refused x) n = 65536 + number_of x
+abbrev pub returned : Result Looked Refusal → ℕ
+returned (Ok v) = v.number
+returned (Err x) = 65536 + number_of x
 
-abbrev pub tell_returned : List ℕ → Looked → Heard
-tell_returned out r = heard (returned r.outcome r.number) out []
+abbrev pub tell_returned : List ℕ → Result Looked Refusal → Heard
+tell_returned out r = heard (returned r) out []
 
 -- the look up of many: the number of the ending, and the lent words afterwards
 abbrev pub tell_filled : (Outcome × List ℕ) → Heard

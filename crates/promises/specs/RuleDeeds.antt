@@ -11,36 +11,29 @@ use Rattle.settings.specs.Refusals.{◌when◌else◌, taken}
 use Rattle.settings.specs.declared.refusals.Refusal.TheVariants.{BadArgument, BadSelector, None}
 use Rattle.settings.specs.declared.steps.Setting.{Setting}
 use Rattle.promises.specs.declared.Looked.{Looked}
-use Rattle.promises.specs.declared.Spelled.{Spelled}
-use Rattle.promises.specs.declared.Counted.{Counted}
-use Rattle.promises.specs.declared.Met.{Met}
 use Rattle.promises.specs.Tab.{tab}
 use Rattle.promises.specs.RuleWords.{rules_of}
 use Rattle.promises.specs.RuleSound.{RuleSound}
 use Rattle.promises.specs.Operators.{pair_of, case_of, forgotten_of, literal_of, set_size}
 use Rattle.promises.specs.State.{State, on, front, room_cases}
 use Rattle.promises.specs.Table.{Tabled, table, puts}
-use Rattle.promises.specs.Deed.{Answer, Deed, plain, reads, answers}
+use Rattle.promises.specs.Deed.{Answer, Deed, carried, carries, plain, reads, answers}
 
 -- ---- what the calls answer
 abbrev pub looked : Answer (Amount rules × ℕ)
 looked =
-    record {
-      Result = Looked;
-      ending = λ r. r.outcome;
-      value = λ r. (says r.number, r.asked);
-      made = λ o a. record { outcome = o; number = a.0.end; asked = a.1 };
-      nothing_else = λ r. refl;
-    }
+    let read : Looked → Amount rules × ℕ = λ v. (says v.number, v.asked) in
+    let write : Amount rules × ℕ → Looked = λ a. record { number = a.0.end; asked = a.1 } in
+    carried read write (says 0, 0) (λ v. refl)
 
 abbrev pub spelled : Answer ℕ
-spelled = record { Result = Spelled; ending = λ r. r.outcome; value = λ r. r.size; made = λ o n. record { outcome = o; size = n }; nothing_else = λ r. refl }
+spelled = carries 0
 
 abbrev pub counted : Answer ℕ
-counted = record { Result = Counted; ending = λ r. r.outcome; value = λ r. r.count; made = λ o n. record { outcome = o; count = n }; nothing_else = λ r. refl }
+counted = carries 0
 
 abbrev pub met : Answer Setting
-met = record { Result = Met; ending = λ r. r.outcome; value = λ r. r.setting; made = λ o s. record { outcome = o; setting = s }; nothing_else = λ r. refl }
+met = carries (setting_of [])
 
 -- THE RULE TABLE
 abbrev pub ruled : Tabled rules

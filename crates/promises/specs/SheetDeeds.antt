@@ -4,15 +4,14 @@ use Rattle.theory.specs.Settings.{Valid}
 use Rattle.theory.specs.Functions.{Agree}
 use Rattle.theory.specs.Rules.{Rule}
 use Rattle.theory.specs.Asked.{Asked}
-use Rattle.settings.specs.Refusals.{Cases, ◌when◌else◌, taken}
+use Rattle.settings.specs.Refusals.{Cases, Outcome, ◌when◌else◌, taken}
+use Rattle.settings.specs.declared.refusals.Refusal.{Refusal}
 use Rattle.settings.specs.declared.refusals.Refusal.TheVariants.{Newer, BadSheet, OtherFeatures, BadArgument, NoSpace}
-use Rattle.settings.specs.declared.refusals.Outcome.{Outcome}
-use Rattle.promises.specs.declared.Wrote.{Wrote}
 use Rattle.promises.specs.Sheet.{NewerSheet, sheet_sizes, row, sheet_rule, GoodSheet}
 use Rattle.promises.specs.State.{on, front, room_cases}
 use Rattle.promises.specs.Loan.{no_table}
 use Rattle.promises.specs.Table.{table, puts}
-use Rattle.promises.specs.Deed.{Answer, Deed, plain, reads}
+use Rattle.promises.specs.Deed.{Answer, Deed, beside, carries, plain, reads}
 use Rattle.promises.specs.RuleDeeds.{ruled, looked}
 
 -- NEWER before any other reading, then BAD SHEET, then the rest
@@ -35,14 +34,7 @@ pub record SheetFor (S : List ℕ) (g : Rule) (n : ℕ) (s : List ℕ) : Type 0 
 
 -- the length of the sheet, and the lent bytes afterwards
 abbrev pub filed : Answer (ℕ × List ℕ)
-filed =
-    record {
-      Result = Wrote × List ℕ;
-      ending = λ r. r.0.outcome;
-      value = λ r. (r.0.length, r.1);
-      made = λ o a. (record { outcome = o; length = a.0 }, a.1);
-      nothing_else = λ r. refl;
-    }
+filed = beside (carries 0)
 
 -- WRITE: the sheet of place p to the front of the lent bytes out, the bytes after it kept
 abbrev pub write_sheet : ℕ → List ℕ → Deed (table ruled)

@@ -1,22 +1,18 @@
 -- What the calls that every kind of table has do to its functions. Assumes nothing.
-use Rattle.std.specs.Prelude.{◌≡◌, refl, Bool, false, List, [], ◌∷◌, ℕ, ◌≤◌}
+use Rattle.std.specs.Prelude.{◌≡◌, Bool, false, List, [], ◌∷◌, ℕ, ◌≤◌}
 use Rattle.theory.specs.Kind.{Kind}
 use Rattle.theory.specs.Settings.{FeatureList, Valid}
 use Rattle.theory.specs.Functions.{Agree, Amount, zero_fun}
 use Rattle.theory.specs.Rests.{Counts}
 use Rattle.theory.specs.Asked.{Asked}
 use Rattle.settings.specs.Tells.{Tells}
-use Rattle.settings.specs.Refusals.{◌when◌else◌, taken}
+use Rattle.settings.specs.Refusals.{Outcome, Refused, ◌when◌else◌, taken}
 use Rattle.settings.specs.declared.refusals.Refusal.TheVariants.{BadArgument, BadOpening}
-use Rattle.settings.specs.declared.refusals.Outcome.{Outcome}
-use Rattle.settings.specs.declared.refusals.Outcome.TheVariants.{Refused}
-use Rattle.promises.specs.declared.Compared.{Compared}
-use Rattle.promises.specs.declared.Tallied.{Tallied}
 use Rattle.promises.specs.Tab.{tab}
 use Rattle.promises.specs.Words.{bound}
 use Rattle.promises.specs.State.{State, state, on, front}
 use Rattle.promises.specs.Table.{Tabled, table, any_words, puts, opens}
-use Rattle.promises.specs.Deed.{Answer, Deed, plain, reads}
+use Rattle.promises.specs.Deed.{Answer, Deed, carries, plain, reads}
 
 -- a feature list, a capacity from 1 to 4,096, and n words are enough
 pub record Openable (S : List ℕ) (cap n : ℕ) : Type 0 where
@@ -27,10 +23,10 @@ pub record Openable (S : List ℕ) (cap n : ℕ) : Type 0 where
 
 -- ---- what the calls answer
 abbrev pub compared : Answer Bool
-compared = record { Result = Compared; ending = λ r. r.outcome; value = λ r. r.same; made = λ o b. record { outcome = o; same = b }; nothing_else = λ r. refl }
+compared = carries false
 
 abbrev pub tallied : Answer ℕ
-tallied = record { Result = Tallied; ending = λ r. r.outcome; value = λ r. r.count; made = λ o n. record { outcome = o; count = n }; nothing_else = λ r. refl }
+tallied = carries 0
 
 module _ {K : Kind} (T : Tabled K) where
   -- the constant 0 on each place

@@ -6,6 +6,7 @@ use native.Mathlib.Decide.{ℕ_discrete, dec_le}
 use native.Mathlib.Omega.{arith}
 use Prim.Native.Nat.{ℕ, ◌≤◌}
 use lib.Dec.{leb, eqb}
+use Rattle.std.specs.Prelude.{IsTrue, ◌↔◌}
 use Rattle.settings.specs.Tells.{Tells}
 
 pub sure : {t : Bool} {P : Type 0} → t ≡ true → Tells t P → P
@@ -47,3 +48,8 @@ tells_decided P true true h k = refl
 tells_decided P true false h k = absurd (k h)
 tells_decided P false true h k = absurd (h k)
 tells_decided P false false h k = refl
+
+-- a `bool` that is true exactly if P holds is a test of what holds exactly if P does
+pub tells_iff : {P Q : Type 0} (t : Bool) → IsTrue t ↔ P → (P → Q) → (Q → P) → Tells t Q
+tells_iff true e f g = f (e.0 refl)
+tells_iff false e f g = λ q. let z : false ≡ true = e.1 (g q) in cc

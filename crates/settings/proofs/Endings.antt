@@ -7,9 +7,8 @@ use lib.ListN.{get_or}
 use mathlib.Core.List.{List, [], ◌∷◌}
 use Rattle.settings.specs.declared.refusals.Refusal.{Refusal}
 use Rattle.settings.specs.declared.refusals.Refusal.TheVariants.{Damaged, BadPlace, Newer, BadSheet, OtherFeatures, BadArgument, BadSelector, Range, NoRoom, NoSpace, None, BadOpening}
-use Rattle.settings.specs.declared.refusals.Outcome.{Outcome}
-use Rattle.settings.specs.declared.refusals.Outcome.TheVariants.{Taken, Refused}
-use Rattle.settings.specs.Refusals.{number_of, outcome_number, Cases, taken, ◌when◌else◌, Ends}
+use Rattle.std.specs.Prelude.{Ok, Err}
+use Rattle.settings.specs.Refusals.{number_of, Outcome, Taken, Refused, outcome_number, Cases, taken, ◌when◌else◌, Ends}
 
 -- `Ends (x when P else rest)` is met at `Refused x` where P holds. Stated on what `Ends` computes to, with Rest for `Ends rest`, so that a use writes nothing out
 pub stop : {x : Refusal} {P Rest : Type 0} → P → (P → Refused x ≡ Refused x) × ((P → ⊥) → Rest)
@@ -64,8 +63,8 @@ refusal_back BadOpening = refl
 
 outcome_back : (o : Outcome) → get_or endings (outcome_number o) Taken ≡ o
 unfolding endings
-outcome_back Taken = refl
-outcome_back (Refused x) = refusal_back x
+outcome_back (Ok u) = refl
+outcome_back (Err x) = refusal_back x
 
 pub one_number : {o u : Outcome} → outcome_number o ≡ outcome_number u → o ≡ u
 one_number {o} {u} e = sym (outcome_back o) ∙ ap (λ (n : ℕ). get_or endings n Taken) e ∙ outcome_back u

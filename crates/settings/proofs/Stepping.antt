@@ -1,32 +1,27 @@
 -- The stepper's promise is met at each of its three returns. Assumes nothing.
 use mathlib.Core.Path.{◌≡◌, refl, sym, ap, ◌∙◌, subst}
-use mathlib.Core.Bool.{Bool, true, false}
-use mathlib.Core.Option.{Option, some, none}
+use mathlib.Core.Option as M
+use mathlib.Core.Option.{some}
+use Rattle.std.specs.Prelude.{Option, Some, None, Ok, Err}
 use mathlib.Core.List.{List, ◌++◌}
 use Prim.Native.Nat.{ℕ, ◌-◌, ◌≤◌}
 use native.Mathlib.Omega.{arith}
 use lib.ListN.{length, take, drop, replicate, take-append-drop}
-use Rattle.theory.specs.Settings.{zeros}
-use Rattle.theory.proofs.Ranges.{valid_length, zeros_are}
-use Rattle.settings.specs.Step.{values_of, setting_of, zero_setting, Inside, next_of, Gives, Steps}
+use Rattle.theory.proofs.Ranges.{valid_length}
+use Rattle.settings.specs.Step.{values_of, setting_of, Inside, next_of, Gives, Steps}
 use Rattle.settings.specs.Odometer.{Turns}
 use Rattle.settings.specs.declared.refusals.Refusal.TheVariants.{BadArgument}
-use Rattle.settings.specs.declared.refusals.Outcome.TheVariants.{Taken, Refused}
 use Rattle.settings.specs.declared.steps.Setting.{Setting}
 use Rattle.settings.proofs.Endings.{stop, pass}
 use Rattle.settings.proofs.Following.{next_long}
-use Rattle.settings.proofs.Holding.{places_short, values_held, rest_held, zero_held}
+use Rattle.settings.proofs.Holding.{places_short, values_held, rest_held}
 
-pub step_refused : (S : List ℕ) (s : Setting) → (Inside S s → ⊥) → Steps S s (record { outcome = Refused BadArgument; last = false; setting = zero_setting 0 })
-step_refused S s n = record { ends = stop n; gives = λ e. let z : ◌≡◌ {A = ℕ} 0 1 = cc in absurd (omega arith); refused = λ x e. (refl, refl) }
+pub step_refused : (S : List ℕ) (s : Setting) → (Inside S s → ⊥) → Steps S s (Err BadArgument)
+step_refused S s n = record { ends = stop n; gives = tt }
 
 module _ (S : List ℕ) (s : Setting) (i : Inside S s) where
-  taken_step : (last : Bool) (t : Setting) → Gives S (next_of S (values_of s)) (record { outcome = Taken; last = last; setting = t }) → Steps S s (record { outcome = Taken; last = last; setting = t })
-  taken_step last t g = record {
-    ends = pass (λ n. n i) refl;
-    gives = λ e. g;
-    refused = λ x e. let z : ◌≡◌ {A = ℕ} 0 1 = cc in absurd (omega arith);
-  }
+  taken_step : (t : Option Setting) → Gives S (next_of S (values_of s)) t → Steps S s (Ok t)
+  taken_step t g = record { ends = pass (λ n. n i) refl; gives = g }
 
   long : length (values_of s) ≡ length S
   long = valid_length S (values_of s) i.valid
@@ -41,12 +36,12 @@ module _ (S : List ℕ) (s : Setting) (i : Inside S s) where
     past : drop (length S) from ≡ replicate (16 - length S) 0
     past = rw (e, ← long) (rest_held (values_of s) short)
 
-    pub step_moved : Turns S from true to → Steps S s (record { outcome = Taken; last = false; setting = record { count = s.count; values = to } })
-    step_moved t = taken_step false (record { count = s.count; values = to }) (subst
-        (λ (w : Option (List ℕ)). Gives S w (record { outcome = Taken; last = false; setting = record { count = s.count; values = to } })) (sym next) (refl, whole))
+    pub step_moved : Turns S from (Some to) → Steps S s (Ok (Some (record { count = s.count; values = to })))
+    step_moved t = taken_step (Some (record { count = s.count; values = to })) (subst
+        (λ (w : M.Option (List ℕ)). Gives S w (Some (record { count = s.count; values = to }))) (sym next) (ap Some whole))
       where
         next : next_of S (values_of s) ≡ some (take (length S) to)
-        next = sym (t.word ∙ ap (next_of S) held)
+        next = sym (ap (next_of S) held) ∙ t.0
 
         as_long : length (take (length S) to) ≡ length S
         as_long = next_long S (values_of s) (take (length S) to) next ∙ long
@@ -55,18 +50,11 @@ module _ (S : List ℕ) (s : Setting) (i : Inside S s) where
         few = omega (arith, as_long, i.features.few)
 
         places : to ≡ (setting_of (take (length S) to)).values
-        places = sym (take-append-drop (length S) to) ∙ ap (λ (r : List ℕ). take (length S) to ++ r) (t.rest ∙ past ∙ ap (λ (n : ℕ). replicate (16 - n) 0) (sym as_long))
+        places = sym (take-append-drop (length S) to) ∙ ap (λ (r : List ℕ). take (length S) to ++ r) (t.1 ∙ past ∙ ap (λ (n : ℕ). replicate (16 - n) 0) (sym as_long))
             ∙ sym (places_short (take (length S) to) few)
 
         whole : record { count = s.count; values = to } ≡ setting_of (take (length S) to)
         whole = λ j. record { count = (i.counted ∙ sym as_long) j; values = places j }
 
-    pub step_last : Turns S from false to → Steps S s (record { outcome = Taken; last = true; setting = zero_setting s.count })
-    step_last t = taken_step true (zero_setting s.count) (subst (λ (w : Option (List ℕ)). Gives S w
-        (record { outcome = Taken; last = true; setting = zero_setting s.count })) (sym next) (refl, whole))
-      where
-        next : next_of S (values_of s) ≡ none
-        next = sym (t.word ∙ ap (next_of S) held)
-
-        whole : zero_setting s.count ≡ setting_of (zeros S)
-        whole = ap zero_setting i.counted ∙ zero_held (length S) i.features.few ∙ ap setting_of (sym (zeros_are S))
+  pub step_last : (from : List ℕ) → from ≡ (setting_of (values_of s)).values → Turns S from None → Steps S s (Ok None)
+  step_last from e t = taken_step None (subst (λ (w : M.Option (List ℕ)). Gives S w None) (sym (sym (ap (next_of S) (held from from e)) ∙ t)) refl)

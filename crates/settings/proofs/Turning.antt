@@ -1,6 +1,5 @@
 -- Laws of the stepper's inner loop, which turns the places from the last one down. Assumes nothing.
 use mathlib.Core.Path.{◌≡◌, refl, sym, ap, ◌∙◌}
-use mathlib.Core.Bool.{true, false}
 use mathlib.Core.Option.{Option, some, none}
 use mathlib.Core.List.{List, [], ◌∷◌, ◌++◌, append_assoc}
 use Prim.Native.Nat.{ℕ, zero, suc, ◌+◌, ◌-◌, ◌≤◌, ◌<◌}
@@ -10,6 +9,7 @@ use lib.ListN.{length, take, drop, set, get_or, replicate, length-take, length-d
 use lib.Seq.{drop-cons, get_or-take, take-take, take_at, drop_at, drop-length}
 use borrow.Author.Tests.{lt-ltb, le-ltb}
 use Rattle.settings.specs.Step.{next_of, grow}
+use Rattle.std.specs.Prelude.{Some, None}
 use Rattle.settings.specs.Odometer.{Turns}
 
 back : (k : ℕ) (l r : List ℕ) (x : ℕ) → k < length l → set (take (suc k) l ++ r) k x ≡ take k l ++ (x ∷ r)
@@ -73,12 +73,12 @@ module _ (S vs : List ℕ) (k : ℕ) (below : k < length S) (fv : length S ≤ l
   long = simp (length-append, length-take, length-replicate) (omega arith)
 
   pub moves : (v : List ℕ) → v ≡ turned (length S) vs (suc k) → next_of (drop (suc k) S) (drop (suc k) (take (length S) vs)) ≡ none → get_or vs k 0 + 1 < get_or S k 0
-      → Turns S vs true (set v k (get_or vs k 0 + 1))
+      → Turns S vs (Some (set v k (get_or vs k 0 + 1)))
   unfolding head x
-  moves v e z h = record {
-    word = rw (whole v e) (ap some (take_at head (drop (length S) vs) (length S) long)) ∙ sym there;
-    rest = rw (whole v e) (drop_at head (drop (length S) vs) (length S) long);
-  }
+  moves v e z h = (
+    there ∙ sym (rw (whole v e) (ap some (take_at head (drop (length S) vs) (length S) long))),
+    rw (whole v e) (drop_at head (drop (length S) vs) (length S) long),
+  )
     where
       grown : next_of (drop k S) (drop k (take (length S) vs)) ≡ some (x ∷ replicate (length S - suc k) 0)
       grown = here none z ∙ rw (lt-ltb (get_or vs k 0 + 1) (get_or S k 0) h)
@@ -90,9 +90,6 @@ pub nothing : (S vs : List ℕ) → next_of (drop (length S) S) (drop (length S)
 unfolding next_of
 nothing S vs = rw (drop-length S)
 
-pub stays : (S vs v : List ℕ) (i : ℕ) → i ≤ 0 → length S ≤ length vs → v ≡ turned (length S) vs i → next_of (drop i S) (drop i (take (length S) vs)) ≡ none → Turns S vs false v
-stays S vs v (suc i) z fv e h = absurd (omega arith)
-stays S vs v zero z fv e h = record {
-  word = sym h;
-  rest = rw e (drop_at (replicate (length S - 0) 0) (drop (length S) vs) (length S) (simp length-replicate (omega arith)));
-}
+pub stays : (S vs : List ℕ) (i : ℕ) → i ≤ 0 → next_of (drop i S) (drop i (take (length S) vs)) ≡ none → Turns S vs None
+stays S vs (suc i) z h = absurd (omega arith)
+stays S vs zero z h = h

@@ -1,9 +1,7 @@
 -- The scope's refusal numbers, and the shape of every call's table of refusals. Assumes nothing.
-use Rattle.std.specs.Prelude.{◌≡◌, ◌⊎◌, ℕ, ◌<◌}
+use Rattle.std.specs.Prelude.{◌≡◌, ◌⊎◌, ℕ, ◌<◌, Result, Ok, Err}
 use Rattle.settings.specs.declared.refusals.Refusal.{Refusal}
 use Rattle.settings.specs.declared.refusals.Refusal.TheVariants.{Damaged, BadPlace, Newer, BadSheet, OtherFeatures, BadArgument, BadSelector, Range, NoRoom, NoSpace, None, BadOpening}
-use Rattle.settings.specs.declared.refusals.Outcome.{Outcome}
-use Rattle.settings.specs.declared.refusals.Outcome.TheVariants.{Taken, Refused}
 
 infixr 5 ◌when◌else◌
 -- the number of each refusal
@@ -21,10 +19,25 @@ number_of NoSpace = 10
 number_of None = 11
 number_of BadOpening = 12
 
+-- how a call ends: taken, or refused
+abbrev pub Outcome : Type 0
+Outcome = Result (Unit {0}) Refusal
+
+abbrev pub Taken : Outcome
+Taken = Ok tt
+
+abbrev pub Refused : Refusal → Outcome
+Refused x = Err x
+
+-- how a call ended that answers a value where it was taken
+abbrev pub ending_of : {A : Type 0} → Result A Refusal → Outcome
+ending_of (Ok a) = Ok tt
+ending_of (Err x) = Err x
+
 -- the number of an ending: 0 where the call was taken
 abbrev pub outcome_number : Outcome → ℕ
-outcome_number Taken = 0
-outcome_number (Refused x) = number_of x
+outcome_number (Ok u) = 0
+outcome_number (Err x) = number_of x
 
 -- a call's table of refusals, read from its front: `Damaged when P else BadPlace when Q else taken`
 pub data Cases : Type 1 where

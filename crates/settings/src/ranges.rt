@@ -6,24 +6,10 @@ ghost use Rattle.settings.specs.Tells.{Tells};
 pub fn features_ok(features: &[u8]) -> bool
     ensures { Tells result (FeatureList features.now) }
 {
-    if features.len() < 1 {
+    if features.len() < 1 || 16 < features.len() {
         return false;
     }
-    if 16 < features.len() {
-        return false;
-    }
-    let mut k: usize = 0;
-    while k < features.len() {
-        let size = features[k];
-        if size < 2 {
-            return false;
-        }
-        if 8 < size {
-            return false;
-        }
-        k += 1;
-    }
-    true
+    features.iter().all(|size| 2 <= *size && *size <= 8)
 }
 
 // Whether the values are a setting of the features: one value below its size for each.
@@ -33,12 +19,5 @@ pub fn setting_ok(features: &[u8], values: &[u8]) -> bool
     if values.len() != features.len() {
         return false;
     }
-    let mut k: usize = 0;
-    while k < features.len() {
-        if features[k] <= values[k] {
-            return false;
-        }
-        k += 1;
-    }
-    true
+    features.iter().zip(values).all(|(size, value)| *value < *size)
 }

@@ -1,66 +1,35 @@
 // A setting by value, and the stepper over settings.
-ghost use Rattle.std.specs.Prelude.{◌≡◌, true, false, ◌≤◌, ◌<◌, length};
+ghost use Rattle.std.specs.Prelude.{◌≡◌, ◌≤◌, length};
 ghost use Rattle.settings.specs.Tells.{Tells};
 ghost use Rattle.settings.specs.Step.{Inside, Steps, setting_of, zero_setting};
 ghost use Rattle.settings.specs.Odometer.{Turns};
 
 use crate::ranges::{features_ok, setting_ok};
-use crate::refusals::{Outcome, Refusal};
+use crate::refusals::Refusal;
 
 // A setting: the first count of the values, feature 0 first. A count past 16 is outside the numbers.
-#[derive(Clone, Copy)]
+// The values stay an array beside their count: the library has no heap, and a setting is passed by value.
+#[derive(Clone, Copy, PartialEq, Eq, Debug, Default)]
 pub struct Setting {
     pub count: usize,
     pub values: [u8; 16],
 }
 
-// What a step gives: how it ended, whether the setting was the last, and the next setting.
-#[derive(Clone, Copy)]
-pub struct Stepped {
-    pub outcome: Outcome,
-    pub last: bool,
-    pub setting: Setting,
-}
-
-// What a turn of the places gives: whether a value grew, and the places.
-#[derive(Clone, Copy)]
-struct Turned {
-    moved: bool,
-    values: [u8; 16],
-}
-
-// A byte as a wider number.
-fn wide(x: u8) -> u32
-    ensures { (result ≡ x) × (result < 256) }
-{
-    x as u32
-}
-
-// The last value that can grow grows, and those after it go to 0.
-fn turn(features: &[u8], values: [u8; 16]) -> Turned
+// The last value that can grow grows, and those after it go to 0; none where no value can.
+fn turn(features: &[u8], from: [u8; 16]) -> Option<[u8; 16]>
     requires { length features.now ≤ 16 }
-    ensures { Turns features.now values result.moved result.values }
+    ensures { Turns features.now from result }
 {
-    let mut v = values;
-    let mut i = features.len();
-    while 0 < i {
-        let k = i - 1;
-        let w = v[k];
-        let size = features[k];
-        if wide(w) + 1 < wide(size) {
-            v[k] = w + 1;
-            return Turned {
-                moved: true,
-                values: v,
-            };
+    let mut values = from;
+    for i in (0..features.len()).rev() {
+        let value = values[i];
+        if u32::from(value) + 1 < u32::from(features[i]) {
+            values[i] = value + 1;
+            return Some(values);
         }
-        v[k] = 0;
-        i = k;
+        values[i] = 0;
     }
-    Turned {
-        moved: false,
-        values: v,
-    }
+    None
 }
 
 impl Setting {
@@ -69,15 +38,9 @@ impl Setting {
         ensures { result ≡ setting_of bytes.now }
     {
         let count = bytes.len();
+        let kept = count.min(16);
         let mut values = [0u8; 16];
-        let mut k: usize = 0;
-        while k < 16 {
-            if count <= k {
-                return Setting { count, values };
-            }
-            values[k] = bytes[k];
-            k += 1;
-        }
+        values[..kept].copy_from_slice(&bytes[..kept]);
         Setting { count, values }
     }
 
@@ -87,7 +50,7 @@ impl Setting {
     {
         Setting {
             count,
-            values: [0u8; 16],
+            values: [0; 16],
         }
     }
 
@@ -95,45 +58,25 @@ impl Setting {
     pub fn inside(self, features: &[u8]) -> bool
         ensures { Tells result (Inside features.now self) }
     {
-        if !features_ok(features) {
-            return false;
-        }
         let count = self.count;
-        if count != features.len() {
+        if !features_ok(features) || count != features.len() {
             return false;
         }
-        let values = self.values;
-        setting_ok(features, &values[..count])
+        setting_ok(features, &self.values[..count])
     }
 
-    // The next setting in order, or that this was the last.
-    pub fn next(self, features: &[u8]) -> Stepped
+    // The next setting in order, or none where this was the last.
+    pub fn next(self, features: &[u8]) -> Result<Option<Setting>, Refusal>
         ensures { Steps features.now self result }
     {
         if !self.inside(features) {
-            return Stepped {
-                outcome: Outcome::Refused(Refusal::BadArgument),
-                last: false,
-                setting: Setting::zero(0),
-            };
+            return Err(Refusal::BadArgument);
         }
         let count = self.count;
-        let values = self.values;
-        let clean = Setting::of(&values[..count]);
-        let from = clean.values;
-        let t = turn(features, from);
-        let to = t.values;
-        if t.moved {
-            return Stepped {
-                outcome: Outcome::Taken,
-                last: false,
-                setting: Setting { count, values: to },
-            };
-        }
-        Stepped {
-            outcome: Outcome::Taken,
-            last: true,
-            setting: Setting::zero(count),
-        }
+        let clean = Setting::of(&self.values[..count]);
+        let Some(values) = turn(features, clean.values) else {
+            return Ok(None);
+        };
+        Ok(Some(Setting { count, values }))
     }
 }

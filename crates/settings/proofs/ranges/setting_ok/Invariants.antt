@@ -1,9 +1,0 @@
--- `settings::setting_ok` meets its contract. The invariant: the values passed are below their sizes. Assumes nothing.
-use Rattle.std.proofs.Common.{length, get_or, ℕ, ◌-◌, ◌≤◌, ◌<◌}
-use Rattle.settings.proofs.ranges.setting_ok.Given as goal
-
-abbrev pub invariant-loop-k : goal.invariant-loop-k
-invariant-loop-k l = (l.k ≤ length l.features) × ((j : ℕ) → j < l.k → get_or l.values j 0 < get_or l.features j 0)
-
-abbrev pub decreases-loop-k : goal.decreases-loop-k
-decreases-loop-k l = length l.features - l.k
