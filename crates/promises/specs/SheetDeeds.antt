@@ -5,7 +5,6 @@ use Rattle.theory.specs.Functions.{Agree}
 use Rattle.theory.specs.Rules.{Rule}
 use Rattle.theory.specs.Asked.{Asked}
 use Rattle.settings.specs.Refusals.{Cases, Outcome, ◌when◌else◌, taken}
-use Rattle.settings.specs.declared.refusals.Refusal.{Refusal}
 use Rattle.settings.specs.declared.refusals.Refusal.TheVariants.{Newer, BadSheet, OtherFeatures, BadArgument, NoSpace}
 use Rattle.promises.specs.Sheet.{NewerSheet, sheet_sizes, row, sheet_rule, GoodSheet}
 use Rattle.promises.specs.State.{on, front, room_cases}

@@ -19,5 +19,8 @@ pub fn setting_ok(features: &[u8], values: &[u8]) -> bool
     if values.len() != features.len() {
         return false;
     }
-    features.iter().zip(values).all(|(size, value)| *value < *size)
+    features
+        .iter()
+        .zip(values)
+        .all(|(size, value)| *value < *size)
 }

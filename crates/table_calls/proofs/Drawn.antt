@@ -18,8 +18,9 @@ use Rattle.theory.proofs.Counting.{tally_counts, counts_unique}
 use Rattle.settings.specs.Refusals.{Cases, Ends, ◌when◌else◌, taken}
 use Rattle.settings.specs.declared.refusals.Refusal.{Refusal}
 use Rattle.settings.specs.declared.refusals.Refusal.TheVariants.{NoRoom, BadOpening}
-use Rattle.settings.specs.declared.refusals.Outcome.{Outcome}
-use Rattle.settings.specs.declared.refusals.Outcome.TheVariants.{Taken, Refused}
+use Rattle.std.specs.Prelude.{Ok}
+use Rattle.settings.specs.Refusals.{Outcome}
+use Rattle.settings.specs.Refusals.{Taken, Refused}
 use Rattle.settings.proofs.Endings.{stop, pass}
 use Rattle.promises.specs.Words.{capacity, sizes}
 use Rattle.promises.specs.Deed.{Answer, Deed, refusals, Meets}
@@ -126,5 +127,5 @@ module _ {K : Kind} {D : Table K} {own : List ℕ → ℕ → Fun K} {Sound : Li
       )
 
   -- TALLY: the number of distinct rests
-  pub tallies : {w : List ℕ} {n : ℕ} → Sound w → n ≡ tally (sizes w) (D.said w) → Meets (tally_all T) w w (record { outcome = Taken; count = n })
+  pub tallies : {w : List ℕ} {n : ℕ} → Sound w → n ≡ tally (sizes w) (D.said w) → Meets (tally_all T) w w (Ok n)
   tallies {w} s e = takes refl (pass (λ m. m s) refl) refl (subst (Counts (sizes w) (D.said w)) (sym e) (tally_counts (sizes w) (D.said w)))

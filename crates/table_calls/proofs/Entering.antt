@@ -3,7 +3,7 @@ use mathlib.Core.Path.{refl}
 use mathlib.Core.List.{List}
 use Prim.Native.Nat.{ℕ}
 use Rattle.settings.specs.declared.refusals.Refusal.TheVariants.{Damaged, BadPlace}
-use Rattle.settings.specs.declared.refusals.Outcome.TheVariants.{Taken, Refused}
+use Rattle.settings.specs.Refusals.{Taken, Refused}
 use Rattle.settings.proofs.Endings.{stop, pass, not_taken}
 use Rattle.promises.specs.State.{Places}
 use Rattle.table_calls.specs.Door.{Enters}

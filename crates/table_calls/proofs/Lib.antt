@@ -8,3 +8,4 @@ pub mod Like
 pub mod Entering
 pub mod Meeting
 pub mod Drawn
+pub mod Parts

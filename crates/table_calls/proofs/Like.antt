@@ -2,8 +2,8 @@
 use mathlib.Core.Path.{◌≡◌}
 use Rattle.settings.specs.Refusals.{Cases, Ends, ◌when◌else◌, taken}
 use Rattle.settings.specs.declared.refusals.Refusal.{Refusal}
-use Rattle.settings.specs.declared.refusals.Outcome.{Outcome}
-use Rattle.settings.specs.declared.refusals.Outcome.TheVariants.{Taken, Refused}
+use Rattle.settings.specs.Refusals.{Outcome}
+use Rattle.settings.specs.Refusals.{Taken, Refused}
 use Rattle.settings.proofs.Endings.{ends_unique, not_refused}
 
 -- the same refusals in the same order, each later condition the same where the earlier ones fail

@@ -6,8 +6,8 @@ use native.Mathlib.Nat.{not-suc-le-zero}
 use Rattle.settings.specs.Refusals.{Ends, ◌when◌else◌, taken}
 use Rattle.settings.specs.declared.refusals.Refusal.{Refusal}
 use Rattle.settings.specs.declared.refusals.Refusal.TheVariants.{Damaged, BadPlace}
-use Rattle.settings.specs.declared.refusals.Outcome.{Outcome}
-use Rattle.settings.specs.declared.refusals.Outcome.TheVariants.{Taken, Refused}
+use Rattle.settings.specs.Refusals.{Outcome}
+use Rattle.settings.specs.Refusals.{Taken, Refused}
 use Rattle.settings.proofs.Endings.{not_taken, not_refused}
 use Rattle.promises.specs.Loan.{Loan}
 use Rattle.promises.specs.Deed.{Deed, refusals, Meets}

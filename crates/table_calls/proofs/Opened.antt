@@ -16,7 +16,7 @@ use Rattle.theory.proofs.Growing.{each_append}
 use Rattle.theory.proofs.Ranges.{features_pos}
 use Rattle.theory.proofs.Values.{value_ending}
 use Rattle.theory.proofs.WellFormed.{wf_empty}
-use Rattle.settings.specs.declared.refusals.Outcome.TheVariants.{Taken}
+use Rattle.settings.specs.Refusals.{Taken}
 use Rattle.settings.proofs.Endings.{pass, not_refused}
 use Rattle.table_words.specs.Table.{Table}
 use Rattle.table_words.specs.Picture.{Shows, Pictures, Proper, node_hash}

@@ -20,7 +20,7 @@ use Rattle.theory.proofs.Tables.{table_agree}
 use Rattle.theory.proofs.Values.{value_ext}
 use Rattle.theory.proofs.WellFormed.{ok_ext}
 use Rattle.settings.proofs.Endings.{pass, not_taken, not_refused}
-use Rattle.settings.specs.declared.refusals.Outcome.{Outcome}
+use Rattle.settings.specs.Refusals.{Outcome}
 use Rattle.table_words.specs.Table.{Table, Regular, nodes, fun_at}
 use Rattle.table_words.specs.Holding.{Layout, Lawful, Holds, Grown, Result, Results, built_all}
 use Rattle.table_words.specs.Picture.{Pictures, Shows, Proper, Becomes}

@@ -10,8 +10,9 @@ use Rattle.theory.specs.Kind.{Kind}
 use Rattle.settings.specs.Refusals.{Cases, Ends, ◌when◌else◌, taken}
 use Rattle.settings.specs.declared.refusals.Refusal.{Refusal}
 use Rattle.settings.specs.declared.refusals.Refusal.TheVariants.{NoRoom}
-use Rattle.settings.specs.declared.refusals.Outcome.{Outcome}
-use Rattle.settings.specs.declared.refusals.Outcome.TheVariants.{Taken, Refused}
+use Rattle.std.specs.Prelude.{Ok, Err}
+use Rattle.settings.specs.Refusals.{Outcome}
+use Rattle.settings.specs.Refusals.{Taken, Refused}
 use Rattle.settings.proofs.Endings.{pass, not_taken, not_refused}
 use Rattle.table_words.specs.Table.{Table, Regular, fun_at}
 use Rattle.table_words.specs.Picture.{Becomes}
@@ -21,8 +22,8 @@ use Rattle.promises.specs.Words.{sizes}
 
 -- how a call ended, taken apart
 pub ended : {A : Type 0} (o : Outcome) → (o ≡ Taken → A) → ((x : Refusal) → o ≡ Refused x → A) → A
-ended Taken f g = f refl
-ended (Refused x) f g = g x refl
+ended (Ok u) f g = f refl
+ended (Err x) f g = g x refl
 
 module _ {K : Kind} where
   -- ---- functions that agree one by one

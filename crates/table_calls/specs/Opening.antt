@@ -5,8 +5,8 @@ use Rattle.theory.specs.Functions.{Fun, zero_fun}
 use Rattle.settings.specs.Refusals.{Ends, ◌when◌else◌, taken}
 use Rattle.settings.specs.declared.refusals.Refusal.{Refusal}
 use Rattle.settings.specs.declared.refusals.Refusal.TheVariants.{BadOpening}
-use Rattle.settings.specs.declared.refusals.Outcome.{Outcome}
-use Rattle.settings.specs.declared.refusals.Outcome.TheVariants.{Taken, Refused}
+use Rattle.settings.specs.Refusals.{Outcome}
+use Rattle.settings.specs.Refusals.{Taken, Refused}
 use Rattle.table_words.specs.Table.{Table}
 use Rattle.table_words.specs.Picture.{Pictures, Proper}
 use Rattle.promises.specs.Tab.{tab}

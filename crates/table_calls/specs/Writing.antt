@@ -8,8 +8,8 @@ use Rattle.theory.specs.Tally.{tally}
 use Rattle.settings.specs.Refusals.{Cases, Ends, ◌when◌else◌, taken}
 use Rattle.settings.specs.declared.refusals.Refusal.{Refusal}
 use Rattle.settings.specs.declared.refusals.Refusal.TheVariants.{NoRoom}
-use Rattle.settings.specs.declared.refusals.Outcome.{Outcome}
-use Rattle.settings.specs.declared.refusals.Outcome.TheVariants.{Taken, Refused}
+use Rattle.settings.specs.Refusals.{Outcome}
+use Rattle.settings.specs.Refusals.{Taken, Refused}
 use Rattle.table_words.specs.Table.{Table, nodes}
 use Rattle.table_words.specs.Picture.{Becomes}
 use Rattle.table_records.specs.Changes.{Rolled}

@@ -6,12 +6,5 @@ ghost use Rattle.promises.specs.State.{Places};
 pub fn are_places(n: usize, places: &[usize]) -> bool
     ensures { Tells result (Places n places.now) }
 {
-    let mut j: usize = 0;
-    while j < places.len() {
-        if n <= places[j] {
-            return false;
-        }
-        j += 1;
-    }
-    true
+    places.iter().all(|place| *place < n)
 }

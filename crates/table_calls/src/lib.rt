@@ -8,6 +8,6 @@ mod matching; // matching.rt: feature lists compared
 mod opening; // opening.rt: a fresh table
 
 pub use door::are_places;
-pub use fitting::{index, setting_fits};
+pub use fitting::setting_fits;
 pub use matching::same_features;
 pub use opening::{can_open, lay};

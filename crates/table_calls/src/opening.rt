@@ -5,25 +5,16 @@ ghost use Rattle.table_calls.specs.Opening.{Cleared, Based, Named, Sized};
 ghost use Rattle.promises.specs.TableDeeds.{Openable};
 
 use settings::features_ok;
-use table_words::{NODES, RECORDS, narrow};
+use table_words::{NODES, RECORDS};
 
 // Whether a table over the feature list with room for capacity nodes can be opened in the words t.
 pub fn can_open(t: &[u32], features: &[u8], capacity: usize) -> bool
     ensures { Tells result (Openable features.now capacity (length t.now)) }
 {
-    if !features_ok(features) {
-        return false;
-    }
-    if capacity < 1 {
-        return false;
-    }
-    if NODES < capacity {
-        return false;
-    }
-    if t.len() < RECORDS + 32 * capacity {
-        return false;
-    }
-    true
+    features_ok(features)
+        && 1 <= capacity
+        && capacity <= NODES
+        && RECORDS + 32 * capacity <= t.len()
 }
 
 // Sets the first n words to 0.
@@ -31,11 +22,7 @@ fn clear(t: &mut [u32], n: usize)
     requires { n ≤ length t.old }
     ensures { Cleared n t.old t.new }
 {
-    let mut j: usize = 0;
-    while j < n {
-        t[j] = 0;
-        j += 1;
-    }
+    t[..n].fill(0);
 }
 
 // Sets the last 16 words of the places to the word of a base.
@@ -43,11 +30,7 @@ fn write_bases(t: &mut [u32], base: u32)
     requires { 64 ≤ length t.old }
     ensures { Based base t.old t.new }
 {
-    let mut p: usize = 0;
-    while p < 16 {
-        t[48 + p] = base;
-        p += 1;
-    }
+    t[48..64].fill(base);
 }
 
 // Writes the sizes into the header.
@@ -55,10 +38,8 @@ fn write_sizes(t: &mut [u32], features: &[u8])
     requires { (length features.now ≤ 16) × (64 ≤ length t.old) }
     ensures { Sized features.now t.old t.new }
 {
-    let mut k: usize = 0;
-    while k < features.len() {
-        t[3 + k] = features[k] as u32;
-        k += 1;
+    for (k, size) in features.iter().enumerate() {
+        t[3 + k] = u32::from(*size);
     }
 }
 
@@ -70,7 +51,7 @@ pub fn lay(t: &mut [u32], kind: u32, base: u32, features: &[u8], capacity: usize
     clear(t, RECORDS + 32 * capacity);
     write_bases(t, base);
     t[0] = kind;
-    t[1] = narrow(capacity);
-    t[2] = narrow(features.len());
+    t[1] = capacity as u32;
+    t[2] = features.len() as u32;
     write_sizes(t, features);
 }

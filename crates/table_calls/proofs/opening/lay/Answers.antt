@@ -1,5 +1,5 @@
 -- `table_calls::opening::lay` meets its contract: cleared, the bases set, then the header written. Assumes nothing.
-use Rattle.std.proofs.Common.{arith}
+use Rattle.std.proofs.Common.{arith, length, refl}
 use mathlib.Core.Path.{◌∙◌}
 use lib.ListN.{length-set}
 use Rattle.table_calls.proofs.Opened.{named}
@@ -19,6 +19,6 @@ shape_of-t c = c.write_sizes.ensures.long ∙ simp length-set (c.write_bases.ens
 
 pub returns : goal.returns
 returns c =
-    named c.args.kind c.narrow.result c.narrow-2.result c.requires
-    c.narrow.ensures c.narrow-2.ensures c.clear.ensures c.write_bases.ensures
+    named c.args.kind c.args.capacity (length c.args.features.now) c.requires
+    refl refl c.clear.ensures c.write_bases.ensures
     c.write_sizes.ensures
