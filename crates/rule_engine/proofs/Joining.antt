@@ -1,4 +1,5 @@
 -- The walk over several operands: one step, features that no operand tests, the forgotten feature, all operands phrases, a shortcut. Assumes nothing.
+use Rattle.std.specs.Prelude.{Option, Some}
 use mathlib.Core.Path.{◌≡◌, refl, sym, ap, subst, ◌∙◌}
 use mathlib.Core.Logic.{⊎_elim}
 use mathlib.Core.List.{List, ◌∷◌}
@@ -23,8 +24,6 @@ use Rattle.table_words.proofs.Tab.{split, same, tab_ext}
 use Rattle.table_words.proofs.Words.{length_sizes, kept_features, kept_size}
 use Rattle.rule_words.proofs.Reading.{decode_phrase}
 use Rattle.rule_nodes.specs.Nodes.{Result, Good, Place, Filling}
-use Rattle.rule_nodes.specs.declared.Answer.{Answer}
-use Rattle.rule_nodes.specs.declared.Answer.TheVariants.{Is}
 use Rattle.rule_nodes.proofs.Reading.{good_small}
 use Rattle.rule_nodes.proofs.Stepping.{top_node, top_good, good_top, child_skip}
 use Rattle.rule_nodes.proofs.Filling.{gives_eq, result_there, built_skip, built_there, mean_result, filling_ext}
@@ -139,7 +138,7 @@ turn_small w f n k l j v p hk hv hj = ⊎_elim
 
 -- ---- results
 -- no operand tests feature k
-joint_skip : (w t : List ℕ) (o f n k m : ℕ) (l : List ℕ) (a : Answer) → Operands w f n k l → Lowest w n l m → k < m →
+joint_skip : (w t : List ℕ) (o f n k m : ℕ) (l : List ℕ) (a : Option ℕ) → Operands w f n k l → Lowest w n l m → k < m →
     Result w t (k + 1) (joint w o f n (k + 1) l) a → Result w t k (joint w o f n k l) a
 joint_skip w t o f n k m l a p q h r =
     let hk : k < features w = omega (arith, q.most) in
@@ -148,18 +147,18 @@ joint_skip w t o f n k m l a p q h r =
     (record { each = λ j b. child_skip w k (listed l j) (turn f k j v) (operand_place w f n k l j p b) (λ e. let z = q.each j b in omega arith) }) s)) r
 
 -- no operand tests a feature below m: from there on, it is the result
-jump_by : (w t : List ℕ) (o f n k m : ℕ) (l : List ℕ) (a : Answer) → Operands w f n k l → Lowest w n l m → (d : ℕ) → k + d ≡ m →
+jump_by : (w t : List ℕ) (o f n k m : ℕ) (l : List ℕ) (a : Option ℕ) → Operands w f n k l → Lowest w n l m → (d : ℕ) → k + d ≡ m →
     Result w t m (joint w o f n m l) a → Result w t k (joint w o f n k l) a
 jump_by w t o f n k m l a p q zero e r = subst (λ (j : ℕ). Result w t j (joint w o f n j l) a) (let z : m ≡ k = omega arith in z) r
 jump_by w t o f n k m l a p q (suc d) e r =
     let h : k < m = omega arith in
     joint_skip w t o f n k m l a p q h (jump_by w t o f n (k + 1) m l a (operands_skip w f n k m l p q h) q d (omega arith) r)
 
-pub joint_jump : (w t : List ℕ) (o f n k m : ℕ) (l : List ℕ) (a : Answer) → Operands w f n k l → Lowest w n l m → Result w t m (joint w o f n m l) a → Result w t k (joint w o f n k l) a
+pub joint_jump : (w t : List ℕ) (o f n k m : ℕ) (l : List ℕ) (a : Option ℕ) → Operands w f n k l → Lowest w n l m → Result w t m (joint w o f n m l) a → Result w t k (joint w o f n k l) a
 joint_jump w t o f n k m l a p q r = let h = lowest_from w f n k m l p q in jump_by w t o f n k m l a p q (m - k) (omega arith) r
 
 -- feature k is forgotten: each operand goes its own way, whatever the value
-pub joint_forget : (w t : List ℕ) (o f n k : ℕ) (l r : List ℕ) (a : Answer) → Operands w f n k l → f ≡ k → k < features w → Next w f n k 0 l r →
+pub joint_forget : (w t : List ℕ) (o f n k : ℕ) (l r : List ℕ) (a : Option ℕ) → Operands w f n k l → f ≡ k → k < features w → Next w f n k 0 l r →
     Result w t (k + 1) (joint w o f n (k + 1) r) a → Result w t k (joint w o f n k l) a
 joint_forget w t o f n k l r a p e hk q y =
     gives_eq (built_skip w k (joint w o f n k l) (joint w o f n (k + 1) r) p.holds hk
@@ -175,7 +174,7 @@ phrases w f n k m l p q h j a = ⊎_elim
     (split (listed l j) 65536)
 
 pub joint_phrases : (w : List ℕ) (o f n k m x : ℕ) (l : List ℕ) → Operands w f n k l → Lowest w n l m → features w ≤ m → x ≡ op_of o (tab (listed l) n) →
-    Result w w k (joint w o f n k l) (Is x)
+    Result w w k (joint w o f n k l) (Some x)
 unfolding joint
 joint_phrases w o f n k m x l p q h e =
     let each = phrases w f n k m l p q h in
@@ -193,7 +192,7 @@ spread_none w f k j s h u v =
     rw (le-ltb f k (omega arith)) (set_out s (f - k) j (omega (arith, valid_length (drop k (sizes w)) s v, length-drop k (sizes w), length_sizes w)))
 
 -- the operator of the words is the result's word
-pub joint_short : (w : List ℕ) (o f n k x : ℕ) (l : List ℕ) → Operands w f n k l → Short o f (listed l 0) (listed l 1) → x ≡ op_of o (tab (listed l) n) → Result w w k (joint w o f n k l) (Is x)
+pub joint_short : (w : List ℕ) (o f n k x : ℕ) (l : List ℕ) → Operands w f n k l → Short o f (listed l 0) (listed l 1) → x ≡ op_of o (tab (listed l) n) → Result w w k (joint w o f n k l) (Some x)
 unfolding joint
 joint_short w o f n k x l p q e = mean_result w k (joint w o f n k l) x p.holds (record { ok = good; says = right })
   where

@@ -1,4 +1,5 @@
 -- The laws of the memory: what is remembered stays right while the table grows, a hit is what `build` gives, and a result may be remembered. Assumes nothing.
+use Rattle.std.specs.Prelude.{Some}
 use mathlib.Core.Path.{◌≡◌, sym, ap, subst, ◌∙◌}
 use mathlib.Core.List.{List}
 use Prim.Native.Nat.{ℕ, ◌+◌, ◌-◌, ◌≤◌, ◌<◌}
@@ -15,7 +16,6 @@ use Rattle.table_words.specs.Words.{listed}
 use Rattle.table_words.proofs.Tab.{tab_ext}
 use Rattle.table_words.proofs.Words.{kept_sizes}
 use Rattle.rule_nodes.specs.Nodes.{Holds, Result, Good}
-use Rattle.rule_nodes.specs.declared.Answer.TheVariants.{Is}
 use Rattle.rule_nodes.proofs.Filling.{result_ext, result_mean, mean_result}
 use Rattle.rule_operators.specs.Operators.{op_of}
 use Rattle.rule_engine.specs.Joint.{spread, joint, Operands}
@@ -57,13 +57,13 @@ module _ (w t : List ℕ) (o f n k : ℕ) (l : List ℕ) (x : ℕ) (ok : Holds w
       record { each = λ j h. ok_ext (nodes w) (nodes t) k (decode (listed l j)) e (each j h); good = y.ok; says = y.says }
 
 -- it is what `build` gives
-recalled_result : (w : List ℕ) (o f n k : ℕ) (l : List ℕ) (x : ℕ) → Holds w → Recalled w o f n k l x → Result w w k (joint w o f n k l) (Is x)
+recalled_result : (w : List ℕ) (o f n k : ℕ) (l : List ℕ) (x : ℕ) → Holds w → Recalled w o f n k l x → Result w w k (joint w o f n k l) (Some x)
 recalled_result w o f n k l x ok c = mean_result w k (joint w o f n k l) x ok (record { ok = c.good; says = c.says })
 
 -- what `build` gave may be remembered
-pub result_recalled : (w t : List ℕ) (o f n k x : ℕ) (l : List ℕ) → Operands w f n k l → Result w t k (joint w o f n k l) (Is x) → Recalled t o f n k l x
+pub result_recalled : (w t : List ℕ) (o f n k x : ℕ) (l : List ℕ) → Operands w f n k l → Result w t k (joint w o f n k l) (Some x) → Recalled t o f n k l x
 result_recalled w t o f n k x l p r =
-    grown w t o f n k l x p.holds (kept_sizes w t r.grown.kept p.holds.laid.laid.few) (result_ext w t k (joint w o f n k l) (Is x) p.holds r) p.each
+    grown w t o f n k l x p.holds (kept_sizes w t r.grown.kept p.holds.laid.laid.few) (result_ext w t k (joint w o f n k l) (Some x) p.holds r) p.each
     (result_mean w t k (joint w o f n k l) x p.holds r)
 
 -- ---- the memory
@@ -89,7 +89,7 @@ module _ (w : List ℕ) (o f n k : ℕ) (l key : List ℕ) (q : Keyed n k l key)
   }
 
   -- a hit is the result
-  pub hit : (s : List ℕ) (x y : ℕ) (r : Memo) → Operands w f n k l → Remembers (n + 1) (Right o f n w) s → Recalls s key r → r ≡ Known x y → Result w w k (joint w o f n k l) (Is x)
+  pub hit : (s : List ℕ) (x y : ℕ) (r : Memo) → Operands w f n k l → Remembers (n + 1) (Right o f n w) s → Recalls s key r → r ≡ Known x y → Result w w k (joint w o f n k l) (Some x)
   hit s x y r p m c e =
       let a : Right o f n w key x y = M.hit key q.long s x y r m c e (omega (arith, q.feature)) in
       recalled_result w o f n k l x p.holds (recalled_like w o f n k (drop 1 key) l x (λ j h. get_or-drop 1 key j 0 ∙ q.operand j h) (a.at k q.feature))

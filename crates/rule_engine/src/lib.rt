@@ -12,7 +12,6 @@ ghost use Rattle.rule_engine.specs.Memory.{answer_of, Noted, Still, StillIf};
 ghost use Rattle.promises.specs.Words.{features};
 
 use operands::{key_of, lowest, operands_at};
-use rule_nodes::Answer;
 use rule_notes::make_in;
 use rule_operators::combine;
 use shortcuts::shortcut;
@@ -78,7 +77,7 @@ fn node_result(
     }
     let mut list = [0u32; 12];
     if fill_branches(t, s, o, f, n, k, ops, &mut list) {
-        let Answer::Is(x) = make_in(t, k, list) else {
+        let Some(x) = make_in(t, k, list) else {
             return NO_ROOM;
         };
         remember_in(t, s, o, &key[0..words], x, 0);
@@ -119,7 +118,7 @@ fn fill_branches(
 }
 
 // The joint rule of the first n operands, built after the table's nodes, with remembered results in s or in the far records, which are 0 again.
-fn join_in(t: &mut [u32], s: &mut [u32], o: u32, f: usize, n: usize, ops: &[u32; 9]) -> Answer
+fn join_in(t: &mut [u32], s: &mut [u32], o: u32, f: usize, n: usize, ops: &[u32; 9]) -> Option<u32>
     requires { (Operands t.old f n 0 ops.now) × (Resting t.old) }
     ensures { Result t.old t.new 0 (joint t.old o f n 0 ops.now) result }
 {
@@ -128,14 +127,14 @@ fn join_in(t: &mut [u32], s: &mut [u32], o: u32, f: usize, n: usize, ops: &[u32;
     let r = rest_result(t, &mut s[0..lent], o, f, n, 0, ops);
     if NO_ROOM <= r {
         clear_far(t);
-        return Answer::NoRoom;
+        return None;
     }
     clear_window(t);
-    Answer::Is(r)
+    Some(r)
 }
 
 // The same; where the scratch and the far records are short, own words stand in for the scratch.
-pub fn join(t: &mut [u32], s: &mut [u32], o: u32, f: usize, n: usize, ops: &[u32; 9]) -> Answer
+pub fn join(t: &mut [u32], s: &mut [u32], o: u32, f: usize, n: usize, ops: &[u32; 9]) -> Option<u32>
     requires { (Operands t.old f n 0 ops.now) × (Resting t.old) }
     ensures { Result t.old t.new 0 (joint t.old o f n 0 ops.now) result }
 {

@@ -1,4 +1,5 @@
 -- The laws of a result built branch by branch (those of every kind), for the list of words that the code fills. Assumes nothing.
+use Rattle.std.specs.Prelude.{Option, None, Some}
 use mathlib.Core.Bool.{Bool, true, false}
 use mathlib.Core.Path.{◌≡◌, refl, sym, ap, ap₂, subst, ◌∙◌}
 use mathlib.Core.List.{List, [], ◌∷◌, ◌++◌}
@@ -21,38 +22,36 @@ use Rattle.table_words.proofs.Tab.{tab_none, tab_snoc, tab_ext, get_or_tab}
 use Rattle.table_words.proofs.Words.{length_sizes, at_sizes, kept_size}
 use Rattle.rule_words.specs.Words.{branches}
 use Rattle.rule_nodes.specs.Nodes.{layout, Holds, told, Gives, Makes, Result, built, Good, Listed, Place, Filling, Stopped, Fills}
-use Rattle.rule_nodes.specs.declared.Answer.{Answer}
-use Rattle.rule_nodes.specs.declared.Answer.TheVariants.{Is, NoRoom}
 use Rattle.rule_nodes.proofs.Reading.{lawful}
 use Rattle.rule_nodes.proofs.Stepping.{place_ext}
 use Rattle.promises.specs.Words.{features, size, sizes}
 use Rattle.promises.specs.RuleWords.{decode, rule_node_list as nodes}
 
 -- ---- answers
-to : {w t : List ℕ} {r : Built} {a : Answer} → Gives w t r a → H.Gives layout w t r (told a)
+to : {w t : List ℕ} {r : Built} {a : Option ℕ} → Gives w t r a → H.Gives layout w t r (told a)
 to g = record { grown = g.grown; answers = g.answers }
 
-from : {w t : List ℕ} {r : Built} {a : Answer} → H.Gives layout w t r (told a) → Gives w t r a
+from : {w t : List ℕ} {r : Built} {a : Option ℕ} → H.Gives layout w t r (told a) → Gives w t r a
 from g = record { grown = g.grown; answers = g.answers }
 
-pub gives_eq : {w t : List ℕ} {r q : Built} {a : Answer} → r ≡ q → Gives w t q a → Gives w t r a
+pub gives_eq : {w t : List ℕ} {r q : Built} {a : Option ℕ} → r ≡ q → Gives w t q a → Gives w t r a
 gives_eq {w} {t} {r} {q} {a} e g = rw e g
 
-pub gives_is : {w t : List ℕ} {r : Built} {a : Answer} {x : ℕ} → a ≡ Is x → Gives w t r a → Gives w t r (Is x)
-gives_is {w} {t} {r} e g = subst (λ (y : Answer). Gives w t r y) e g
+pub gives_is : {w t : List ℕ} {r : Built} {a : Option ℕ} {x : ℕ} → a ≡ Some x → Gives w t r a → Gives w t r (Some x)
+gives_is {w} {t} {r} e g = subst (λ (y : Option ℕ). Gives w t r y) e g
 
-pub gives_none : {w t : List ℕ} {r : Built} {a : Answer} → a ≡ NoRoom → Gives w t r a → Gives w t r NoRoom
-gives_none {w} {t} {r} e g = subst (λ (y : Answer). Gives w t r y) e g
+pub gives_none : {w t : List ℕ} {r : Built} {a : Option ℕ} → a ≡ None → Gives w t r a → Gives w t r None
+gives_none {w} {t} {r} e g = subst (λ (y : Option ℕ). Gives w t r y) e g
 
 -- the nodes of w are still the first after any answer
-pub result_ext : (w t : List ℕ) (k : ℕ) (g : Rule) (a : Answer) → Holds w → Result w t k g a → Ext (nodes w) (nodes t)
+pub result_ext : (w t : List ℕ) (k : ℕ) (g : Rule) (a : Option ℕ) → Holds w → Result w t k g a → Ext (nodes w) (nodes t)
 result_ext w t k g a ok r = F.grown_ext lawful w t (built w k g).1 ok r.grown (F.built_ext lawful w k g)
 
-pub result_agree : (w t : List ℕ) (k : ℕ) (g h : Rule) (a : Answer) → ((s : List ℕ) → g s ≡ h s) → Result w t k h a → Result w t k g a
+pub result_agree : (w t : List ℕ) (k : ℕ) (g h : Rule) (a : Option ℕ) → ((s : List ℕ) → g s ≡ h s) → Result w t k h a → Result w t k g a
 result_agree w t k g h a e r = from (F.result_agree lawful w t k g h (told a) e (to r))
 
 -- the branch is there already
-pub result_there : (w : List ℕ) (k x : ℕ) (g : Rule) → Holds w → built w k g ≡ (decode x, nodes w) → Result w w k g (Is x)
+pub result_there : (w : List ℕ) (k x : ℕ) (g : Rule) → Holds w → built w k g ≡ (decode x, nodes w) → Result w w k g (Some x)
 result_there w k x g ok e = from (F.result_there lawful w k (decode x) g ok e)
 
 -- ---- what is built
@@ -81,11 +80,11 @@ built_jump w (suc k) G ok h e =
 
 -- ---- results remembered
 -- what a result tells may be remembered
-pub result_mean : (w t : List ℕ) (k : ℕ) (g : Rule) (x : ℕ) → Holds w → Result w t k g (Is x) → Mean (nodes t) k (drop k (sizes w)) (decode x) g
+pub result_mean : (w t : List ℕ) (k : ℕ) (g : Rule) (x : ℕ) → Holds w → Result w t k g (Some x) → Mean (nodes t) k (drop k (sizes w)) (decode x) g
 result_mean w t k g x ok r = F.result_mean lawful w t k g (decode x) ok (to r)
 
 -- and what is remembered is the result
-pub mean_result : (w : List ℕ) (k : ℕ) (g : Rule) (x : ℕ) → Holds w → Mean (nodes w) k (drop k (sizes w)) (decode x) g → Result w w k g (Is x)
+pub mean_result : (w : List ℕ) (k : ℕ) (g : Rule) (x : ℕ) → Holds w → Mean (nodes w) k (drop k (sizes w)) (decode x) g → Result w w k g (Some x)
 mean_result w k g x ok m = from (F.mean_result lawful w k g (decode x) ok m)
 
 -- ---- branch by branch
@@ -109,8 +108,8 @@ module _ (w : List ℕ) (k : ℕ) (g : Rule) (ok : Holds w) (hk : k < features w
       (ap decode (get_or-set_same l v x 0 h)))
 
   -- the call for branch v answered x
-  pub fill_more : (t t' : List ℕ) (v x : ℕ) (l : List ℕ) (h : Rule) (a : Answer) → Filling w t k g v l → v < size w k → ((s : List ℕ) → held v g s ≡ h s)
-      → Result t t' (k + 1) h a → a ≡ Is x → Filling w t' k g (v + 1) (set l v x)
+  pub fill_more : (t t' : List ℕ) (v x : ℕ) (l : List ℕ) (h : Rule) (a : Option ℕ) → Filling w t k g v l → v < size w k → ((s : List ℕ) → held v g s ≡ h s)
+      → Result t t' (k + 1) h a → a ≡ Some x → Filling w t' k g (v + 1) (set l v x)
   fill_more t t' v x l h a f lt e r is =
       let m : v < 12 = omega (arith, ok.laid.laid.large k hk) in
       record {
@@ -121,12 +120,12 @@ module _ (w : List ℕ) (k : ℕ) (g : Rule) (ok : Holds w) (hk : k < features w
       }
 
   -- it found no room
-  pub fill_stop : (t t' : List ℕ) (v : ℕ) (l : List ℕ) (h : Rule) (a : Answer) → Filling w t k g v l → v < size w k → ((s : List ℕ) → held v g s ≡ h s)
-      → Result t t' (k + 1) h a → a ≡ NoRoom → Stopped w t' k g
+  pub fill_stop : (t t' : List ℕ) (v : ℕ) (l : List ℕ) (h : Rule) (a : Option ℕ) → Filling w t k g v l → v < size w k → ((s : List ℕ) → held v g s ≡ h s)
+      → Result t t' (k + 1) h a → a ≡ None → Stopped w t' k g
   fill_stop t t' v l h a f lt e r is =
       F.fill_stop lawful w k g ok hs t t' v (branches v (listed l)) h f.filled (omega (arith, at_sizes w k hk)) e (to (gives_none is r))
 
-  pub stop_result : (t : List ℕ) → Stopped w t k g → Result w t k g NoRoom
+  pub stop_result : (t : List ℕ) → Stopped w t k g → Result w t k g None
   stop_result t s = from (F.stop_result lawful w k g ok hs t s)
 
   full : (t l : List ℕ) → Filling w t k g (size w k) l → H.Filled layout w t k g (get_or (sizes w) k 0) (branches (size w k) (listed l))
@@ -144,7 +143,7 @@ module _ (w : List ℕ) (k : ℕ) (g : Rule) (ok : Holds w) (hk : k < features w
       }
 
   -- and its answer is the result
-  pub fill_make : (t t' : List ℕ) (l : List ℕ) (a : Answer) → Filling w t k g (size w k) l → Makes t t' k l a → Result w t' k g a
+  pub fill_make : (t t' : List ℕ) (l : List ℕ) (a : Option ℕ) → Filling w t k g (size w k) l → Makes t t' k l a → Result w t' k g a
   fill_make t t' l a f m =
       let s : size t k ≡ size w k = kept_size w t f.filled.grown.kept ok.laid.laid.few k hk in
       let y : Gives t t' (make k (branches (size w k) (listed l)) (nodes t)) a = rw s at m in

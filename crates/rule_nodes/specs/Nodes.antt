@@ -1,6 +1,6 @@
 -- Contract between layers: a rule table as the holder of a node list: the unique search, the making of a node, steps down a diagram, and the contract of what adds nodes. Assumes nothing.
-use Rattle.std.specs.Prelude.{Bool, true, false, ◌≡◌, List, ℕ, ◌-◌, ◌≤◌, ◌<◌, ltb, length, get_or}
-use Rattle.std.proofs.Math.Option.{Option, none, some}
+use Rattle.std.specs.Prelude.{Option, None, Some, Bool, true, false, ◌≡◌, List, ℕ, ◌-◌, ◌≤◌, ◌<◌, ltb, length, get_or}
+use Rattle.std.proofs.Math.Option.{Option as MathOption, none, some}
 use Rattle.theory.specs.Build.{make}
 use Rattle.theory.specs.Rules.{rules, Branch, Node, Rule, Built}
 use Rattle.theory.specs.WellFormed.{Ok}
@@ -9,10 +9,7 @@ use Rattle.table_words.specs.Words.{listed}
 use Rattle.table_records.specs.Nodes as R
 use Rattle.rule_words.specs.Table.{rule_table}
 use Rattle.rule_words.specs.Words.{branches, branch_of, Worded}
-use Rattle.rule_nodes.specs.declared.Found.{Found}
-use Rattle.rule_nodes.specs.declared.Found.TheVariants.{At, Missing}
-use Rattle.rule_nodes.specs.declared.Answer.{Answer}
-use Rattle.rule_nodes.specs.declared.Answer.TheVariants.{Is, NoRoom}
+use Rattle.rule_words.specs.declared.Branch.{Branch as CodeBranch}
 use Rattle.promises.specs.Words.{capacity, features, size, sizes, feature, pick}
 use Rattle.promises.specs.RuleWords.{decode, rule_node_list as nodes}
 
@@ -33,17 +30,17 @@ built w k g = H.built layout w k g
 
 -- ---- the contract of every function that adds nodes
 -- the branch that an answer tells, if it tells one
-abbrev pub told : Answer → Option Branch
-told (Is x) = some (decode x)
-told NoRoom = none
+abbrev pub told : Option ℕ → MathOption Branch
+told (Some x) = some (decode x)
+told None = none
 
 -- the table afterwards, and the answer, are those of the branch and the node list r
-pub record Gives (w w' : List ℕ) (r : Built) (a : Answer) : Type 0 where
+pub record Gives (w w' : List ℕ) (r : Built) (a : Option ℕ) : Type 0 where
   pub grown : Grown w w' r.1
   pub answers : H.Answers layout (capacity w) r (told a)
 
 -- THE CONTRACT of every function that adds nodes to a rule table
-abbrev pub Result : List ℕ → List ℕ → ℕ → Rule → Answer → Type 0
+abbrev pub Result : List ℕ → List ℕ → ℕ → Rule → Option ℕ → Type 0
 Result w w' k g a = Gives w w' (built w k g) a
 
 -- ---- one node
@@ -59,13 +56,13 @@ Listed w k l = R.Listed rule_table w k l
 pub record AllSame (m : ℕ) (l : List ℕ) : Type 0 where
   pub each : (v : ℕ) → v < m → listed l v ≡ listed l 0
 
--- the unique search is right: what it found is what `make` gives, and it says missing only where `make` adds a node
-abbrev pub Finds : List ℕ → ℕ → List ℕ → Found → Type 0
-Finds w k l (At b) = (make k (branches (size w k) (listed l)) (nodes w) ≡ (branch_of b, nodes w)) × (Worded b)
-Finds w k l Missing = R.Absent rule_table w k l
+-- the unique search is right: what it found is what `make` gives, and it says none only where `make` adds a node
+abbrev pub Finds : List ℕ → ℕ → List ℕ → Option CodeBranch → Type 0
+Finds w k l (Some b) = (make k (branches (size w k) (listed l)) (nodes w) ≡ (branch_of b, nodes w)) × (Worded b)
+Finds w k l None = R.Absent rule_table w k l
 
 -- the answer and the table are those of `make` with the list's branches
-abbrev pub Makes : List ℕ → List ℕ → ℕ → List ℕ → Answer → Type 0
+abbrev pub Makes : List ℕ → List ℕ → ℕ → List ℕ → Option ℕ → Type 0
 Makes w w' k l a = Gives w w' (make k (branches (size w k) (listed l)) (nodes w)) a
 
 -- ---- steps down a diagram

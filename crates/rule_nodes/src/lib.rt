@@ -11,66 +11,41 @@ ghost use Rattle.promises.specs.RuleWords.{decode, rule_node_list as nodes};
 
 use rule_words::{Branch, NUMBERS, branch_at, branch_word};
 use table_records::{find_record, push};
-use table_words::{capacity_word, count_word, features_word, narrow, record_word, size_word, wide};
-
-// The answer of the unique search: the branch that is there, or that its node must be made.
-#[derive(Clone, Copy)]
-pub enum Found {
-    At(Branch),
-    Missing,
-}
-
-// The answer of a function that may add nodes: the branch word, or that there was no room.
-#[derive(Clone, Copy)]
-pub enum Answer {
-    Is(u32),
-    NoRoom,
-}
+use table_words::{capacity_word, count_word, features_word, record_word, size_word};
 
 // Whether the first m of the list are all equal to the first.
 fn all_same(list: [u32; 12], m: usize) -> bool
     requires { m ≤ 12 }
     ensures { Tells result (AllSame m list) }
 {
-    let first = list[0];
-    let mut v: usize = 0;
-    while v < m {
-        if list[v] != first {
-            return false;
-        }
-        v += 1;
-    }
-    true
+    list[..m].iter().all(|word| *word == list[0])
 }
 
 // The unique search: the branch that has the list's branches at feature k. Equal branches need no node.
-pub fn find(t: &[u32], k: usize, list: [u32; 12]) -> Found
+pub fn find(t: &[u32], k: usize, list: [u32; 12]) -> Option<Branch>
     requires { (Holds t.now) × (k < features t.now) × (Listed t.now k list) }
     ensures { Finds t.now k list result }
 {
-    if all_same(list, wide(size_word(t, k))) {
-        return Found::At(branch_at(list[0]));
+    if all_same(list, size_word(t, k) as usize) {
+        return Some(branch_at(list[0]));
     }
-    let c = find_record(t, k, list);
-    if 0 < c {
-        return Found::At(Branch::Node(narrow(c - 1)));
-    }
-    Found::Missing
+    let i = find_record(t, k, list)?;
+    Some(Branch::Node(i as u32))
 }
 
 // The branch that has the list's branches at feature k; its node is made where there is none.
-pub fn make(t: &mut [u32], k: usize, list: [u32; 12]) -> Answer
+pub fn make(t: &mut [u32], k: usize, list: [u32; 12]) -> Option<u32>
     requires { (Holds t.old) × (k < features t.old) × (Listed t.old k list) }
     ensures { Makes t.old t.new k list result }
 {
-    let Found::At(b) = find(t, k, list) else {
+    let Some(b) = find(t, k, list) else {
         if count_word(t) < capacity_word(t) {
-            let i = narrow(push(t, k, list, 0, 0));
-            return Answer::Is(branch_word(Branch::Node(i)));
+            let i = push(t, k, list, 0, 0) as u32;
+            return Some(branch_word(Branch::Node(i)));
         }
-        return Answer::NoRoom;
+        return None;
     };
-    Answer::Is(branch_word(b))
+    Some(branch_word(b))
 }
 
 // The feature at the top of a branch; of a phrase, the number of features.
@@ -79,9 +54,9 @@ pub fn top_of(t: &[u32], b: u32) -> usize
     ensures { result ≡ top t.now b }
 {
     if b < NUMBERS {
-        wide(features_word(t))
+        features_word(t) as usize
     } else {
-        wide(record_word(t, wide(b - NUMBERS), 0))
+        record_word(t, (b - NUMBERS) as usize, 0) as usize
     }
 }
 
@@ -91,7 +66,7 @@ pub fn child_of(t: &[u32], k: usize, b: u32, v: usize) -> u32
     ensures { decode result ≡ next (nodes t.now) k (decode b) v }
 {
     if top_of(t, b) == k {
-        record_word(t, wide(b - NUMBERS), 1 + v)
+        record_word(t, (b - NUMBERS) as usize, 1 + v)
     } else {
         b
     }

@@ -1,4 +1,5 @@
 -- What a rule table says is what its words without notes say, and `make` adds to these. Assumes nothing.
+use Rattle.std.specs.Prelude.{Option}
 use mathlib.Core.Path.{◌≡◌, sym, ◌∙◌}
 use mathlib.Core.Logic.{⊎_elim}
 use mathlib.Core.List.{List}
@@ -11,7 +12,6 @@ use Rattle.table_notes.proofs.Alike as N
 use Rattle.table_notes.proofs.Alike.{Like, plain_like, like_sym, like_head, like_laid, like_size, like_record, plain_grown}
 use Rattle.rule_words.proofs.Regular.{regular}
 use Rattle.rule_nodes.specs.Nodes.{Holds, Makes, Listed, Place, top}
-use Rattle.rule_nodes.specs.declared.Answer.{Answer}
 use Rattle.rule_nodes.proofs.Stepping.{top_phrase, top_node}
 use Rattle.promises.specs.Words.{head, capacity, features, size, count}
 use Rattle.promises.specs.RuleWords.{rule_node_list as nodes}
@@ -66,7 +66,7 @@ module _ (w : List ℕ) where
   noted_listed k l ok h li = like_listed with_notes ok k l h li
 
 -- ---- what adds nodes adds them to the words without notes
-pub plain_makes : (t t' : List ℕ) (k : ℕ) (l : List ℕ) (a : Answer) → Holds t → k < features t → Makes t t' k l a → Makes (plain t) (plain t') k l a
+pub plain_makes : (t t' : List ℕ) (k : ℕ) (l : List ℕ) (a : Option ℕ) → Holds t → k < features t → Makes t t' k l a → Makes (plain t) (plain t') k l a
 plain_makes t t' k l a ok h g =
     let n = like_nodes (plain_like t) ok in
     let s : size (plain t) k ≡ size t k = like_size (plain_like t) ok.laid.laid k h in

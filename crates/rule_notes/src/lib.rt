@@ -10,7 +10,7 @@ ghost use Rattle.rule_nodes.specs.Nodes.{Holds, Listed, Makes, top, Place};
 ghost use Rattle.promises.specs.Words.{features, size, count};
 ghost use Rattle.promises.specs.RuleWords.{decode, rule_node_list as nodes};
 
-use rule_nodes::{Answer, child_of, make, top_of};
+use rule_nodes::{child_of, make, top_of};
 
 // The feature at the top of a branch; of a phrase, the number of features.
 pub fn top_in(t: &[u32], b: u32) -> usize
@@ -29,7 +29,7 @@ pub fn child_in(t: &[u32], k: usize, b: u32, v: usize) -> u32
 }
 
 // The branch that has these branches at feature k; what is remembered stays.
-pub fn make_in(t: &mut [u32], k: usize, list: [u32; 12]) -> Answer
+pub fn make_in(t: &mut [u32], k: usize, list: [u32; 12]) -> Option<u32>
     requires { (Roomy t.old) × (Holds (plain t.old)) × (k < features (plain t.old)) × (Listed (plain t.old) k list) }
     ensures { (Makes (plain t.old) (plain t.new) k list result) × (Aside t.old t.new) }
 {

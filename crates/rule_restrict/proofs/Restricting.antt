@@ -1,4 +1,5 @@
 -- The laws of restrict on a table: features that the branch does not test are passed over, the held feature's branch is taken, any other feature is built branch by branch. Assumes nothing.
+use Rattle.std.specs.Prelude.{Option, Some}
 use mathlib.Core.Path.{◌≡◌, refl, sym, ap, ◌∙◌}
 use mathlib.Core.List.{List}
 use Prim.Native.Nat.{ℕ, suc, ◌+◌, ◌-◌, ◌≤◌, ◌<◌}
@@ -14,8 +15,6 @@ use Rattle.theory.specs.WellFormed.{Ok}
 use Rattle.theory.proofs.Values.{next_ok, value_next, value_wait, value_ext, next_ext}
 use Rattle.theory.proofs.WellFormed.{under_weaken}
 use Rattle.rule_nodes.specs.Nodes.{Holds, Result, built, Good, Place, top}
-use Rattle.rule_nodes.specs.declared.Answer.{Answer}
-use Rattle.rule_nodes.specs.declared.Answer.TheVariants.{Is}
 use Rattle.rule_nodes.proofs.Filling.{gives_eq, result_there, built_skip, built_jump, built_there}
 use Rattle.rule_nodes.proofs.Reading.{good_small}
 use Rattle.rule_nodes.proofs.Stepping.{top_good, good_next}
@@ -44,7 +43,7 @@ module _ (w : List ℕ) (b f x : ℕ) (p : Place w 0 b) (hf : f < features w) wh
   place_at k h l = record { holds = p.holds; good = good_at k h; up_to = omega arith }
 
   -- what tests nothing below f goes to its branch x of f
-  pub restr_here : (c : ℕ) → f ≤ top w b → decode c ≡ next (nodes w) f (decode b) x → Result w w 0 (restr w 0 b f x) (Is c)
+  pub restr_here : (c : ℕ) → f ≤ top w b → decode c ≡ next (nodes w) f (decode b) x → Result w w 0 (restr w 0 b f x) (Some c)
   restr_here c h d =
       let q : Place w f b = place_at f h (le_refl f) in
       let z : f - f ≡ 0 = omega arith in
@@ -65,9 +64,9 @@ module _ (w : List ℕ) (b f x : ℕ) (p : Place w 0 b) (hf : f < features w) wh
         ∙ sym (value_ext (sizes w) (nodes w) (nodes t) (suc k) (next (nodes w) k (decode b) v) (set s (f - suc k) x) p.holds.wf e (next_ok (sizes w) (nodes w) p.holds.wf k (decode b) v g)))
 
     -- the result at b's own feature is the result
-    pub restr_from : (t : List ℕ) (a : Answer) → Result w t k (restr w k b f x) a → Result w t 0 (restr w 0 b f x) a
+    pub restr_from : (t : List ℕ) (a : Option ℕ) → Result w t k (restr w k b f x) a → Result w t 0 (restr w 0 b f x) a
     restr_from t a r = gives_eq (jump w b f x k p.holds hf (omega arith) (good_at k hk)) r
 
 -- the result of a branch of feature k, from k + 1 on
-pub restr_next : (w t : List ℕ) (k c f x : ℕ) (a : Answer) → Place w (k + 1) c → f < features w → k < f → Result w t 0 (restr w 0 c f x) a → Result w t (k + 1) (restr w (k + 1) c f x) a
+pub restr_next : (w t : List ℕ) (k c f x : ℕ) (a : Option ℕ) → Place w (k + 1) c → f < features w → k < f → Result w t 0 (restr w 0 c f x) a → Result w t (k + 1) (restr w (k + 1) c f x) a
 restr_next w t k c f x a p hf lt r = gives_eq (sym (jump w c f x (k + 1) p.holds hf (omega arith) p.good)) r

@@ -1,4 +1,5 @@
 -- The steps of the walk, in turn: what each asks and what it leaves, read with and without the notes. Assumes nothing.
+use Rattle.std.specs.Prelude.{Option, None, Some}
 use mathlib.Core.Path.{◌≡◌, sym, subst, ◌∙◌}
 use mathlib.Core.List.{List}
 use Prim.Native.Nat.{ℕ, ◌+◌, ◌-◌, ◌≤◌, ◌<◌}
@@ -16,8 +17,6 @@ use Rattle.table_words.proofs.Filling.{grown_ext}
 use Rattle.table_words.proofs.Words.{kept_features, kept_capacity, kept_size, kept_sizes}
 use Rattle.rule_words.proofs.Reading.{length_nodes}
 use Rattle.rule_nodes.specs.Nodes.{Holds, Result, Makes, Listed, Place, Filling, top}
-use Rattle.rule_nodes.specs.declared.Answer.{Answer}
-use Rattle.rule_nodes.specs.declared.Answer.TheVariants.{Is, NoRoom}
 use Rattle.rule_nodes.proofs.Filling.{fill_start, fill_more, fill_stop, stop_result, fill_listed, fill_make, filling_ext, filling_place, result_ext, result_mean, mean_result}
 use Rattle.rule_nodes.proofs.Reading.{lawful, good_small}
 use Rattle.rule_nodes.proofs.Stepping.{is_node, good_top, top_good, place_next}
@@ -78,7 +77,7 @@ module _ (w : List ℕ) (b f x : ℕ) (q : Walks w b f x) where
   pub asks_here : f ≤ top w b → Place w f b
   asks_here h = like_place (like_sym (plain_like w)) ok_p f b (place_at P b f x q.place q.known f (omega (arith, walk_top)) (le_refl f))
 
-  pub walked_here : (c : ℕ) → f ≤ top w b → decode c ≡ next (nodes w) f (decode b) x → Walked w w b f x (Is c)
+  pub walked_here : (c : ℕ) → f ≤ top w b → decode c ≡ next (nodes w) f (decode b) x → Walked w w b f x (Some c)
   walked_here c h d =
       let n = like_nodes (plain_like w) walk_holds in
       record { result = restr_here P b f x q.place q.known c (omega (arith, walk_top)) (rw n d); noted = q.noted }
@@ -110,11 +109,11 @@ module _ (w : List ℕ) (b f x : ℕ) (q : Walks w b f x) where
     size_here = plain_size w k (omega (arith, hk, ok_p.laid.laid.few))
 
     -- it is known already
-    pub walked_known : (c : ℕ) → c ≡ note w i → 0 < c → Walked w w b f x (Is (c - 1))
-    walked_known c d h =
+    pub walked_known : (r : ℕ) → note w i ≡ r + 1 → Walked w w b f x (Some r)
+    walked_known r d =
         let m = q.noted.right i in_use (omega arith) in
-        let m' : Mean (nodes P) 0 (sizes P) (decode (c - 1)) (restr P 0 (65536 + i) f x) = rw d m in
-        record { result = mean_result P 0 (restr P 0 b f x) (c - 1) ok_p (rw whose at m'); noted = q.noted }
+        let e : note w i - 1 ≡ r = omega arith in
+        record { result = mean_result P 0 (restr P 0 b f x) r ok_p (rw (e, whose) at m); noted = q.noted }
 
     pub loop_start : (l : List ℕ) → length l ≡ 12 → ((u : ℕ) → u < 12 → listed l u ≡ 0) → Filling P P k g 0 l
     loop_start = fill_start P k g ok_p hk
@@ -179,20 +178,20 @@ module _ (w : List ℕ) (b f x : ℕ) (q : Walks w b f x) where
           omega (arith, good_top T (k + 1) c p.good p.up_to, loop_features, hk, plain_features w)
 
       -- the call for branch v answered
-      module _ (t' : List ℕ) (c : ℕ) (a : Answer) (h : v < size w k) (d : decode c ≡ next (nodes t) k (decode b) v) (y : Walked t t' c f x a) where
+      module _ (t' : List ℕ) (c : ℕ) (a : Option ℕ) (h : v < size w k) (d : decode c ≡ next (nodes t) k (decode b) v) (y : Walked t t' c f x a) where
         same_part : (s : List ℕ) → held v g s ≡ restr T (k + 1) c f x s
         same_part = restr_held P b f x q.place q.known k up lt T v c (filling_ext P k g ok_p hk T v l fl) (loop_next c d)
 
         part : Result T (plain t') (k + 1) (restr T (k + 1) c f x) a
         part = restr_next T (plain t') k c f x a (place_c c d) known_t lt y.result
 
-        pub loop_more : (r : ℕ) → a ≡ Is r → Filling P (plain t') k g (v + 1) (set l v r)
+        pub loop_more : (r : ℕ) → a ≡ Some r → Filling P (plain t') k g (v + 1) (set l v r)
         loop_more r is = fill_more P k g ok_p hk T (plain t') v r l (restr T (k + 1) c f x) a fl (omega (arith, size_here)) same_part part is
 
-        pub loop_stop : a ≡ NoRoom → Walked w t' b f x NoRoom
+        pub loop_stop : a ≡ None → Walked w t' b f x None
         loop_stop is =
             record {
-              result = restr_from P b f x q.place q.known k up lt (plain t') NoRoom
+              result = restr_from P b f x q.place q.known k up lt (plain t') None
                   (stop_result P k g ok_p hk (plain t') (fill_stop P k g ok_p hk T (plain t') v l (restr T (k + 1) c f x) a fl (omega (arith, size_here)) same_part part is));
               noted = y.noted;
             }
@@ -209,9 +208,9 @@ module _ (w : List ℕ) (b f x : ℕ) (q : Walks w b f x) where
           like_listed (like_sym (plain_like t)) ok_t k l (omega (arith, hk, kept_features P T kept)) (fill_listed P k g ok_p hk T l full),
         )
 
-        pub made : (t' : List ℕ) (z a : Answer) → z ≡ a → Makes t t' k l z → Walked w t' b f x a
+        pub made : (t' : List ℕ) (z a : Option ℕ) → z ≡ a → Makes t t' k l z → Walked w t' b f x a
         made t' z a is o =
-            let m : Makes t t' k l a = subst (λ (y : Answer). Makes t t' k l y) is o in
+            let m : Makes t t' k l a = subst (λ (y : Option ℕ). Makes t t' k l y) is o in
             let ok = holds_back t ok_t in
             let y : Makes T (plain t') k l a = plain_makes t t' k l a ok asks_make.1 m in
             record {
@@ -223,10 +222,10 @@ module _ (w : List ℕ) (b f x : ℕ) (q : Walks w b f x) where
             }
 
   -- ---- the result
-  pub walked_room : (t : List ℕ) (a : Answer) → Walked w t b f x a → Roomy t
+  pub walked_room : (t : List ℕ) (a : Option ℕ) → Walked w t b f x a → Roomy t
   walked_room t a y = room_kept w t q.room y.result.grown.kept
 
-  module _ (t : List ℕ) (r : ℕ) (y : Walked w t b f x (Is r)) where
+  module _ (t : List ℕ) (r : ℕ) (y : Walked w t b f x (Some r)) where
     okt : Holds (plain t)
     okt = y.result.grown.well
 
@@ -239,11 +238,11 @@ module _ (w : List ℕ) (b f x : ℕ) (q : Walks w b f x) where
     walked_small = omega (arith, good_small (plain t) 0 r meant.ok, okt.laid.laid.within, okt.laid.laid.most)
 
     room : Roomy t
-    room = walked_room t (Is r) y
+    room = walked_room t (Some r) y
 
     walked_within : (count w ≤ count t) × (count t ≤ capacity t)
     walked_within = (
-      omega (arith, ext_le (result_ext P (plain t) 0 (restr P 0 b f x) (Is r) ok_p y.result), length_nodes P, length_nodes (plain t), plain_count w, plain_count t),
+      omega (arith, ext_le (result_ext P (plain t) 0 (restr P 0 b f x) (Some r) ok_p y.result), length_nodes P, length_nodes (plain t), plain_count w, plain_count t),
       (holds_back t okt).laid.laid.within,
     )
 
@@ -251,10 +250,10 @@ module _ (w : List ℕ) (b f x : ℕ) (q : Walks w b f x) where
       pub walked_in : i < capacity t
       walked_in = omega (arith, walked_within.0, walked_within.1)
 
-      pub walked_put : Walked w (set t (note_at t i) (r + 1)) b f x (Is r)
+      pub walked_put : Walked w (set t (note_at t i) (r + 1)) b f x (Some r)
       walked_put =
           let e : plain (set t (note_at t i) (r + 1)) ≡ plain t = put_plain t i (r + 1) room walked_in in
-          let x' = result_ext P (plain t) 0 (restr P 0 b f x) (Is r) ok_p y.result in
+          let x' = result_ext P (plain t) 0 (restr P 0 b f x) (Some r) ok_p y.result in
           record {
             result = rw e y.result;
             noted = noted_put t i r f x room walked_within.1 (omega (arith, walked_within.0)) y.noted
@@ -276,8 +275,8 @@ holding_walks w b f x h =
       noted = noted_none w f x d.within h.rest;
     }
 
-pub walked_asks : (w t : List ℕ) (b f x : ℕ) (a : Answer) → Walks w b f x → Walked w t b f x a → (Roomy t) × (count t ≤ capacity t) × (Only t 0 (count t))
+pub walked_asks : (w t : List ℕ) (b f x : ℕ) (a : Option ℕ) → Walks w b f x → Walked w t b f x a → (Roomy t) × (count t ≤ capacity t) × (Only t 0 (count t))
 walked_asks w t b f x a q y = (walked_room w b f x q t a y, (holds_back t y.result.grown.well).laid.laid.within, y.noted.only)
 
-pub walked_result : (w t : List ℕ) (b f x : ℕ) (a : Answer) → Holding w b f x → Walked w t b f x a → Result w (plain t) 0 (restr w 0 b f x) a
+pub walked_result : (w t : List ℕ) (b f x : ℕ) (a : Option ℕ) → Holding w b f x → Walked w t b f x a → Result w (plain t) 0 (restr w 0 b f x) a
 walked_result w t b f x a h y = subst (λ (u : List ℕ). Result u (plain t) 0 (restr u 0 b f x) a) (plain_of w h.rest) y.result

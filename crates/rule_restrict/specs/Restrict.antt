@@ -1,10 +1,9 @@
 -- Contract between layers: restrict: a feature held at a value; what the walk asks, remembers and gives. Assumes nothing.
-use Rattle.std.specs.Prelude.{List, ℕ, ◌+◌, ◌*◌, ◌-◌, ◌≤◌, ◌<◌, length, set}
+use Rattle.std.specs.Prelude.{Option, List, ℕ, ◌+◌, ◌*◌, ◌-◌, ◌≤◌, ◌<◌, length, set}
 use Rattle.theory.specs.Diagrams.{value}
 use Rattle.theory.specs.Rules.{Rule}
 use Rattle.theory.specs.WellFormed.{Mean}
 use Rattle.rule_nodes.specs.Nodes.{Holds, Good, Place, Result}
-use Rattle.rule_nodes.specs.declared.Answer.{Answer}
 use Rattle.table_notes.specs.Plain.{Roomy, plain}
 use Rattle.rule_restrict.specs.Notes.{note, Only}
 use Rattle.promises.specs.Words.{capacity, features, size, sizes, count, bound, Zeros}
@@ -38,6 +37,6 @@ pub record Walks (w : List ℕ) (b f x : ℕ) : Type 0 where
   pub noted : Noted w f x
 
 -- the branch is that of the result, and what is noted is still right
-pub record Walked (w w' : List ℕ) (b f x : ℕ) (a : Answer) : Type 0 where
+pub record Walked (w w' : List ℕ) (b f x : ℕ) (a : Option ℕ) : Type 0 where
   pub result : Result (plain w) (plain w') 0 (restr (plain w) 0 b f x) a
   pub noted : Noted w' f x

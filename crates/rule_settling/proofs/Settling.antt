@@ -1,4 +1,5 @@
 -- The end of every call that builds a rule (the laws of every kind): what was built and settled is a written rule, or the table is as it was. Assumes nothing.
+use Rattle.std.specs.Prelude.{Option, None, Some}
 use mathlib.Core.Path.{◌≡◌, refl, sym, subst}
 use mathlib.Core.List.{List}
 use Prim.Native.Nat.{ℕ, ◌<◌}
@@ -17,8 +18,6 @@ use Rattle.table_calls.proofs.Sounding.{tested_holds}
 pub use Rattle.table_calls.proofs.Theorems.{puts_agree, puts_one, write_pass}
 use Rattle.rule_words.specs.Picture.{Becomes}
 use Rattle.rule_nodes.specs.Nodes.{layout, Holds, Gives, Result, told}
-use Rattle.rule_nodes.specs.declared.Answer.{Answer}
-use Rattle.rule_nodes.specs.declared.Answer.TheVariants.{Is, NoRoom as Full}
 use Rattle.rule_nodes.proofs.Filling.{result_mean}
 use Rattle.rule_nodes.proofs.Reading.{lawful}
 use Rattle.rule_words.proofs.Regular.{regular}
@@ -37,22 +36,22 @@ pub exceeds_agree : {w : List ℕ} {g h : Rule} → Sound w → Agree (sizes w) 
 exceeds_agree s e x = C.exceeds_agree regular (sound_tested s) e x
 
 -- the contract as that of every kind
-gives : {w t : List ℕ} {q : Built} {a : Answer} → Gives w t q a → H.Gives layout w t q (told a)
+gives : {w t : List ℕ} {q : Built} {a : Option ℕ} → Gives w t q a → H.Gives layout w t q (told a)
 gives r = record { grown = r.grown; answers = r.answers }
 
 -- `settle` may be asked
-pub settle_asks : {w t : List ℕ} {p n : ℕ} (g : Rule) (a : Answer) → Sound w → Result w t 0 g a → p < 32 → n ≡ count w → Asks p n t a
-settle_asks {w} {t} {p} g (Is b) s r hp e =
+pub settle_asks : {w t : List ℕ} {p n : ℕ} (g : Rule) (a : Option ℕ) → Sound w → Result w t 0 g a → p < 32 → n ≡ count w → Asks p n t a
+settle_asks {w} {t} {p} g (Some b) s r hp e =
     (C.grown_untidy regular (sound_tested s) r.grown (built_ext lawful w 0 g) p (omega arith), hp, (result_mean w t 0 g b (sound_holds s) r).ok)
-settle_asks {w} g Full s r hp e = C.none_asks regular (sound_tested s) r.grown (built_ext lawful w 0 g) e
+settle_asks {w} g None s r hp e = C.none_asks regular (sound_tested s) r.grown (built_ext lawful w 0 g) e
 
 -- THE LAW of every call that builds: NO ROOM exactly where the rests exceed the capacity, and then nothing is changed; else the rule is written
-pub settles : {w t t' : List ℕ} {p n : ℕ} {o : Outcome} (g : Rule) (a : Answer) → Sound w → Result w t 0 g a → p < 32 → n ≡ count w → Settled p n t t' a o → Puts p g w t' o
+pub settles : {w t t' : List ℕ} {p n : ℕ} {o : Outcome} (g : Rule) (a : Option ℕ) → Sound w → Result w t 0 g a → p < 32 → n ≡ count w → Settled p n t t' a o → Puts p g w t' o
 settles g a s r hp e d = C.settles regular g (told a) (sound_tested s) (gives r) hp e d
 
 -- ---- what `settle` learns of the answer
-pub settled_none : {w w' : List ℕ} {n : ℕ} (p : ℕ) (a : Answer) → a ≡ Full → Rolled w w' n → Settled p n w w' a (Refused NoRoom)
-settled_none {w} {w'} {n} p a e d = subst (λ (y : Answer). Settled p n w w' y (Refused NoRoom)) (sym e) (refl, d)
+pub settled_none : {w w' : List ℕ} {n : ℕ} (p : ℕ) (a : Option ℕ) → a ≡ None → Rolled w w' n → Settled p n w w' a (Refused NoRoom)
+settled_none {w} {w'} {n} p a e d = subst (λ (y : Option ℕ). Settled p n w w' y (Refused NoRoom)) (sym e) (refl, d)
 
-pub settled_is : {w w' : List ℕ} (p n b : ℕ) (a : Answer) → a ≡ Is b → Becomes p (meaning (nodes w) (decode b)) w w' → Settled p n w w' a Taken
-settled_is {w} {w'} p n b a e d = subst (λ (y : Answer). Settled p n w w' y Taken) (sym e) (refl, d)
+pub settled_is : {w w' : List ℕ} (p n b : ℕ) (a : Option ℕ) → a ≡ Some b → Becomes p (meaning (nodes w) (decode b)) w w' → Settled p n w w' a Taken
+settled_is {w} {w'} p n b a e d = subst (λ (y : Option ℕ). Settled p n w w' y Taken) (sym e) (refl, d)

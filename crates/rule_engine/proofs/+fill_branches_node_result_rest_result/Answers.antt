@@ -165,7 +165,7 @@ node_result-returns-then-fill_branches t c =
     let fb = c.fill_branches in
     let m = c.make_in.ensures in
     let fl = filled _ _ _ _ _ _ c.if-fill_branches.true fb.ensures.0 in
-    let re = gives_is c.in-Is.is (fill_make _ _ _ c.requires.0.holds c.requires.2 _ _ _ _ fl m.0) in
+    let re = gives_is c.in-Some.is (fill_make _ _ _ c.requires.0.holds c.requires.2 _ _ _ _ fl m.0) in
     let y = key_part c.args.n c.args.k c.args.ops.now _ c.key_of.ensures.0 in
     word_left _ _ c.args.k _ _ c.requires.0.holds (rw c.remember_in.ensures.0 re)
     (noted_result rule_table (right_more c.args.o c.args.f c.args.n) fl.filled.grown.well m.0.grown (make_grows _ _ _) m.1

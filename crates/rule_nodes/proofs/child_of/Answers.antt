@@ -1,5 +1,5 @@
 -- `rule_nodes::child_of` meets its contract: a node of feature k goes to its branch, any other branch waits. Assumes nothing.
-use Rattle.std.proofs.Common.{arith, ◌-◌, ◌≡◌, sym}
+use Rattle.std.proofs.Common.{arith, sym}
 use Rattle.rule_nodes.proofs.Reading.{good_small}
 use Rattle.rule_nodes.proofs.Stepping.{is_node, child_here, child_skip}
 use mathlib.Core.Path.{◌∙◌}
@@ -24,9 +24,8 @@ record_word-requires c =
 
 pub returns-then-top_of-k : goal.returns-then-top_of-k
 returns-then-top_of-k c =
-    let e : c.wide.result ≡ c.args.b - 65536 = omega arith in
-    rw c.record_word.ensures (rw e (child_here c.args.t.now c.args.k c.args.b c.args.v c.requires.0 c.requires.1 c.requires.2
-    (sym c.top_of.ensures ∙ c.if-top_of-k.true)))
+    rw c.record_word.ensures (child_here c.args.t.now c.args.k c.args.b c.args.v c.requires.0 c.requires.1 c.requires.2
+    (sym c.top_of.ensures ∙ c.if-top_of-k.true))
 
 pub returns-else-top_of-k : goal.returns-else-top_of-k
 returns-else-top_of-k c = child_skip c.args.t.now c.args.k c.args.b c.args.v c.requires.0 (λ d. c.if-top_of-k.false (c.top_of.ensures ∙ d))

@@ -1,9 +1,7 @@
 -- `rule_nodes::find` meets its contract: equal branches need no node; else the records tell whether the node is there. Assumes nothing.
-use Rattle.std.proofs.Common.{arith, ◌≡◌}
+use Rattle.std.proofs.Common.{arith}
 use Rattle.settings.proofs.Answers.{sure, sure_not}
 use Rattle.rule_nodes.proofs.Making.{found_same, found_node, found_none}
-use mathlib.Core.Path.{◌∙◌}
-use Rattle.promises.specs.Words.{size}
 use Rattle.rule_nodes.proofs.find.Goals as goal
 
 pub all_same-requires : goal.all_same-requires
@@ -13,23 +11,15 @@ pub returns-then-all_same : goal.returns-then-all_same
 returns-then-all_same c =
     let w = c.args.t.now in
     let k = c.args.k in
-    let e : c.wide.result ≡ size w k = c.wide.ensures.0 ∙ c.size_word.ensures in
-    found_same w k c.args.list c.requires.0 c.requires.1 c.requires.2 c.branch_at.result c.branch_at.ensures (rw e at (sure c.if-all_same.true c.all_same.ensures))
+    found_same w k c.args.list c.requires.0 c.requires.1 c.requires.2 c.branch_at.result c.branch_at.ensures (rw c.size_word.ensures at (sure c.if-all_same.true c.all_same.ensures))
 
-pub returns-then-c-gt0 : goal.returns-then-c-gt0
-returns-then-c-gt0 c =
-    let w = c.args.t.now in
-    let k = c.args.k in
-    let e : c.wide.result ≡ size w k = c.wide.ensures.0 ∙ c.size_word.ensures in
-    let f = c.find_record-c.ensures in
-    rw c.narrow.ensures
-    (found_node w k c.args.list c.requires.0 c.requires.1 c.requires.2 _ (omega (arith, f.within))
-    (rw e at (sure_not c.if-all_same.false c.all_same.ensures)) (f.there (omega arith)))
+pub returns-in_err-i : goal.returns-in_err-i
+returns-in_err-i c =
+    rw c.from_residual.ensures
+    (found_none c.args.t.now c.args.k c.args.list c.requires.0 c.requires.1 c.requires.2
+    (rw c.size_word.ensures at (sure_not c.if-all_same.false c.all_same.ensures)) c.in_err-i.ensures)
 
 pub returns : goal.returns
 returns c =
-    let w = c.args.t.now in
-    let k = c.args.k in
-    let e : c.wide.result ≡ size w k = c.wide.ensures.0 ∙ c.size_word.ensures in
-    found_none w k c.args.list c.requires.0 c.requires.1 c.requires.2 c.find_record-c.result (omega arith)
-    (rw e at (sure_not c.if-all_same.false c.all_same.ensures)) c.find_record-c.ensures
+    found_node c.args.t.now c.args.k c.args.list c.requires.0 c.requires.1 c.requires.2 _ c.in_ok-i.ensures.0
+    (rw c.size_word.ensures at (sure_not c.if-all_same.false c.all_same.ensures)) c.in_ok-i.ensures.1

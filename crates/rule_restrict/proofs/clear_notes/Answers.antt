@@ -7,25 +7,18 @@ use Rattle.promises.specs.Words.{count}
 use Rattle.rule_restrict.proofs.clear_notes.Goals as goal
 
 pub loop-i-init : goal.loop-i-init
-loop-i-init c =
-    let e : c.wide-n.result ≡ count c.args.t.now = omega arith in
-    (e, omega arith, rw e (record { same = refl; room = c.requires.0; within = c.requires.1; only = c.requires.2 }))
+loop-i-init c = record { same = refl; room = c.requires.0; within = c.requires.1; only = c.requires.2 }
 
 pub put_note-requires : goal.put_note-requires
-put_note-requires c = (c.loop-i.invariant.2.room, omega (arith, c.loop-i.invariant.2.within))
+put_note-requires c = (c.loop-i.invariant.room, omega (arith, c.loop-i.invariant.within))
 
 pub loop-i-preserved : goal.loop-i-preserved
-loop-i-preserved c = (
-  c.loop-i.invariant.0,
-  omega arith,
-  rw c.put_note.ensures (clearing_more _ c.loop-i.t c.loop-i.i _
-      c.loop-i.invariant.2 (omega arith)),
-)
+loop-i-preserved c = rw c.put_note.ensures (clearing_more _ c.loop-i.t c.loop-i.i _ c.loop-i.invariant (omega arith))
 
 pub shape_of-t : goal.shape_of-t
-shape_of-t c = sym (length_plain c.loop-i.t) ∙ ap length c.loop-i.invariant.2.same ∙ length_plain c.args.t.now
+shape_of-t c = sym (length_plain c.loop-i.t) ∙ ap length c.loop-i.invariant.same ∙ length_plain c.args.t.now
 
 pub returns : goal.returns
 returns c =
-    let e : c.loop-i.i ≡ c.wide-n.result = omega (arith, c.loop-i.invariant.1) in
-    clearing_all _ c.loop-i.t c.wide-n.result (rw e at c.loop-i.invariant.2)
+    let e : c.loop-i.i ≡ count c.args.t.now = omega arith in
+    clearing_all _ c.loop-i.t (count c.args.t.now) (rw e at c.loop-i.invariant)

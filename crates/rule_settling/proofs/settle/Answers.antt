@@ -1,18 +1,18 @@
 -- `rule_settling::settle` meets its contract: by cases of the answer, as `finish` and `roll_back` promise. Assumes nothing.
+use Rattle.std.specs.Prelude.{ℕ, Option}
 use Rattle.rule_settling.proofs.Settling.{settled_none, settled_is}
 use Rattle.rule_settling.specs.Settling.{Asks}
-use Rattle.rule_nodes.specs.declared.Answer.{Answer}
 use mathlib.Core.Path.{subst}
 use Rattle.rule_settling.proofs.settle.Goals as goal
 
 pub roll_back-requires : goal.roll_back-requires
-roll_back-requires c = subst (λ (y : Answer). Asks c.args.place c.args.n c.args.t.now y) c.in_default.is c.requires
+roll_back-requires c = subst (λ (y : Option ℕ). Asks c.args.place c.args.n c.args.t.now y) c.in_default.is c.requires
 
 pub returns-in_default : goal.returns-in_default
 returns-in_default c = settled_none c.args.place c.args.r c.in_default.is c.roll_back.ensures
 
 pub finish-requires : goal.finish-requires
-finish-requires c = subst (λ (y : Answer). Asks c.args.place c.args.n c.args.t.now y) c.in-Is.is c.requires
+finish-requires c = subst (λ (y : Option ℕ). Asks c.args.place c.args.n c.args.t.now y) c.in-Some.is c.requires
 
 pub returns : goal.returns
-returns c = settled_is c.args.place c.args.n _ c.args.r c.in-Is.is c.finish.ensures
+returns c = settled_is c.args.place c.args.n _ c.args.r c.in-Some.is c.finish.ensures
