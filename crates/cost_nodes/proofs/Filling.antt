@@ -1,4 +1,5 @@
 -- A result built branch by branch (the laws of every kind), for the lists of targets and added words that the code fills. Assumes nothing.
+use Rattle.std.specs.Prelude.{Option, Some, None}
 use mathlib.Core.Bool.{Bool, true, false}
 use mathlib.Core.Path.{◌≡◌, refl, sym, ap, ap₂, subst, ◌∙◌}
 use mathlib.Core.List.{List, [], ◌∷◌, ◌++◌}
@@ -33,8 +34,7 @@ use Rattle.table_words.proofs.Filling as F
 use Rattle.table_words.proofs.Tab.{tab_none, tab_snoc, tab_ext, get_or_tab}
 use Rattle.table_words.proofs.Words.{length_sizes, at_sizes, kept_size}
 use Rattle.cost_nodes.specs.Nodes.{layout, Holds, told, Gives, Result, Makes, built, arms, Armed, Filling, Empty, Stopped, Fills}
-use Rattle.cost_nodes.specs.declared.Answer.{Answer}
-use Rattle.cost_nodes.specs.declared.Answer.TheVariants.{Is, NoRoom}
+use Rattle.cost_nodes.specs.declared.Arm.{Arm}
 use Rattle.cost_nodes.proofs.Reading.{lawful, holds_passed}
 use Rattle.promises.specs.Integers.{Fit, int}
 use Rattle.promises.specs.Range.{add_most}
@@ -70,26 +70,26 @@ module _ (w : List ℕ) (k : ℕ) (g : Cost) (ok : Holds w) (hk : k < features w
       (λ u h. ap₂ branch (get_or-set_other x v u y 0 (omega arith)) (get_or-set_other a v u b 0 (omega arith))))
       (ap₂ branch (get_or-set_same x v y 0 hx) (get_or-set_same a v b 0 ha)))
 
-  -- the call for branch v answered the words y and b
-  pub fill_more : (t t' : List ℕ) (v y b : ℕ) (x a : List ℕ) (h : Cost) (o : Answer) → Filling w t k g v x a → v < size w k → ((s : List ℕ) → held v g s ≡ h s)
-      → Result t t' (k + 1) h o → o ≡ Is y b → Filling w t' k g (v + 1) (set x v y) (set a v b)
-  fill_more t t' v y b x a h o f lt e r is =
+  -- the call for branch v answered the branch b
+  pub fill_more : (t t' : List ℕ) (v : ℕ) (b : Arm) (x a : List ℕ) (h : Cost) (o : Option Arm) → Filling w t k g v x a → v < size w k → ((s : List ℕ) → held v g s ≡ h s)
+      → Result t t' (k + 1) h o → o ≡ Some b → Filling w t' k g (v + 1) (set x v b.to) (set a v b.adds)
+  fill_more t t' v b x a h o f lt e r is =
       let m : v < 8 = omega (arith, most) in
       record {
-        filled = subst (H.Filled layout w t' k g (v + 1)) (one_more v y b x a (omega (arith, f.targets)) (omega (arith, f.addeds)))
-            (F.fill_more lawful w k g ok hs t t' v (arms v x a) h (branch y b) f.filled e (subst (λ (q : Answer). Result t t' (k + 1) h q) is r));
-        pad = λ u l l'. get_or-set_other x v u y 0 (omega arith) ∙ f.pad u (omega arith) l';
-        targets = length-set x v y ∙ f.targets;
-        addeds = length-set a v b ∙ f.addeds;
+        filled = subst (H.Filled layout w t' k g (v + 1)) (one_more v b.to b.adds x a (omega (arith, f.targets)) (omega (arith, f.addeds)))
+            (F.fill_more lawful w k g ok hs t t' v (arms v x a) h (branch b.to b.adds) f.filled e (subst (λ (q : Option Arm). Result t t' (k + 1) h q) is r));
+        pad = λ u l l'. get_or-set_other x v u b.to 0 (omega arith) ∙ f.pad u (omega arith) l';
+        targets = length-set x v b.to ∙ f.targets;
+        addeds = length-set a v b.adds ∙ f.addeds;
       }
 
   -- it found no room
-  pub fill_stop : (t t' : List ℕ) (v : ℕ) (x a : List ℕ) (h : Cost) (o : Answer) → Filling w t k g v x a → v < size w k → ((s : List ℕ) → held v g s ≡ h s)
-      → Result t t' (k + 1) h o → o ≡ NoRoom → Stopped w t' k g
+  pub fill_stop : (t t' : List ℕ) (v : ℕ) (x a : List ℕ) (h : Cost) (o : Option Arm) → Filling w t k g v x a → v < size w k → ((s : List ℕ) → held v g s ≡ h s)
+      → Result t t' (k + 1) h o → o ≡ None → Stopped w t' k g
   fill_stop t t' v x a h o f lt e r is =
-      F.fill_stop lawful w k g ok hs t t' v (arms v x a) h f.filled (omega (arith, at_sizes w k hk)) e (subst (λ (q : Answer). Result t t' (k + 1) h q) is r)
+      F.fill_stop lawful w k g ok hs t t' v (arms v x a) h f.filled (omega (arith, at_sizes w k hk)) e (subst (λ (q : Option Arm). Result t t' (k + 1) h q) is r)
 
-  pub stop_result : (t : List ℕ) → Stopped w t k g → Result w t k g NoRoom
+  pub stop_result : (t : List ℕ) → Stopped w t k g → Result w t k g None
   stop_result t s = F.stop_result lawful w k g ok hs t s
 
   full : (t x a : List ℕ) → Filling w t k g (size w k) x a → H.Filled layout w t k g (get_or (sizes w) k 0) (arms (size w k) x a)
@@ -173,7 +173,7 @@ module _ (w : List ℕ) (k : ℕ) (g : Cost) (ok : Holds w) (hk : k < features w
       }
 
   -- and its answer is the result
-  pub fill_make : (t t' x a : List ℕ) (o : Answer) → Filling w t k g (size w k) x a → Makes t t' k x a o → Result w t' k g o
+  pub fill_make : (t t' x a : List ℕ) (o : Option Arm) → Filling w t k g (size w k) x a → Makes t t' k x a o → Result w t' k g o
   fill_make t t' x a o f m =
       let s : size t k ≡ size w k = same_size t x a f in
       let y : Gives t t' (make k (arms (size w k) x a) (nodes t)) o = rw s at m in
@@ -184,24 +184,24 @@ module _ (w : List ℕ) (k : ℕ) (g : Cost) (ok : Holds w) (hk : k < features w
   filling_ext t v x a f = F.filled_ext lawful w t k g v (arms v x a) ok f.filled
 
 -- ---- answers
-pub gives_is : {w t : List ℕ} {r : Built costs} {o : Answer} {x a : ℕ} → o ≡ Is x a → Gives w t r o → Gives w t r (Is x a)
-gives_is {w} {t} {r} e g = subst (λ (y : Answer). Gives w t r y) e g
+pub gives_is : {w t : List ℕ} {r : Built costs} {o : Option Arm} {b : Arm} → o ≡ Some b → Gives w t r o → Gives w t r (Some b)
+gives_is {w} {t} {r} e g = subst (λ (y : Option Arm). Gives w t r y) e g
 
-pub gives_none : {w t : List ℕ} {r : Built costs} {o : Answer} → o ≡ NoRoom → Gives w t r o → Gives w t r NoRoom
-gives_none {w} {t} {r} e g = subst (λ (y : Answer). Gives w t r y) e g
+pub gives_none : {w t : List ℕ} {r : Built costs} {o : Option Arm} → o ≡ None → Gives w t r o → Gives w t r None
+gives_none {w} {t} {r} e g = subst (λ (y : Option Arm). Gives w t r y) e g
 
 -- the nodes of w are still the first after any answer
-pub result_ext : (w t : List ℕ) (k : ℕ) (g : Cost) (o : Answer) → Holds w → Result w t k g o → Ext (nodes w) (nodes t)
+pub result_ext : (w t : List ℕ) (k : ℕ) (g : Cost) (o : Option Arm) → Holds w → Result w t k g o → Ext (nodes w) (nodes t)
 result_ext w t k g o ok r = F.grown_ext lawful w t (built w k g).1 ok r.grown (F.built_ext lawful w k g)
 
 -- ---- results remembered
 -- what a result tells may be remembered
-pub result_mean : (w t : List ℕ) (k : ℕ) (g : Cost) (x a : ℕ) → Holds w → Result w t k g (Is x a) → Mean (nodes t) k (drop k (sizes w)) (branch x a) g
-result_mean w t k g x a ok r = F.result_mean lawful w t k g (branch x a) ok r
+pub result_mean : (w t : List ℕ) (k : ℕ) (g : Cost) (b : Arm) → Holds w → Result w t k g (Some b) → Mean (nodes t) k (drop k (sizes w)) (branch b.to b.adds) g
+result_mean w t k g b ok r = F.result_mean lawful w t k g (branch b.to b.adds) ok r
 
 -- and what is remembered is the result
-pub mean_result : (w : List ℕ) (k : ℕ) (g : Cost) (x a : ℕ) → Holds w → Mean (nodes w) k (drop k (sizes w)) (branch x a) g → Result w w k g (Is x a)
-mean_result w k g x a ok m = F.mean_result lawful w k g (branch x a) ok m
+pub mean_result : (w : List ℕ) (k : ℕ) (g : Cost) (b : Arm) → Holds w → Mean (nodes w) k (drop k (sizes w)) (branch b.to b.adds) g → Result w w k g (Some b)
+mean_result w k g b ok m = F.mean_result lawful w k g (branch b.to b.adds) ok m
 
 -- what a function that fills the lists answered
 pub filled : (w t : List ℕ) (k : ℕ) (g : Cost) (r : Bool) (x a : List ℕ) → r ≡ true → Fills w t k g r x a → Filling w t k g (size w k) x a

@@ -3,7 +3,8 @@ use mathlib.Core.Path.{◌≡◌, refl, sym, ap, ap₂, subst, ◌∙◌}
 use mathlib.Core.Logic.{⊎_elim}
 use mathlib.Core.Bool.{Bool, true, false}
 use mathlib.Core.List.{List, [], ◌∷◌, ◌++◌, map}
-use mathlib.Core.Option.{Option, none, some}
+use Rattle.std.specs.Prelude.{Some, None}
+use mathlib.Core.Option.{Option as Maybe, none, some}
 use Prim.Native.Nat.{ℕ, zero, suc, ◌≤◌, ◌<◌}
 use native.Mathlib.Omega.{arith}
 use lib.IntN.{ℤ, ◌+ℤ◌, ◌-ℤ◌, +ℤ_idr}
@@ -38,22 +39,12 @@ use Rattle.cost_words.specs.declared.Target.TheVariants.{Node as NodeIs}
 use Rattle.cost_words.proofs.Regular.{regular}
 use Rattle.cost_words.proofs.Packing.{target_one, word_again, int_zero, packed_goes, packed_added}
 use Rattle.cost_nodes.specs.Nodes.{layout, Holds, Levelled, AllSame, Finds, arms, Armed, Lowered, Makes}
-use Rattle.cost_nodes.specs.declared.Answer.TheVariants.{Is, NoRoom}
-use Rattle.cost_nodes.specs.declared.Found.{Found}
-use Rattle.cost_nodes.specs.declared.Found.TheVariants.{At, Missing}
 use Rattle.cost_nodes.proofs.Reading.{lawful, ok_small}
 use Rattle.promises.specs.Integers.{Fit, int}
 use Rattle.promises.specs.Range.{add_most}
 use Rattle.promises.specs.CostSound.{across, bare, kept, side_of}
 use Rattle.promises.specs.Words.{capacity, features, size, sizes, count}
 use Rattle.promises.specs.CostWords.{target, cost_branch as branch, goes, added, cost_node_list as nodes}
-
--- ---- what the search's answer tells
-pub found_at : (w : List ℕ) (k : ℕ) (l : List ℕ) (r : Found) (x : CodeTarget) → r ≡ At x → Finds w k l r → Finds w k l (At x)
-found_at w k l r x e f = subst (λ (y : Found). Finds w k l y) e f
-
-pub found_missing : (w : List ℕ) (k : ℕ) (l : List ℕ) (r : Found) → r ≡ Missing → Finds w k l r → Absent cost_table w k l
-found_missing w k l r e f = subst (λ (y : Found). Finds w k l y) e f
 
 -- the word 2,147,483,648 adds nothing
 bare_branch : (x : ℕ) (t : Target costs) → target x ≡ t → bare t ≡ branch x 2147483648
@@ -75,7 +66,7 @@ module _ (w : List ℕ) (k : ℕ) (l : List ℕ) (ok : Holds w) (hk : k < featur
   first_small = ok_small w (suc k) (goes (listed l) 0) (added (listed l) 0) (lv.fits.each 0 (omega (arith, many.0)))
 
   -- equal branches need no node
-  pub found_same : (x : CodeTarget) → target_of x ≡ target (goes (listed l) 0) → AllSame (size w k) l → Finds w k l (At x)
+  pub found_same : (x : CodeTarget) → target_of x ≡ target (goes (listed l) 0) → AllSame (size w k) l → Finds w k l (Some x)
   found_same x e s = (
     M.found_same regular w k l ok hk lv.fits (λ v h. ap₂ branch (s.targets v h) (s.addeds v h))
         ∙ ap (λ (b : Branch costs). let t : Built costs = (b, nodes w) in t) (ap (branch (goes (listed l) 0)) lv.level ∙ sym (bare_branch (goes (listed l) 0) (target_of x) (sym e))),
@@ -90,7 +81,7 @@ module _ (w : List ℕ) (k : ℕ) (l : List ℕ) (ok : Holds w) (hk : k < featur
       })
 
   -- an equal node is there
-  pub found_node : (i : ℕ) → i < count w → (AllSame (size w k) l → ⊥) → RecordIs w i k l → Finds w k l (At (NodeIs i))
+  pub found_node : (i : ℕ) → i < count w → (AllSame (size w k) l → ⊥) → RecordIs w i k l → Finds w k l (Some (NodeIs i))
   found_node i h n q = (M.found_node regular w k l ok hk lv.fits level_bs i h (not_alike n) q, omega (arith, h, ok.laid.laid.within, ok.laid.laid.most))
 
   -- neither: the branch must be made
@@ -162,7 +153,7 @@ module _ (w : List ℕ) (k : ℕ) (x a r l : List ℕ) (ok : Holds w) (hk : k < 
       ∙ (λ i. record { adds = (ap (λ (y : ℤ). z +ℤ y) (lo.each v hm) ∙ back z (int (listed a v))) i; to = (branch (listed x v) 0).to })
       ∙ sym (get_or_tab (λ u. branch (listed x u) (listed a u)) m v blank hm))
 
-  lifted : (w' : List ℕ) (o : Option (Branch costs)) → H.Gives layout w w' (make k (branches cost_table m (listed l)) (nodes w)) o → H.Gives layout w w' (make k (arms m x a) (nodes w)) (raised z o)
+  lifted : (w' : List ℕ) (o : Maybe (Branch costs)) → H.Gives layout w w' (make k (branches cost_table m (listed l)) (nodes w)) o → H.Gives layout w w' (make k (arms m x a) (nodes w)) (raised z o)
   lifted w' o g =
       subst (λ (cs : List (Branch costs)). H.Gives layout w w' (make k cs (nodes w)) (raised z o)) arms_up
       (gives_lift lawful w w' k z (branches cost_table m (listed l)) o ok (omega (arith, length_tab (cost_table.arm (listed l)) m, size_is)) g)
@@ -171,7 +162,7 @@ module _ (w : List ℕ) (k : ℕ) (x a r l : List ℕ) (ok : Holds w) (hk : k < 
   raised_is : (y : ℕ) → up z (branch y 2147483648) ≡ branch y (listed a 0)
   raised_is y = λ i. record { adds = (ap (λ (c : ℤ). z +ℤ c) int_zero ∙ +ℤ_idr z) i; to = (branch y 0).to }
 
-  answered : (w' : List ℕ) (y : ℕ) → H.Gives layout w w' (make k (branches cost_table m (listed l)) (nodes w)) (some (branch y 2147483648)) → Makes w w' k x a (Is y (listed a 0))
+  answered : (w' : List ℕ) (y : ℕ) → H.Gives layout w w' (make k (branches cost_table m (listed l)) (nodes w)) (some (branch y 2147483648)) → Makes w w' k x a (Some (record { to = y; adds = listed a 0 }))
   answered w' y g =
       subst (λ (b : Branch costs). H.Gives layout w w' (make k (arms m x a) (nodes w)) (some b)) (raised_is y) (lifted w' (some (branch y 2147483648)) g)
 
@@ -222,16 +213,16 @@ module _ (w : List ℕ) (k : ℕ) (x a r l : List ℕ) (ok : Holds w) (hk : k < 
       go (suc (suc j)) h = absurd (omega arith)
 
   pub made_new : (w' : List ℕ) (y i c d n : ℕ) → Absent cost_table w k l → count w < capacity w → target y ≡ node i → i ≡ count w → n ≡ m → Sides w l n c d → Pushed w w' k l c d
-      → Makes w w' k x a (Is y (listed a 0))
+      → Makes w w' k x a (Some (record { to = y; adds = listed a 0 }))
   made_new w' y i c d n ab less e ei en s p =
       answered w' y
       (subst (λ (b : Branch costs). H.Gives layout w w' (make k (branches cost_table m (listed l)) (nodes w)) (some b)) (bare_branch y (node (count w)) (e ∙ ap node ei))
       (M.made_new regular w k l ok hk fits (level_bs w k l ok hk levelled) w' ab less (behind c d ab (subst (λ (q : ℕ). Sides w l q c d) en s)) p))
 
-  pub made_none : Absent cost_table w k l → (count w < capacity w → ⊥) → Makes w w k x a NoRoom
+  pub made_none : Absent cost_table w k l → (count w < capacity w → ⊥) → Makes w w k x a None
   made_none ab full = lifted w none (M.made_none regular w k l ok hk fits (level_bs w k l ok hk levelled) ab full)
 
-  pub made_there : (y : ℕ) (t : CodeTarget) → target y ≡ target_of t → make k (branches cost_table m (listed l)) (nodes w) ≡ (bare (target_of t), nodes w) → Makes w w k x a (Is y (listed a 0))
+  pub made_there : (y : ℕ) (t : CodeTarget) → target y ≡ target_of t → make k (branches cost_table m (listed l)) (nodes w) ≡ (bare (target_of t), nodes w) → Makes w w k x a (Some (record { to = y; adds = listed a 0 }))
   made_there y t e d =
       answered w y
       (M.made_there regular w k l ok hk fits (branch y 2147483648) (d ∙ ap (λ (b : Branch costs). let o : Built costs = (b, nodes w) in o) (bare_branch y (target_of t) e)))

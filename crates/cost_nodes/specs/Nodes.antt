@@ -1,6 +1,6 @@
 -- Contract between layers: a cost table as the holder of a node list: the unique search, the making of a node, steps down a diagram, and the contract of what adds nodes. Assumes nothing.
-use Rattle.std.specs.Prelude.{Bool, true, false, ◌≡◌, List, ℕ, zero, suc, ◌≤◌, ◌<◌, ◌-ℤ◌, length, get_or}
-use Rattle.std.proofs.Math.Option.{Option, none, some}
+use Rattle.std.specs.Prelude.{Bool, true, false, ◌≡◌, List, ℕ, zero, suc, ◌≤◌, ◌<◌, ◌-ℤ◌, length, get_or, Option, Some, None}
+use Rattle.std.proofs.Math.Option.{Option as Maybe, none, some}
 use Rattle.theory.specs.Build.{Built, make}
 use Rattle.theory.specs.Costs.{costs, Cost}
 use Rattle.theory.specs.Diagrams.{Branch, Node}
@@ -12,10 +12,8 @@ use Rattle.table_words.specs.Words.{listed}
 use Rattle.table_records.specs.Nodes as R
 use Rattle.cost_words.specs.Table.{cost_table}
 use Rattle.cost_words.specs.Words.{target_of, Worded}
-use Rattle.cost_nodes.specs.declared.Found.{Found}
-use Rattle.cost_nodes.specs.declared.Found.TheVariants.{At, Missing}
-use Rattle.cost_nodes.specs.declared.Answer.{Answer}
-use Rattle.cost_nodes.specs.declared.Answer.TheVariants.{Is, NoRoom}
+use Rattle.cost_words.specs.declared.Target.{Target}
+use Rattle.cost_nodes.specs.declared.Arm.{Arm}
 use Rattle.promises.specs.Integers.{Fit, int}
 use Rattle.promises.specs.Range.{add_most}
 use Rattle.promises.specs.Tab.{tab}
@@ -39,17 +37,17 @@ abbrev pub built : List ℕ → ℕ → Cost → Built costs
 built w k g = H.built layout w k g
 
 -- ---- the contract of every function that adds nodes
--- the branch that an answer tells, if it tells one
-abbrev pub told : Answer → Option (Branch costs)
-told (Is x a) = some (branch x a)
-told NoRoom = none
+-- the branch that an answer tells; None tells that there was no room
+abbrev pub told : Option Arm → Maybe (Branch costs)
+told (Some b) = some (branch b.to b.adds)
+told None = none
 
 -- the table afterwards, and the answer, are those of the branch and the node list r
-abbrev pub Gives : List ℕ → List ℕ → Built costs → Answer → Type 0
+abbrev pub Gives : List ℕ → List ℕ → Built costs → Option Arm → Type 0
 Gives w w' r a = H.Gives layout w w' r (told a)
 
 -- THE CONTRACT of every function that adds nodes to a cost table
-abbrev pub Result : List ℕ → List ℕ → ℕ → Cost → Answer → Type 0
+abbrev pub Result : List ℕ → List ℕ → ℕ → Cost → Option Arm → Type 0
 Result w w' k g a = Gives w w' (built w k g) a
 
 -- ---- the unique search
@@ -63,10 +61,10 @@ pub record AllSame (m : ℕ) (l : List ℕ) : Type 0 where
   pub targets : (v : ℕ) → v < m → goes (listed l) v ≡ goes (listed l) 0
   pub addeds : (v : ℕ) → v < m → added (listed l) v ≡ listed l 4
 
--- what it found is what `make` gives, and it says missing only where `make` adds a node
-abbrev pub Finds : List ℕ → ℕ → List ℕ → Found → Type 0
-Finds w k l (At x) = (make k (branches cost_table (size w k) (listed l)) (nodes w) ≡ (bare (target_of x), nodes w)) × (Worded x)
-Finds w k l Missing = R.Absent cost_table w k l
+-- what it found is what `make` gives, and it finds none only where `make` adds a node
+abbrev pub Finds : List ℕ → ℕ → List ℕ → Option Target → Type 0
+Finds w k l (Some x) = (make k (branches cost_table (size w k) (listed l)) (nodes w) ≡ (bare (target_of x), nodes w)) × (Worded x)
+Finds w k l None = R.Absent cost_table w k l
 
 -- ---- the making of a node
 -- the branches of m targets and added words
@@ -92,7 +90,7 @@ pub record Lowered (m : ℕ) (a r : List ℕ) : Type 0 where
   pub pad : (v : ℕ) → m ≤ v → v < 8 → listed r v ≡ 0
 
 -- the answer and the table are those of `make` with these branches
-abbrev pub Makes : List ℕ → List ℕ → ℕ → List ℕ → List ℕ → Answer → Type 0
+abbrev pub Makes : List ℕ → List ℕ → ℕ → List ℕ → List ℕ → Option Arm → Type 0
 Makes w w' k x a o = Gives w w' (make k (arms (size w k) x a) (nodes w)) o
 
 -- ---- steps down a diagram

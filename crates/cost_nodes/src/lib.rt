@@ -17,22 +17,13 @@ use cost_words::{
     target_at, target_word,
 };
 use table_records::{find_record, push};
-use table_words::{
-    capacity_word, count_word, features_word, half_of, narrow, record_word, size_word, wide,
-};
+use table_words::{capacity_word, count_word, features_word, half_of, record_word, size_word};
 
-// The answer of the unique search: where the branch goes that is there, or that its node must be made.
+// A branch: the words of its target and of what it adds.
 #[derive(Clone, Copy)]
-pub enum Found {
-    At(Target),
-    Missing,
-}
-
-// The answer of a function that may add nodes: the words of the branch's target and of what it adds, or that there was no room.
-#[derive(Clone, Copy)]
-pub enum Answer {
-    Is(u32, u32),
-    NoRoom,
+pub struct Arm {
+    pub to: u32,
+    pub adds: u32,
 }
 
 // Whether the first m targets and added words of a body are all equal to the first.
@@ -42,32 +33,28 @@ fn all_same(list: &[u32; 12], m: usize) -> bool
 {
     let goes = half_of(list[0], 0);
     let adds = list[4];
-    let mut v: usize = 0;
-    while v < m {
-        if half_of(list[v / 2], v) != goes {
+    for v in 0..m {
+        if half_of(list[v / 2], v) != goes || list[4 + v] != adds {
             return false;
         }
-        if list[4 + v] != adds {
-            return false;
-        }
-        v += 1;
     }
     true
 }
 
-// The unique search: the branch that has the body's branches at feature k, the first of which adds nothing. Equal branches need no node.
-pub fn find(t: &[u32], k: usize, list: &[u32; 12]) -> Found
+// The unique search: where the branch goes that has the body's branches at feature k, the first of which adds nothing; None where its node must be made.
+// Equal branches need no node.
+pub fn find(t: &[u32], k: usize, list: &[u32; 12]) -> Option<Target>
     requires { (Holds t.now) × (k < features t.now) × (Levelled t.now k list.now) }
     ensures { Finds t.now k list.now result }
 {
-    if all_same(list, wide(size_word(t, k))) {
-        return Found::At(target_at(half_of(list[0], 0)));
+    if all_same(list, size_word(t, k) as usize) {
+        return Some(target_at(half_of(list[0], 0)));
     }
     let c = find_record(t, k, *list);
     if 0 < c {
-        return Found::At(Target::Node(narrow(c - 1)));
+        return Some(Target::Node((c - 1) as u32));
     }
-    Found::Missing
+    None
 }
 
 // Lays what the first m add more than the first into an empty list.
@@ -75,40 +62,38 @@ fn lowered(adds: &[u32; 8], m: usize, list: &mut [u32; 8])
     requires { (m ≤ 8) × ((v : ℕ) → v < m → Fit add_most (int (listed adds.now v) -ℤ int (listed adds.now 0))) × (Empty list.old) }
     ensures { Lowered m adds.now list.new }
 {
-    let mut v: usize = 0;
-    while v < m {
+    for v in 0..m {
         list[v] = difference_word(adds[v], adds[0]);
-        v += 1;
     }
 }
 
-// The branch that has these branches at feature k; its node is made where there is none. What the first branch adds is added above the node.
-pub fn make(t: &mut [u32], k: usize, goes: &[u32; 8], adds: &[u32; 8]) -> Answer
+// The branch that has these branches at feature k; its node is made where there is none, and None says that it has no room.
+// What the first branch adds is added above the node.
+pub fn make(t: &mut [u32], k: usize, goes: &[u32; 8], adds: &[u32; 8]) -> Option<Arm>
     requires { (Holds t.old) × (k < features t.old) × (Armed t.old k goes.now adds.now) }
     ensures { Makes t.old t.new k goes.now adds.now result }
 {
-    let m = wide(size_word(t, k));
+    let m = size_word(t, k) as usize;
     let mut less = [0u32; 8];
     lowered(adds, m, &mut less);
     let mut list = [0u32; 12];
     pack(goes, &less, &mut list);
     let base = adds[0];
-    let Found::At(x) = find(t, k, &list) else {
+    let Some(x) = find(t, k, &list) else {
         if count_word(t) < capacity_word(t) {
             let pair = sides_of(t, list, m);
-            let i = narrow(push(t, k, list, pair.low, pair.high));
-            return Answer::Is(target_word(Target::Node(i)), base);
+            let i = push(t, k, list, pair.low, pair.high) as u32;
+            return Some(Arm {
+                to: target_word(Target::Node(i)),
+                adds: base,
+            });
         }
-        return Answer::NoRoom;
+        return None;
     };
-    Answer::Is(target_word(x), base)
-}
-
-// A branch: the words of its target and of what it adds.
-#[derive(Clone, Copy)]
-pub struct Arm {
-    pub to: u32,
-    pub adds: u32,
+    Some(Arm {
+        to: target_word(x),
+        adds: base,
+    })
 }
 
 // The branch of a place: its root and its base.
@@ -128,9 +113,9 @@ pub fn top_of(t: &[u32], x: u32) -> usize
     ensures { result ≡ top t.now x }
 {
     if x == 0 {
-        wide(features_word(t))
+        features_word(t) as usize
     } else {
-        wide(record_word(t, wide(x - 1), 0))
+        record_word(t, x as usize - 1, 0) as usize
     }
 }
 
@@ -140,7 +125,7 @@ pub fn arm_at(t: &[u32], k: usize, x: u32, v: usize) -> Arm
     ensures { branch result.to result.adds ≡ branch_at (nodes t.now) k (target x) v }
 {
     if top_of(t, x) == k {
-        let i = wide(x - 1);
+        let i = x as usize - 1;
         Arm {
             to: goes_to(t, i, v),
             adds: adds_at(t, i, v),

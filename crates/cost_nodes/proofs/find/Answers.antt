@@ -16,7 +16,7 @@ returns-then-all_same c =
     let w = c.args.t.now in
     let k = c.args.k in
     let l = c.args.list.now in
-    let e : c.wide.result ≡ size w k = c.wide.ensures.0 ∙ c.size_word.ensures in
+    let e : c.size_word.result ≡ size w k = c.size_word.ensures in
     found_same w k l c.requires.0 c.requires.1 c.requires.2 c.target_at.result (c.target_at.ensures ∙ ap target c.half_of.ensures)
     (subst (λ (n : ℕ). AllSame n l) e (sure c.if-all_same.true c.all_same.ensures))
 
@@ -25,9 +25,8 @@ returns-then-c-gt0 c =
     let w = c.args.t.now in
     let k = c.args.k in
     let l = c.args.list.now in
-    let e : c.wide.result ≡ size w k = c.wide.ensures.0 ∙ c.size_word.ensures in
+    let e : c.size_word.result ≡ size w k = c.size_word.ensures in
     let f = c.find_record-c.ensures in
-    rw c.narrow.ensures
     (found_node w k l c.requires.0 c.requires.1 c.requires.2 (c.find_record-c.result - 1) (omega (arith, f.within))
     (λ s. sure_not c.if-all_same.false c.all_same.ensures (subst (λ (n : ℕ). AllSame n l) (sym e) s)) (f.there (omega arith)))
 
@@ -36,6 +35,6 @@ returns c =
     let w = c.args.t.now in
     let k = c.args.k in
     let l = c.args.list.now in
-    let e : c.wide.result ≡ size w k = c.wide.ensures.0 ∙ c.size_word.ensures in
+    let e : c.size_word.result ≡ size w k = c.size_word.ensures in
     found_none w k l c.requires.0 c.requires.1 c.requires.2 c.find_record-c.result (omega arith)
     (λ s. sure_not c.if-all_same.false c.all_same.ensures (subst (λ (n : ℕ). AllSame n l) (sym e) s)) c.find_record-c.ensures
