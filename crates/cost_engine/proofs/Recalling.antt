@@ -1,4 +1,5 @@
 -- What the engine remembers: a result that `build` gave, right while the table grows. Assumes nothing.
+use Rattle.std.specs.Prelude.{Some}
 use mathlib.Core.Path.{◌≡◌}
 use mathlib.Core.List.{List}
 use Prim.Native.Nat.{ℕ, ◌+◌}
@@ -12,7 +13,7 @@ use Rattle.table_words.specs.Words.{listed}
 use Rattle.table_words.proofs.Words.{kept_sizes}
 use Rattle.table_memory.proofs.Building.{mean_said}
 use Rattle.cost_nodes.specs.Nodes.{Holds, Good, Result}
-use Rattle.cost_nodes.specs.declared.Answer.TheVariants.{Is}
+use Rattle.cost_nodes.specs.declared.Arm.{Arm}
 use Rattle.cost_nodes.proofs.Filling.{result_ext, result_mean, mean_result}
 use Rattle.cost_engine.specs.Joint.{joint_from, Operands}
 use Rattle.cost_engine.specs.Memory.{Recalled, Right}
@@ -35,11 +36,11 @@ module _ (w t : List ℕ) (o : Operator) (k x y d z e : ℕ) (ok : Holds w) (q :
       }
 
 -- what `build` gave may be remembered
-pub result_recalled : (w t : List ℕ) (o : Operator) (k x y d z e : ℕ) → Operands w o k x y (int d)
-    → Result w t k (joint_from o (nodes w) k (target x) (target y) (int d)) (Is z e) → Recalled t o k x y d z e
-result_recalled w t o k x y d z e p r =
-    grown w t o k x y d z e p.holds (kept_sizes w t r.grown.kept p.holds.laid.laid.few) (result_ext w t k _ (Is z e) p.holds r) p.first p.second
-    (result_mean w t k _ z e p.holds r)
+pub result_recalled : (w t : List ℕ) (o : Operator) (k x y d : ℕ) (b : Arm) → Operands w o k x y (int d)
+    → Result w t k (joint_from o (nodes w) k (target x) (target y) (int d)) (Some b) → Recalled t o k x y d b.to b.adds
+result_recalled w t o k x y d b p r =
+    grown w t o k x y d b.to b.adds p.holds (kept_sizes w t r.grown.kept p.holds.laid.laid.few) (result_ext w t k _ (Some b) p.holds r) p.first p.second
+    (result_mean w t k _ b p.holds r)
 
 -- ---- the memory
 -- an entry says one result
@@ -54,5 +55,5 @@ right_more o w t ok q m key z e c = record {
 
 -- a hit is the result
 pub recalled_result : (w : List ℕ) (o : Operator) (k : ℕ) (key : List ℕ) (z e : ℕ) → Operands w o k (listed key 1) (listed key 2) (int (listed key 3)) → listed key 0 ≡ k + 1 → Right o w key z e →
-    Result w w k (joint_from o (nodes w) k (target (listed key 1)) (target (listed key 2)) (int (listed key 3))) (Is z e)
-recalled_result w o k key z e p q r = mean_result w k _ z e p.holds (r.at k q).mean
+    Result w w k (joint_from o (nodes w) k (target (listed key 1)) (target (listed key 2)) (int (listed key 3))) (Some (record { to = z; adds = e }))
+recalled_result w o k key z e p q r = mean_result w k _ (record { to = z; adds = e }) p.holds (r.at k q).mean

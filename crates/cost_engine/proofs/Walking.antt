@@ -1,4 +1,5 @@
 -- The walk over a table: operands one feature on, one value on, in a later table; its results. Assumes nothing.
+use Rattle.std.specs.Prelude.{Option, Some, None}
 use mathlib.Core.Path.{◌≡◌, refl, sym, ap, ap₂, subst, ◌∙◌}
 use mathlib.Core.List.{List, ◌∷◌}
 use Prim.Native.Nat.{ℕ, zero, suc, ◌+◌, ◌≤◌, ◌<◌}
@@ -26,8 +27,7 @@ use Rattle.table_notes.specs.Plain.{Resting, plain}
 use Rattle.table_notes.proofs.Plain.{plain_of}
 use Rattle.cost_words.proofs.Packing.{target_end}
 use Rattle.cost_nodes.specs.Nodes.{Holds, Good, top, Place, built, Result, Filling}
-use Rattle.cost_nodes.specs.declared.Answer.{Answer}
-use Rattle.cost_nodes.specs.declared.Answer.TheVariants.{Is, NoRoom}
+use Rattle.cost_nodes.specs.declared.Arm.{Arm}
 use Rattle.cost_nodes.proofs.Reading.{lawful, pos_from, sizes_from}
 use Rattle.cost_nodes.proofs.Stepping.{good_small, good_top, top_good, top_most, top_below, skipped}
 use Rattle.cost_nodes.proofs.Filling.{filling_ext, filling_narrow}
@@ -127,7 +127,7 @@ module _ (w : List ℕ) (o : Operator) (k x y : ℕ) (d : ℤ) (p : Operands w o
       (filling_narrow w k g p.holds hk t v xs ys f l p.bounded.spread p.narrow)
 
   -- both have ended
-  pub joint_ends : (e : ℕ) → x + y ≡ 0 → int e ≡ op_of o (pos 0) d → Result w w k (joint_from o (nodes w) k (target x) (target y) d) (Is 0 e)
+  pub joint_ends : (e : ℕ) → x + y ≡ 0 → int e ≡ op_of o (pos 0) d → Result w w k (joint_from o (nodes w) k (target x) (target y) d) (Some (record { to = 0; adds = e }))
   joint_ends e z q =
       let ex : target x ≡ leaf tt = target_end x (omega arith) in
       let ey : target y ≡ leaf tt = target_end y (omega arith) in
@@ -178,12 +178,12 @@ module _ (w : List ℕ) (o : Operator) (x y : ℕ) (d : ℤ) (m : ℕ) (hx : m �
     pub operands_skip : Operands w o m x y d
     operands_skip = passed.0
 
-    pub joint_skip : (t : List ℕ) (a : Answer) → Result w t m (J m) a → Result w t k (J k) a
+    pub joint_skip : (t : List ℕ) (a : Option Arm) → Result w t m (J m) a → Result w t k (J k) a
     joint_skip t a r = F.gives_eq lawful passed.1 r
 
 -- ---- two branches
 -- the difference by its word
-pub at_gap : (w t : List ℕ) (o : Operator) (k x y h : ℕ) (d : ℤ) (r : Answer) → int h ≡ d → Result w t k (joint_from o (nodes w) k (target x) (target y) (int h)) r
+pub at_gap : (w t : List ℕ) (o : Operator) (k x y h : ℕ) (d : ℤ) (r : Option Arm) → int h ≡ d → Result w t k (joint_from o (nodes w) k (target x) (target y) (int h)) r
     → Result w t k (joint_from o (nodes w) k (target x) (target y) d) r
 at_gap w t o k x y h d r e g = subst (λ (z : ℤ). Result w t k (joint_from o (nodes w) k (target x) (target y) z) r) e g
 
@@ -208,20 +208,21 @@ module _ (w : List ℕ) (o : Operator) (k x a y b : ℕ) (d : ℤ) (p : Branches
   built_adds = build_adds (sizes w) k (drop k (sizes w)) refl (pos_from w k p.rest.holds) R (nodes w) p.rest.holds.wf
 
   -- the sum has a word
-  pub sum_fits : (t : List ℕ) (g z e : ℕ) → int g ≡ L → Result w t k R (Is z e) → Fit add_most (int g +ℤ int e)
-  sum_fits t g z e q r =
-      let i : int e ≡ (R (zeros (drop k (sizes w)))).off = ap (λ (c : Branch costs). c.adds) r.answers.0 ∙ built_adds in
+  pub sum_fits : (t : List ℕ) (g : ℕ) (u : Arm) → int g ≡ L → Result w t k R (Some u) → Fit add_most (int g +ℤ int u.adds)
+  sum_fits t g u q r =
+      let i : int u.adds ≡ (R (zeros (drop k (sizes w)))).off = ap (λ (c : Branch costs). c.adds) r.answers.0 ∙ built_adds in
       subst (Fit add_most) (offs (joint_split o (nodes w) k (branch x a) (branch y b) d (zeros (drop k (sizes w)))) ∙ sym (λ j. q j +ℤ i j)) p.whole
 
-  pub joint_raised : (t : List ℕ) (g z e f : ℕ) → int g ≡ L → int f ≡ int g +ℤ int e → Result w t k R (Is z e) → Result w t k (joint o (nodes w) k (branch x a) (branch y b) d) (Is z f)
-  joint_raised t g z e f q h r =
+  pub joint_raised : (t : List ℕ) (g f : ℕ) (u : Arm) → int g ≡ L → int f ≡ int g +ℤ int u.adds → Result w t k R (Some u) →
+      Result w t k (joint o (nodes w) k (branch x a) (branch y b) d) (Some (record { to = u.to; adds = f }))
+  joint_raised t g f u q h r =
       F.gives_eq lawful built_raised
       (record {
         grown = r.grown;
-        answers = ((λ i. record { adds = (h ∙ ap (λ (c : ℤ). c +ℤ int e) q) i; to = target z }) ∙ ap (up L) r.answers.0, r.answers.1);
+        answers = ((λ i. record { adds = (h ∙ ap (λ (c : ℤ). c +ℤ int u.adds) q) i; to = target u.to }) ∙ ap (up L) r.answers.0, r.answers.1);
       })
 
-  pub joint_stopped : (t : List ℕ) → Result w t k R NoRoom → Result w t k (joint o (nodes w) k (branch x a) (branch y b) d) NoRoom
+  pub joint_stopped : (t : List ℕ) → Result w t k R None → Result w t k (joint o (nodes w) k (branch x a) (branch y b) d) None
   joint_stopped t r = F.gives_eq lawful built_raised (record { grown = r.grown; answers = r.answers })
 
 -- ---- at the start
@@ -244,7 +245,7 @@ module _ (w : List ℕ) (o : Operator) (x a y b : ℕ) (p : Joinable w o (branch
         whole = whole_start (sizes w) (nodes w) ok.wf 0 (sizes w) (pos_from w 0 ok) (branch x a) (branch y b) p.first.ok p.second.ok p.first.within p.second.within o p.result_in;
       })
 
-  pub joint_start : (d : ℤ) → d ≡ pos 0 → (t : List ℕ) (r : Answer) → Result w t 0 (joint o (nodes w) 0 (branch x a) (branch y b) d) r →
+  pub joint_start : (d : ℤ) → d ≡ pos 0 → (t : List ℕ) (r : Option Arm) → Result w t 0 (joint o (nodes w) 0 (branch x a) (branch y b) d) r →
       Result w t 0 (together o (meaning (nodes w) (branch x a)) (meaning (nodes w) (branch y b))) r
   unfolding builtOf
   joint_start d e t r g =
@@ -257,7 +258,7 @@ pub joinable_plain : (w v : List ℕ) (o : Operator) (b c : Branch costs) → Jo
 joinable_plain w v o b c p e = subst (λ (u : List ℕ). Joinable u o b c) (sym (e ∙ plain_of w p.first.rest.empty)) p
 
 -- .. and its result, with the far records 0 again, is that of the table
-pub joint_cleared : (w v t u : List ℕ) (o : Operator) (b c : Branch costs) (r : Answer) → Resting w → plain v ≡ plain w → u ≡ plain t
+pub joint_cleared : (w v t u : List ℕ) (o : Operator) (b c : Branch costs) (r : Option Arm) → Resting w → plain v ≡ plain w → u ≡ plain t
     → Result (plain v) (plain t) 0 (together o (meaning (nodes (plain v)) b) (meaning (nodes (plain v)) c)) r →
     Result w u 0 (together o (meaning (nodes w) b) (meaning (nodes w) c)) r
 joint_cleared w v t u o b c r z q e g =

@@ -13,16 +13,16 @@ ghost use Rattle.promises.specs.Integers.{int};
 ghost use Rattle.promises.specs.Words.{features};
 ghost use Rattle.promises.specs.CostWords.{target, cost_branch as branch, cost_node_list as nodes};
 
-use cost_nodes::{Answer, Arm};
+use cost_nodes::Arm;
 use cost_notes::{arm_in, lowest, make_in, recall_in, remember_in};
 use cost_words::{ZERO, sum_word};
 pub use operators::Operator;
 use operators::{ahead_word, end_word, gap_word, number_of};
 use table_memory::Memo;
 use table_notes::{begin, clear, clear_far, clear_window};
-use table_words::{narrow, size_word, wide};
+use table_words::size_word;
 
-// The result for two targets from feature k on, where the second has d more on it: one node's result.
+// The result for two targets from feature k on, where the second has d more on it: one node's result, or None where there is no room.
 #[cycle(branch_result_fill_branches_rest_result)]
 fn rest_result(
     t: &mut [u32],
@@ -32,37 +32,35 @@ fn rest_result(
     x: u32,
     y: u32,
     d: u32,
-) -> Answer
+) -> Option<Arm>
     requires { (Operands (plain t.old) o k x y (int d)) × (Noted t.old o s.old) }
     ensures { (Result (plain t.old) (plain t.new) k (joint_from o (nodes (plain t.old)) k (target x) (target y) (int d)) result)
         × (Still t.new o s.new result) }
 {
     if x + y == 0 {
-        return Answer::Is(0, end_word(o, d));
+        return Some(Arm {
+            to: 0,
+            adds: end_word(o, d),
+        });
     }
     let m = lowest(t, x, y);
     if k < m {
-        let Answer::Is(z, e) = rest_result(t, s, o, m, x, y, d) else {
-            return Answer::NoRoom;
-        };
-        return Answer::Is(z, e);
+        return rest_result(t, s, o, m, x, y, d);
     }
     let number = number_of(o);
-    let tag = narrow(k + 1);
+    let tag = (k + 1) as u32;
     let memo = recall_in(t, s, number, tag, x, y, d);
     if let Memo::Known(z, e) = memo {
-        return Answer::Is(z, e);
+        return Some(Arm { to: z, adds: e });
     }
     let mut goes = [0u32; 8];
     let mut adds = [0u32; 8];
     if fill_branches(t, s, o, k, x, y, d, &mut goes, &mut adds) {
-        let Answer::Is(z, e) = make_in(t, k, &goes, &adds) else {
-            return Answer::NoRoom;
-        };
-        remember_in(t, s, number, tag, x, y, d, z, e);
-        return Answer::Is(z, e);
+        let b = make_in(t, k, &goes, &adds)?;
+        remember_in(t, s, number, tag, x, y, d, b.to, b.adds);
+        return Some(b);
     }
-    Answer::NoRoom
+    None
 }
 
 // Lays its branches into two empty lists: the results for the values of feature k in turn. False where there was no room for them.
@@ -82,17 +80,15 @@ fn fill_branches(
     ensures { (Fills (plain t.old) (plain t.new) k (joint_from o (nodes (plain t.old)) k (target x) (target y) (int d)) result
         goes.new adds.new) × (StillIf t.new o s.new result) }
 {
-    let m = wide(size_word(t, k));
-    let mut v: usize = 0;
-    while v < m {
+    let m = size_word(t, k) as usize;
+    for v in 0..m {
         let a = arm_in(t, k, x, v);
         let b = arm_in(t, k, y, v);
-        let Answer::Is(z, e) = branch_result(t, s, o, k + 1, a, b, d) else {
+        let Some(c) = branch_result(t, s, o, k + 1, a, b, d) else {
             return false;
         };
-        goes[v] = z;
-        adds[v] = e;
-        v += 1;
+        goes[v] = c.to;
+        adds[v] = c.adds;
     }
     true
 }
@@ -107,30 +103,32 @@ fn branch_result(
     a: Arm,
     b: Arm,
     d: u32,
-) -> Answer
+) -> Option<Arm>
     requires { (Branches (plain t.old) o k a.to a.adds b.to b.adds (int d)) × (Noted t.old o s.old) }
     ensures { (Result (plain t.old) (plain t.new) k
         (joint o (nodes (plain t.old)) k (branch a.to a.adds) (branch b.to b.adds) (int d)) result) × (Still t.new o s.new result) }
 {
     let g = gap_word(o, d, a.adds, b.adds);
-    let Answer::Is(z, e) = rest_result(t, s, o, k, a.to, b.to, g) else {
-        return Answer::NoRoom;
-    };
-    Answer::Is(z, sum_word(ahead_word(o, a.adds, b.adds), e))
+    let rest = rest_result(t, s, o, k, a.to, b.to, g)?;
+    Some(Arm {
+        to: rest.to,
+        adds: sum_word(ahead_word(o, a.adds, b.adds), rest.adds),
+    })
 }
 
-// The joint cost of two branches, built after the table's nodes, with remembered results in s, whatever it holds, or in the far records, which are 0 again.
-pub fn join_costs(t: &mut [u32], s: &mut [u32], o: Operator, a: Arm, b: Arm) -> Answer
+// The joint cost of two branches, built after the table's nodes, with remembered results in s, whatever it holds, or in the far records, which are 0 again;
+// None where there is no room.
+pub fn join_costs(t: &mut [u32], s: &mut [u32], o: Operator, a: Arm, b: Arm) -> Option<Arm>
     requires { Joinable t.old o (branch a.to a.adds) (branch b.to b.adds) }
     ensures { Result t.old t.new 0
         (together o (meaning (nodes t.old) (branch a.to a.adds)) (meaning (nodes t.old) (branch b.to b.adds))) result }
 {
     let lent = begin(t, s.len());
     clear(&mut s[0..lent]);
-    let Answer::Is(z, e) = branch_result(t, &mut s[0..lent], o, 0, a, b, ZERO) else {
+    let Some(c) = branch_result(t, &mut s[0..lent], o, 0, a, b, ZERO) else {
         clear_far(t);
-        return Answer::NoRoom;
+        return None;
     };
     clear_window(t);
-    Answer::Is(z, e)
+    Some(c)
 }

@@ -1,4 +1,5 @@
 -- What a cost table says is what its words without notes say, and `make` adds to these. Assumes nothing.
+use Rattle.std.specs.Prelude.{Option}
 use mathlib.Core.Bool.{Bool, true, false}
 use mathlib.Core.Path.{◌≡◌, refl, sym, ap, subst, ◌∙◌}
 use mathlib.Core.List.{List}
@@ -16,7 +17,7 @@ use Rattle.cost_words.specs.Sides.{Keeps}
 use Rattle.cost_words.proofs.Reading.{length_nodes}
 use Rattle.cost_words.proofs.Regular.{regular}
 use Rattle.cost_nodes.specs.Nodes.{Holds, Armed, Makes, top, Place}
-use Rattle.cost_nodes.specs.declared.Answer.{Answer}
+use Rattle.cost_nodes.specs.declared.Arm.{Arm}
 use Rattle.cost_nodes.proofs.Reading.{ok_small}
 use Rattle.promises.specs.Integers.{Fit, int}
 use Rattle.promises.specs.Range.{add_most}
@@ -98,7 +99,7 @@ module _ (w : List ℕ) where
   noted_armed k x a ok h r = like_armed with_notes k x a ok h r
 
 -- `make` on a table is `make` on its words without notes
-pub plain_makes : (t t' : List ℕ) (k : ℕ) (x a : List ℕ) (o : Answer) → Holds (plain t) → k < features (plain t) → Makes t t' k x a o → Makes (plain t) (plain t') k x a o
+pub plain_makes : (t t' : List ℕ) (k : ℕ) (x a : List ℕ) (o : Option Arm) → Holds (plain t) → k < features (plain t) → Makes t t' k x a o → Makes (plain t) (plain t') k x a o
 plain_makes t t' k x a o ok h m =
     let n : nodes t ≡ nodes (plain t) = noted_nodes t ok.laid.laid in
     let s : size t k ≡ size (plain t) k = like_size (like_sym (plain_like t)) ok.laid.laid k h in

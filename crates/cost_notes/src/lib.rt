@@ -14,7 +14,7 @@ ghost use Rattle.cost_nodes.specs.Nodes.{Holds, Armed, Makes, top, Place};
 ghost use Rattle.promises.specs.Words.{features, size, count};
 ghost use Rattle.promises.specs.CostWords.{target, cost_branch as branch, cost_node_list as nodes};
 
-use cost_nodes::{Answer, Arm, arm_at, make, top_of};
+use cost_nodes::{Arm, arm_at, make, top_of};
 use cost_words::{Span, kept_span};
 pub use operators::{ADD, CHOOSE, LARGER, LESS, LOWEST, SCALE, SMALLER, SUBTRACT};
 use table_memory::Memo;
@@ -24,9 +24,7 @@ pub fn lowest(t: &[u32], x: u32, y: u32) -> usize
     requires { (Laid (plain t.now)) × (x ≤ count (plain t.now)) × (y ≤ count (plain t.now)) }
     ensures { (result ≤ top (plain t.now) x) × (result ≤ top (plain t.now) y) × ((z : ℕ) → z ≤ top (plain t.now) x → z ≤ top (plain t.now) y → z ≤ result) }
 {
-    let a = top_of(t, x);
-    let b = top_of(t, y);
-    if a < b { a } else { b }
+    top_of(t, x).min(top_of(t, y))
 }
 
 // The branch of a target for value v of feature k.
@@ -45,8 +43,8 @@ pub fn kept_in(t: &[u32], x: u32) -> Span
     kept_span(t, x)
 }
 
-// The branch that has these branches at feature k; what is remembered stays.
-pub fn make_in(t: &mut [u32], k: usize, goes: &[u32; 8], adds: &[u32; 8]) -> Answer
+// The branch that has these branches at feature k, or None where its node has no room; what is remembered stays.
+pub fn make_in(t: &mut [u32], k: usize, goes: &[u32; 8], adds: &[u32; 8]) -> Option<Arm>
     requires { (Roomy t.old) × (Holds (plain t.old)) × (k < features (plain t.old)) × (Armed (plain t.old) k goes.now adds.now) }
     ensures { (Makes (plain t.old) (plain t.new) k goes.now adds.now result) × (Aside t.old t.new) }
 {

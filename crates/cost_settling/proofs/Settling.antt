@@ -1,4 +1,5 @@
 -- The end of every call that builds a cost (the laws of every kind): what was built and settled is a written cost, or the table is as it was. Assumes nothing.
+use Rattle.std.specs.Prelude.{Option, Some, None}
 use mathlib.Core.Path.{◌≡◌, refl, sym, subst}
 use mathlib.Core.List.{List}
 use Prim.Native.Nat.{ℕ, ◌<◌}
@@ -17,8 +18,7 @@ pub use Rattle.table_calls.proofs.Theorems.{puts_agree, puts_one, write_pass}
 use Rattle.theory_costs.proofs.Spreads.{within_agree}
 use Rattle.cost_words.specs.Picture.{Becomes}
 use Rattle.cost_nodes.specs.Nodes.{Holds, Result, told}
-use Rattle.cost_nodes.specs.declared.Answer.{Answer}
-use Rattle.cost_nodes.specs.declared.Answer.TheVariants.{Is, NoRoom as Full}
+use Rattle.cost_nodes.specs.declared.Arm.{Arm}
 use Rattle.cost_nodes.proofs.Filling.{result_mean}
 use Rattle.cost_nodes.proofs.Reading.{lawful}
 use Rattle.cost_words.proofs.Regular.{regular}
@@ -38,10 +38,10 @@ pub exceeds_agree : {w : List ℕ} {g h : Cost} → Sound w → Agree (sizes w) 
 exceeds_agree s e x = C.exceeds_agree regular (sound_tested s) e x
 
 -- `settle` may be asked, if the cost lies in its range
-pub settle_asks : {w t : List ℕ} {p n : ℕ} (g : Cost) (a : Answer) → Sound w → Result w t 0 g a → p < 16 → n ≡ count w → Within cost_most (sizes w) g → Asks p n t a
-settle_asks {w} {t} {p} g (Is x a) s r hp e f =
+pub settle_asks : {w t : List ℕ} {p n : ℕ} (g : Cost) (a : Option Arm) → Sound w → Result w t 0 g a → p < 16 → n ≡ count w → Within cost_most (sizes w) g → Asks p n t a
+settle_asks {w} {t} {p} g (Some b) s r hp e f =
     let z : sizes t ≡ sizes w = C.sizes_same regular (sound_tested s) r.grown (built_ext lawful w 0 g) in
-    let m = result_mean w t 0 g x a (sound_holds s) r in (
+    let m = result_mean w t 0 g b (sound_holds s) r in (
       record {
         untidy = C.grown_untidy regular (sound_tested s) r.grown (built_ext lawful w 0 g) p (omega arith);
         range = λ q h. rw z (within_agree (C.places_kept regular (sound_tested s) r.grown (built_ext lawful w 0 g) q h) (s.ranged.ranged q h));
@@ -50,15 +50,15 @@ settle_asks {w} {t} {p} g (Is x a) s r hp e f =
       m.ok,
       rw z (within_agree m.says f),
     )
-settle_asks {w} g Full s r hp e f = C.none_asks regular (sound_tested s) r.grown (built_ext lawful w 0 g) e
+settle_asks {w} g None s r hp e f = C.none_asks regular (sound_tested s) r.grown (built_ext lawful w 0 g) e
 
 -- THE LAW of every call that builds: NO ROOM exactly where the rests exceed the capacity, and then nothing is changed; else the cost is written
-pub settles : {w t t' : List ℕ} {p n : ℕ} {o : Outcome} (g : Cost) (a : Answer) → Sound w → Result w t 0 g a → p < 16 → n ≡ count w → Settled p n t t' a o → Puts p g w t' o
+pub settles : {w t t' : List ℕ} {p n : ℕ} {o : Outcome} (g : Cost) (a : Option Arm) → Sound w → Result w t 0 g a → p < 16 → n ≡ count w → Settled p n t t' a o → Puts p g w t' o
 settles g a s r hp e d = C.settles regular g (told a) (sound_tested s) r hp e d
 
 -- ---- what `settle` learns of the answer
-pub settled_none : {w w' : List ℕ} {n : ℕ} (p : ℕ) (a : Answer) → a ≡ Full → Rolled w w' n → Settled p n w w' a (Refused NoRoom)
-settled_none {w} {w'} {n} p a e d = subst (λ (y : Answer). Settled p n w w' y (Refused NoRoom)) (sym e) (refl, d)
+pub settled_none : {w w' : List ℕ} {n : ℕ} (p : ℕ) (a : Option Arm) → a ≡ None → Rolled w w' n → Settled p n w w' a (Refused NoRoom)
+settled_none {w} {w'} {n} p a e d = subst (λ (y : Option Arm). Settled p n w w' y (Refused NoRoom)) (sym e) (refl, d)
 
-pub settled_is : {w w' : List ℕ} (p n x c : ℕ) (a : Answer) → a ≡ Is x c → Becomes p (meaning (nodes w) (branch x c)) w w' → Settled p n w w' a Taken
-settled_is {w} {w'} p n x c a e d = subst (λ (y : Answer). Settled p n w w' y Taken) (sym e) (refl, d)
+pub settled_is : {w w' : List ℕ} (p n : ℕ) (b : Arm) (a : Option Arm) → a ≡ Some b → Becomes p (meaning (nodes w) (branch b.to b.adds)) w w' → Settled p n w w' a Taken
+settled_is {w} {w'} p n b a e d = subst (λ (y : Option Arm). Settled p n w w' y Taken) (sym e) (refl, d)

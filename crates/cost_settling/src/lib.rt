@@ -4,19 +4,19 @@
 ghost use Rattle.cost_settling.specs.Settling.{Asks, Settled};
 
 use cost_collect::finish;
-use cost_nodes::Answer;
+use cost_nodes::Arm;
 use settings::{Outcome, Refusal};
 use table_records::roll_back;
 
 // What was built into a table of n nodes becomes the cost of the place; where there was no room it is taken back.
-pub fn settle(t: &mut [u32], place: usize, n: usize, r: Answer) -> Outcome
+pub fn settle(t: &mut [u32], place: usize, n: usize, r: Option<Arm>) -> Outcome
     requires { Asks place n t.old r }
     ensures { Settled place n t.old t.new r result }
 {
-    let Answer::Is(x, a) = r else {
+    let Some(b) = r else {
         roll_back(t, n);
         return Outcome::Refused(Refusal::NoRoom);
     };
-    finish(t, place, x, a);
+    finish(t, place, b.to, b.adds);
     Outcome::Taken
 }

@@ -34,10 +34,10 @@ branch_result-rest_result-requires t c = (
   ),
 )
 
-pub branch_result-returns-in_default : goal.branch_result-returns-in_default
-branch_result-returns-in_default t c =
+pub branch_result-returns-in_err-rest : goal.branch_result-returns-in_err-rest
+branch_result-returns-in_err-rest t c =
     let r = at_gap (plain c.args.t.now) _ _ _ _ _ _ _ c.rest_result.result c.gap_word-g.ensures c.rest_result.ensures.0 in
-    (joint_stopped (plain c.args.t.now) _ _ _ _ _ _ _ c.requires.0 _ (gives_none c.in_default.is r), tt)
+    rw c.from_residual.ensures (joint_stopped (plain c.args.t.now) _ _ _ _ _ _ _ c.requires.0 _ (gives_none c.in_err-rest.was r), tt)
 
 pub branch_result-ahead_word-requires : goal.branch_result-ahead_word-requires
 branch_result-ahead_word-requires t c = c.requires.0.lead
@@ -45,44 +45,44 @@ branch_result-ahead_word-requires t c = c.requires.0.lead
 pub branch_result-sum_word-requires : goal.branch_result-sum_word-requires
 branch_result-sum_word-requires t c =
     let r = at_gap (plain c.args.t.now) _ _ _ _ _ _ _ c.rest_result.result c.gap_word-g.ensures c.rest_result.ensures.0 in
-    sum_fits (plain c.args.t.now) _ _ _ _ _ _ _ c.requires.0 _ c.ahead_word.result _ _ c.ahead_word.ensures (gives_is c.in-Is.is r)
+    sum_fits (plain c.args.t.now) _ _ _ _ _ _ _ c.requires.0 _ c.ahead_word.result _ c.ahead_word.ensures (gives_is c.in_ok-rest.was r)
 
 pub branch_result-returns : goal.branch_result-returns
 branch_result-returns t c =
     let r = at_gap (plain c.args.t.now) _ _ _ _ _ _ _ c.rest_result.result c.gap_word-g.ensures c.rest_result.ensures.0 in (
-      joint_raised (plain c.args.t.now) _ _ _ _ _ _ _ c.requires.0 _ c.ahead_word.result _ _ _ c.ahead_word.ensures c.sum_word.ensures
-          (gives_is c.in-Is.is r),
-      subst (Still _ _ _) c.in-Is.is c.rest_result.ensures.1,
+      joint_raised (plain c.args.t.now) _ _ _ _ _ _ _ c.requires.0 _ c.ahead_word.result _ _ c.ahead_word.ensures c.sum_word.ensures
+          (gives_is c.in_ok-rest.was r),
+      subst (Still _ _ _) c.in_ok-rest.was c.rest_result.ensures.1,
     )
 
-pub fill_branches-size_word-requires : goal.fill_branches-size_word-requires
-fill_branches-size_word-requires t c =
+pub fill_branches-size_word-m-requires : goal.fill_branches-size_word-m-requires
+fill_branches-size_word-m-requires t c =
     omega (arith, c.requires.0.holds.laid.laid.few, c.requires.2, c.requires.0.holds.laid.laid.room, length_plain c.args.t.now)
 
 pub fill_branches-loop-v-init : goal.fill_branches-loop-v-init
 fill_branches-loop-v-init t c =
-    let e : c.wide-m.result ≡ size (plain c.args.t.now) c.args.k = c.wide-m.ensures.0 ∙ c.size_word.ensures
+    let e : c.size_word-m.result ≡ size (plain c.args.t.now) c.args.k = c.size_word-m.ensures
     ∙ sym (plain_head c.args.t.now (3 + c.args.k) (omega (arith, c.requires.0.holds.laid.laid.few, c.requires.2))) in
-    (e, omega arith, fill_start _ c.args.k _ c.requires.0.holds c.requires.2 _ _ c.requires.3 c.requires.4, c.requires.1, refl, refl)
+    (e, fill_start _ c.args.k _ c.requires.0.holds c.requires.2 _ _ c.requires.3 c.requires.4, c.requires.1)
 
 pub fill_branches-arm_in-a-requires : goal.fill_branches-arm_in-a-requires
 fill_branches-arm_in-a-requires t c =
     let l = c.loop-v in
-    let fl = l.invariant.2 in
+    let fl = l.invariant.1 in
     let kp = fl.filled.grown.kept in (
-      first_place _ _ _ _ _ _ (operands_ext (plain c.args.t.now) _ c.args.k _ _ _ c.requires.0 _ l.v l.goes l.adds fl c.requires.2 (omega (arith, l.invariant.0, l.invariant.1))),
+      first_place _ _ _ _ _ _ (operands_ext (plain c.args.t.now) _ c.args.k _ _ _ c.requires.0 _ l.v l.goes l.adds fl c.requires.2 (omega (arith, l.invariant.0))),
       omega (arith, kept_features _ _ kp, c.requires.2),
-      omega (arith, kept_size _ _ kp c.requires.0.holds.laid.laid.few c.args.k c.requires.2, l.invariant.0, c.loop-v-test),
+      omega (arith, kept_size _ _ kp c.requires.0.holds.laid.laid.few c.args.k c.requires.2, l.invariant.0),
     )
 
 pub fill_branches-arm_in-b-requires : goal.fill_branches-arm_in-b-requires
 fill_branches-arm_in-b-requires t c =
     let l = c.loop-v in
-    let fl = l.invariant.2 in
+    let fl = l.invariant.1 in
     let kp = fl.filled.grown.kept in (
-      second_place _ _ _ _ _ _ (operands_ext (plain c.args.t.now) _ c.args.k _ _ _ c.requires.0 _ l.v l.goes l.adds fl c.requires.2 (omega (arith, l.invariant.0, l.invariant.1))),
+      second_place _ _ _ _ _ _ (operands_ext (plain c.args.t.now) _ c.args.k _ _ _ c.requires.0 _ l.v l.goes l.adds fl c.requires.2 (omega (arith, l.invariant.0))),
       omega (arith, kept_features _ _ kp, c.requires.2),
-      omega (arith, kept_size _ _ kp c.requires.0.holds.laid.laid.few c.args.k c.requires.2, l.invariant.0, c.loop-v-test),
+      omega (arith, kept_size _ _ kp c.requires.0.holds.laid.laid.few c.args.k c.requires.2, l.invariant.0),
     )
 
 pub fill_branches-overflow_add-k : goal.fill_branches-overflow_add-k
@@ -91,25 +91,25 @@ fill_branches-overflow_add-k t c = omega (arith, c.requires.0.holds.laid.laid.fe
 pub fill_branches-branch_result-requires : goal.fill_branches-branch_result-requires
 fill_branches-branch_result-requires t c =
     let l = c.loop-v in
-    let fl = l.invariant.2 in
+    let fl = l.invariant.1 in
     let kp = fl.filled.grown.kept in
     let n = kept_features _ _ kp in
     let hk = c.requires.2 in (
       omega arith,
       (
         operands_step _ _ _ _ _ _ (operands_ext (plain c.args.t.now) _ c.args.k _ _ _ c.requires.0 _ l.v l.goes l.adds fl hk
-            (omega (arith, l.invariant.0, l.invariant.1))) l.v _ _ _ _ (omega arith) (omega
-            (arith, kept_size _ _ kp c.requires.0.holds.laid.laid.few c.args.k hk, l.invariant.0, c.loop-v-test)) c.arm_in-a.ensures
+            (omega (arith, l.invariant.0))) l.v _ _ _ _ (omega arith) (omega
+            (arith, kept_size _ _ kp c.requires.0.holds.laid.laid.few c.args.k hk, l.invariant.0)) c.arm_in-a.ensures
             c.arm_in-b.ensures,
-        l.invariant.3,
+        l.invariant.2,
       ),
     )
 
 pub fill_branches-returns-in_default : goal.fill_branches-returns-in_default
 fill_branches-returns-in_default t c =
     let l = c.loop-v in
-    let fl = l.invariant.2 in (
-      fill_stop (plain c.args.t.now) c.args.k _ c.requires.0.holds c.requires.2 (plain l.t) _ l.v l.goes l.adds _ _ fl (omega (arith, l.invariant.0, c.loop-v-test))
+    let fl = l.invariant.1 in (
+      fill_stop (plain c.args.t.now) c.args.k _ c.requires.0.holds c.requires.2 (plain l.t) _ l.v l.goes l.adds _ _ fl (omega (arith, l.invariant.0))
           (joint_held (plain c.args.t.now) _ c.args.k _ _ _ c.requires.0 (plain l.t) l.v _ _ _ _
           (filling_ext (plain c.args.t.now) c.args.k _ c.requires.0.holds c.requires.2 (plain l.t) l.v l.goes l.adds fl) c.arm_in-a.ensures c.arm_in-b.ensures)
           c.branch_result.ensures.0 c.in_default.is,
@@ -118,32 +118,29 @@ fill_branches-returns-in_default t c =
 
 pub fill_branches-bounds-goes-v : goal.fill_branches-bounds-goes-v
 fill_branches-bounds-goes-v t c =
-    omega (arith, c.requires.0.holds.laid.laid.large c.args.k c.requires.2, c.loop-v.invariant.0, c.loop-v.invariant.2.targets, c.loop-v-test)
+    omega (arith, c.requires.0.holds.laid.laid.large c.args.k c.requires.2, c.loop-v.invariant.0, c.loop-v.invariant.1.targets)
 
 pub fill_branches-bounds-adds-v : goal.fill_branches-bounds-adds-v
 fill_branches-bounds-adds-v t c =
-    omega (arith, c.requires.0.holds.laid.laid.large c.args.k c.requires.2, c.loop-v.invariant.0, c.loop-v.invariant.2.addeds, c.loop-v-test)
+    omega (arith, c.requires.0.holds.laid.laid.large c.args.k c.requires.2, c.loop-v.invariant.0, c.loop-v.invariant.1.addeds)
 
 pub fill_branches-loop-v-preserved : goal.fill_branches-loop-v-preserved
 fill_branches-loop-v-preserved t c =
     let l = c.loop-v in
-    let fl = l.invariant.2 in (
+    let fl = l.invariant.1 in (
       l.invariant.0,
-      omega (arith, c.loop-v-test),
-      fill_more (plain c.args.t.now) c.args.k _ c.requires.0.holds c.requires.2 (plain l.t) _ l.v _ _ l.goes l.adds _ _ fl (omega (arith, l.invariant.0, c.loop-v-test))
+      fill_more (plain c.args.t.now) c.args.k _ c.requires.0.holds c.requires.2 (plain l.t) _ l.v _ l.goes l.adds _ _ fl (omega (arith, l.invariant.0))
           (joint_held (plain c.args.t.now) _ c.args.k _ _ _ c.requires.0 (plain l.t) l.v _ _ _ _
           (filling_ext (plain c.args.t.now) c.args.k _ c.requires.0.holds c.requires.2 (plain l.t) l.v l.goes l.adds fl) c.arm_in-a.ensures c.arm_in-b.ensures)
-          c.branch_result.ensures.0 c.in-Is.is,
-      subst (Still _ _ _) c.in-Is.is c.branch_result.ensures.1,
-      search rules,
-      search rules,
+          c.branch_result.ensures.0 c.in-Some.is,
+      subst (Still _ _ _) c.in-Some.is c.branch_result.ensures.1,
     )
 
 pub fill_branches-returns : goal.fill_branches-returns
 fill_branches-returns t c =
     let l = c.loop-v in
-    let e : l.v ≡ size (plain c.args.t.now) c.args.k = omega (arith, l.invariant.0, l.invariant.1, c.loop-v-test) in
-    (rw e at l.invariant.2, l.invariant.3)
+    let e : l.v ≡ size (plain c.args.t.now) c.args.k = omega (arith, l.invariant.0) in
+    (rw e at l.invariant.1, l.invariant.2)
 
 pub rest_result-overflow_add-x : goal.rest_result-overflow_add-x
 rest_result-overflow_add-x t c =
@@ -165,20 +162,13 @@ rest_result-rest_result-requires t c =
     let m = skip_most _ _ _ _ _ _ l.0 l.1 _ c.requires.0 (omega arith) in
     (omega arith, (operands_skip _ _ _ _ _ _ l.0 l.1 _ c.requires.0 (omega arith), c.requires.1))
 
-pub rest_result-returns-in_default : goal.rest_result-returns-in_default
-rest_result-returns-in_default t c =
-    let l = c.lowest-m.ensures in
-    let r = joint_skip _ _ _ _ _ _ l.0 l.1 _ c.requires.0 (omega (arith, c.if-k-m)) _ c.rest_result.result c.rest_result.ensures.0 in
-    (gives_none c.in_default.is r, tt)
-
 pub rest_result-returns-then-k-m : goal.rest_result-returns-then-k-m
 rest_result-returns-then-k-m t c =
     let l = c.lowest-m.ensures in
-    let r = joint_skip _ _ _ _ _ _ l.0 l.1 _ c.requires.0 (omega (arith, c.if-k-m)) _ c.rest_result.result c.rest_result.ensures.0 in
-    (gives_is c.in-Is.is r, subst (Still _ _ _) c.in-Is.is c.rest_result.ensures.1)
+    (joint_skip _ _ _ _ _ _ l.0 l.1 _ c.requires.0 (omega (arith, c.if-k-m)) _ c.rest_result.result c.rest_result.ensures.0, c.rest_result.ensures.1)
 
-pub rest_result-narrow-tag-requires : goal.rest_result-narrow-tag-requires
-rest_result-narrow-tag-requires t c =
+pub rest_result-overflow_add-tag : goal.rest_result-overflow_add-tag
+rest_result-overflow_add-tag t c =
     let hk = still_left _ _ _ _ _ _ c.requires.0 c.if-x-y-eq0.false in
     omega (arith, c.requires.0.holds.laid.laid.few)
 
@@ -188,8 +178,8 @@ rest_result-recall_in-memo-requires t c = c.requires.1.room
 pub rest_result-returns-in-Known : goal.rest_result-returns-in-Known
 rest_result-returns-in-Known t c =
     let h = noted_hit c.args.t.now c.args.s.now _ _ _ _ refl c.requires.1 c.recall_in-memo.ensures c.in-Known.is
-    (omega (arith, c.narrow-tag.ensures)) in
-    (recalled_result _ _ c.args.k _ _ _ c.requires.0 c.narrow-tag.ensures h, c.requires.1)
+    (omega arith) in
+    (recalled_result _ _ c.args.k _ _ _ c.requires.0 refl h, c.requires.1)
 
 pub rest_result-fill_branches-requires : goal.rest_result-fill_branches-requires
 rest_result-fill_branches-requires t c =
@@ -206,28 +196,27 @@ rest_result-make_in-requires t c =
       fill_armed _ _ _ c.requires.0.holds hk _ _ _ fl c.requires.0.bounded.spread c.requires.0.narrow,
     )
 
-pub rest_result-returns-in_default-make_in : goal.rest_result-returns-in_default-make_in
-rest_result-returns-in_default-make_in t c =
+pub rest_result-returns-in_err-b : goal.rest_result-returns-in_err-b
+rest_result-returns-in_err-b t c =
     let hk = still_left _ _ _ _ _ _ c.requires.0 c.if-x-y-eq0.false in
     let fl = filled _ _ _ _ _ _ _ c.if-fill_branches.true c.fill_branches.ensures.0 in
-    let m = c.make_in in
-    (gives_none c.in_default-make_in.is (fill_make _ _ _ c.requires.0.holds hk _ _ _ _ m.result fl m.ensures.0), tt)
+    rw c.from_residual.ensures (gives_none c.in_err-b.was (fill_make _ _ _ c.requires.0.holds hk _ _ _ _ c.make_in.result fl c.make_in.ensures.0), tt)
 
 pub rest_result-remember_in-requires : goal.rest_result-remember_in-requires
 rest_result-remember_in-requires t c =
     let r = (subst (StillIf _ _ _) c.if-fill_branches.true c.fill_branches.ensures.1).room in
-    (grown_windowed _ _ c.make_in.ensures.0.grown.kept c.make_in.ensures.1 r, omega (arith, c.narrow-tag.ensures))
+    (grown_windowed _ _ c.make_in.ensures.0.grown.kept c.make_in.ensures.1 r, omega arith)
 
 pub rest_result-returns-then-fill_branches : goal.rest_result-returns-then-fill_branches
 rest_result-returns-then-fill_branches t c =
     let hk = still_left _ _ _ _ _ _ c.requires.0 c.if-x-y-eq0.false in
     let fl = filled _ _ _ _ _ _ _ c.if-fill_branches.true c.fill_branches.ensures.0 in
     let m = c.make_in in
-    let re = gives_is c.in-Is-make_in.is (fill_make _ _ _ c.requires.0.holds hk _ _ _ _ m.result fl m.ensures.0) in (
+    let re = gives_is c.in_ok-b.was (fill_make _ _ _ c.requires.0.holds hk _ _ _ _ m.result fl m.ensures.0) in (
       rw c.remember_in.ensures.0 re,
       noted_result cost_table (right_more c.args.o) fl.filled.grown.well m.ensures.0.grown (make_grows _ _ _) m.ensures.1
           (subst (StillIf _ _ _) c.if-fill_branches.true c.fill_branches.ensures.1) refl c.remember_in.ensures
-          (right_here _ _ c.args.k _ _ _ c.narrow-tag.ensures (result_recalled _ _ _ c.args.k _ _ c.args.d _ _ c.requires.0 re)),
+          (right_here _ _ c.args.k _ _ _ refl (result_recalled _ _ _ c.args.k _ _ c.args.d _ c.requires.0 re)),
     )
 
 pub rest_result-returns : goal.rest_result-returns

@@ -30,12 +30,12 @@ returns-in_default c =
     (joint_start _ _ _ _ _ _ (joinable_plain c.args.t.now _ c.args.o _ _ c.requires n.same) _ int_zero _ w.result w.ensures.0))
 
 pub clear_window-requires : goal.clear_window-requires
-clear_window-requires c = (subst (Still _ _ _) c.in-Is.is c.branch_result.ensures.1).room
+clear_window-requires c = (subst (Still _ _ _) c.in-Some.is c.branch_result.ensures.1).room
 
 pub returns : goal.returns
 returns c =
     let w = c.branch_result in let n = c.begin-lent.ensures in
-    subst (Result _ _ 0 _) c.in-Is.is
+    subst (Result _ _ 0 _) c.in-Some.is
     (joint_cleared c.args.t.now _ _ _ c.args.o (branch c.args.a.to c.args.a.adds) (branch c.args.b.to c.args.b.adds) w.result
     c.requires.first.rest n.same c.clear_window.ensures
     (joint_start _ _ _ _ _ _ (joinable_plain c.args.t.now _ c.args.o _ _ c.requires n.same) _ int_zero _ w.result w.ensures.0))
