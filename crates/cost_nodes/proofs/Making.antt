@@ -85,8 +85,8 @@ module _ (w : List ℕ) (k : ℕ) (l : List ℕ) (ok : Holds w) (hk : k < featur
   found_node i h n q = (M.found_node regular w k l ok hk lv.fits level_bs i h (not_alike n) q, omega (arith, h, ok.laid.laid.within, ok.laid.laid.most))
 
   -- neither: the branch must be made
-  pub found_none : (r : ℕ) → r ≡ 0 → (AllSame (size w k) l → ⊥) → FindsRecord w k l r → Absent cost_table w k l
-  found_none r z n f = M.found_none regular w k l ok hk lv.fits r z (not_alike n) f
+  pub found_none : (AllSame (size w k) l → ⊥) → FindsRecord w k l None → Absent cost_table w k l
+  found_none n f = M.found_none regular w k l ok hk lv.fits (not_alike n) f
 
 -- ---- make
 pub small_target : (w : List ℕ) (k : ℕ) (x a : List ℕ) → Holds w → Armed w k x a → (v : ℕ) → v < 8 → listed x v < 65536

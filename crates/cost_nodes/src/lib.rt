@@ -50,11 +50,8 @@ pub fn find(t: &[u32], k: usize, list: &[u32; 12]) -> Option<Target>
     if all_same(list, size_word(t, k) as usize) {
         return Some(target_at(half_of(list[0], 0)));
     }
-    let c = find_record(t, k, *list);
-    if 0 < c {
-        return Some(Target::Node((c - 1) as u32));
-    }
-    None
+    let i = find_record(t, k, *list)?;
+    Some(Target::Node(i as u32))
 }
 
 // Lays what the first m add more than the first into an empty list.

@@ -17,7 +17,6 @@ use Rattle.cost_engine.specs.Joint.{Operands}
 use Rattle.cost_engine.specs.Memory.{Still, StillIf}
 use Rattle.cost_engine.proofs.Recalling.{recalled_result, result_recalled, right_here, right_more}
 use Rattle.cost_engine.proofs.Walking.{first_place, second_place, operands_more, operands_end, at_gap, still_left, skip_most, operands_skip, joint_skip, operands_step, joint_held, operands_ext, joint_ends, sum_fits, joint_raised, joint_stopped}
-use borrow.Author.Rules.{rules}
 use Rattle.promises.specs.Words.{size}
 use Rattle.cost_engine.proofs.+branch_result_fill_branches_rest_result.Goals as goal
 

@@ -1,6 +1,6 @@
 -- `cost_engine::rest_result`, `fill_branches` and `branch_result` meet their contracts: the remaining features fall; the first v branches are filled, and the memory is right for
 -- the table so far. Assumes nothing.
-use Rattle.std.proofs.Common.{◌≡◌, ◌+◌, ◌-◌, ◌*◌, ◌≤◌, length}
+use Rattle.std.proofs.Common.{◌≡◌, ◌+◌, ◌-◌, ◌*◌}
 use Rattle.table_notes.specs.Plain.{plain}
 use Rattle.cost_nodes.specs.Nodes.{Filling}
 use Rattle.cost_engine.specs.Joint.{joint_from}
