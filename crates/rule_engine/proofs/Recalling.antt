@@ -1,5 +1,5 @@
 -- The laws of the memory: what is remembered stays right while the table grows, a hit is what `build` gives, and a result may be remembered. Assumes nothing.
-use Rattle.std.specs.Prelude.{Some}
+use Rattle.std.specs.Prelude.{Option, Some}
 use mathlib.Core.Path.{◌≡◌, sym, ap, subst, ◌∙◌}
 use mathlib.Core.List.{List}
 use Prim.Native.Nat.{ℕ, ◌+◌, ◌-◌, ◌≤◌, ◌<◌}
@@ -20,8 +20,6 @@ use Rattle.rule_nodes.proofs.Filling.{result_ext, result_mean, mean_result}
 use Rattle.rule_operators.specs.Operators.{op_of}
 use Rattle.rule_engine.specs.Joint.{spread, joint, Operands}
 use Rattle.table_memory.specs.Memory.{Remembers, Recalls}
-use Rattle.table_memory.specs.declared.Memo.{Memo}
-use Rattle.table_memory.specs.declared.Memo.TheVariants.{Known}
 use Rattle.table_memory.proofs.Building.{mean_said}
 use Rattle.table_memory.proofs.Remembering as M
 use Rattle.rule_engine.specs.Memory.{Recalled, Keyed, Right}
@@ -89,7 +87,7 @@ module _ (w : List ℕ) (o f n k : ℕ) (l key : List ℕ) (q : Keyed n k l key)
   }
 
   -- a hit is the result
-  pub hit : (s : List ℕ) (x y : ℕ) (r : Memo) → Operands w f n k l → Remembers (n + 1) (Right o f n w) s → Recalls s key r → r ≡ Known x y → Result w w k (joint w o f n k l) (Some x)
+  pub hit : (s : List ℕ) (x y : ℕ) (r : Option (ℕ × ℕ)) → Operands w f n k l → Remembers (n + 1) (Right o f n w) s → Recalls s key r → r ≡ Some (x, y) → Result w w k (joint w o f n k l) (Some x)
   hit s x y r p m c e =
       let a : Right o f n w key x y = M.hit key q.long s x y r m c e (omega (arith, q.feature)) in
       recalled_result w o f n k l x p.holds (recalled_like w o f n k (drop 1 key) l x (λ j h. get_or-drop 1 key j 0 ∙ q.operand j h) (a.at k q.feature))

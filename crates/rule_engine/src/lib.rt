@@ -15,7 +15,7 @@ use operands::{key_of, lowest, operands_at};
 use rule_notes::make_in;
 use rule_operators::combine;
 use shortcuts::shortcut;
-use table_memory::{Memo, recall_in, remember_in};
+use table_memory::{recall_in, remember_in};
 use table_notes::{begin, clear, clear_far, clear_window};
 use table_words::{capacity_word, features_word, size_word, wide};
 
@@ -71,8 +71,7 @@ fn node_result(
     let mut key = [0u32; 10];
     key_of(n, k, ops, &mut key);
     let words = n + 1;
-    let memo = recall_in(t, s, o, &key[0..words]);
-    if let Memo::Known(x, _) = memo {
+    if let Some((x, _)) = recall_in(t, s, o, &key[0..words]) {
         return x;
     }
     let mut list = [0u32; 12];

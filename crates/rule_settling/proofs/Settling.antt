@@ -8,8 +8,7 @@ use Rattle.theory.specs.Diagrams.{meaning}
 use Rattle.theory.specs.Functions.{Agree}
 use Rattle.theory.specs.Rules.{Rule, Built}
 use Rattle.settings.specs.declared.refusals.Refusal.TheVariants.{NoRoom}
-use Rattle.settings.specs.declared.refusals.Outcome.{Outcome}
-use Rattle.settings.specs.declared.refusals.Outcome.TheVariants.{Taken, Refused}
+use Rattle.settings.specs.Refusals.{Outcome, Taken, Refused}
 use Rattle.table_words.specs.Holding as H
 use Rattle.table_words.proofs.Filling.{built_ext}
 use Rattle.table_records.specs.Changes.{Rolled}

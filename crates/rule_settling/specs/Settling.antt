@@ -2,7 +2,7 @@
 use Rattle.std.specs.Prelude.{Option, None, Some, List, [], ◌∷◌, ℕ, ◌≤◌, ◌<◌}
 use Rattle.theory.specs.Rules.{Rule}
 use Rattle.theory.specs.WellFormed.{Ok}
-use Rattle.settings.specs.declared.refusals.Outcome.{Outcome}
+use Rattle.settings.specs.Refusals.{Outcome}
 use Rattle.table_records.specs.Laid.{Laid}
 use Rattle.table_calls.specs.Writing as C
 use Rattle.rule_words.specs.Table.{rule_table}

@@ -4,18 +4,18 @@
 ghost use Rattle.rule_settling.specs.Settling.{Asks, Settled};
 
 use rule_collect::finish;
-use settings::{Outcome, Refusal};
+use settings::Refusal;
 use table_records::roll_back;
 
 // What was built into a table of n nodes becomes the rule of the place; where there was no room it is taken back.
-pub fn settle(t: &mut [u32], place: usize, n: usize, r: Option<u32>) -> Outcome
+pub fn settle(t: &mut [u32], place: usize, n: usize, r: Option<u32>) -> Result<(), Refusal>
     requires { Asks place n t.old r }
     ensures { Settled place n t.old t.new r result }
 {
     let Some(b) = r else {
         roll_back(t, n);
-        return Outcome::Refused(Refusal::NoRoom);
+        return Err(Refusal::NoRoom);
     };
     finish(t, place, b);
-    Outcome::Taken
+    Ok(())
 }

@@ -121,15 +121,15 @@ node_result-key_of-requires t c = (c.requires.0.two, c.requires.0.nine, omega (a
 pub node_result-slice_bounds-recall_in-end : goal.node_result-slice_bounds-recall_in-end
 node_result-slice_bounds-recall_in-end t c = omega (arith, c.requires.0.nine, c.key_of.ensures.1)
 
-pub node_result-recall_in-memo-requires : goal.node_result-recall_in-memo-requires
-node_result-recall_in-memo-requires t c = c.requires.1.room
+pub node_result-recall_in-requires : goal.node_result-recall_in-requires
+node_result-recall_in-requires t c = c.requires.1.room
 
-pub node_result-returns-in-Known : goal.node_result-returns-in-Known
-node_result-returns-in-Known t c =
+pub node_result-returns-in-Some : goal.node_result-returns-in-Some
+node_result-returns-in-Some t c =
     let q = key_part c.args.n c.args.k c.args.ops.now _ c.key_of.ensures.0 in
     word_left _ _ c.args.k _ _ c.requires.0.holds
     (hit _ _ _ _ c.args.k c.args.ops.now _ q (memory c.args.t.now c.args.s.now) _ _ _ c.requires.0 c.requires.1.right
-    c.recall_in-memo.ensures c.in-Known.is) c.requires.1
+    c.recall_in.ensures c.in-Some.is) c.requires.1
 
 pub node_result-fill_branches-requires : goal.node_result-fill_branches-requires
 node_result-fill_branches-requires t c =
@@ -165,7 +165,7 @@ node_result-returns-then-fill_branches t c =
     let fb = c.fill_branches in
     let m = c.make_in.ensures in
     let fl = filled _ _ _ _ _ _ c.if-fill_branches.true fb.ensures.0 in
-    let re = gives_is c.in-Some.is (fill_make _ _ _ c.requires.0.holds c.requires.2 _ _ _ _ fl m.0) in
+    let re = gives_is c.in-Some-make_in.is (fill_make _ _ _ c.requires.0.holds c.requires.2 _ _ _ _ fl m.0) in
     let y = key_part c.args.n c.args.k c.args.ops.now _ c.key_of.ensures.0 in
     word_left _ _ c.args.k _ _ c.requires.0.holds (rw c.remember_in.ensures.0 re)
     (noted_result rule_table (right_more c.args.o c.args.f c.args.n) fl.filled.grown.well m.0.grown (make_grows _ _ _) m.1
