@@ -1,9 +1,11 @@
 -- The marks: what they say of a branch, and of the values of a feature in turn. Assumes nothing.
-use mathlib.Core.Bool.{Bool, true}
-use mathlib.Core.Path.{◌≡◌, sym, subst}
+use Rattle.std.specs.Prelude.{Option, Some, None}
+use Rattle.std.specs.Option.{IsSome}
+use mathlib.Core.Bool.{Bool}
+use mathlib.Core.Path.{◌≡◌, refl, sym, subst}
 use mathlib.Core.Logic.{⊎_elim}
 use mathlib.Core.List.{List}
-use Prim.Native.Nat.{ℕ, ◌+◌, ◌≤◌, ◌<◌}
+use Prim.Native.Nat.{ℕ, ◌+◌, ◌<◌}
 use native.Mathlib.Nat.{le_refl}
 use native.Mathlib.Omega.{arith}
 use lib.ListN.{drop}
@@ -13,14 +15,15 @@ use Rattle.theory.specs.Functions.{held}
 use Rattle.theory.specs.Rules.{Rule}
 use Rattle.theory.proofs.Counted.{meet_some}
 use Rattle.theory.proofs.Rules.{value_phrase, numbers}
-use Rattle.table_words.proofs.Tab.{split, same}
+use Rattle.table_words.proofs.Tab.{split}
 use Rattle.rule_words.proofs.Reading.{decode_phrase}
 use Rattle.settings.specs.Tells.{Tells}
 use Rattle.rule_count.specs.Figures.{answered}
+use Rattle.rule_count.specs.declared.Wanted.TheVariants.{Exactly}
 use Rattle.rule_count.proofs.Asking.{answered_tells}
 use Rattle.rule_next.specs.Marks.{Leads, Spot, Marks, rule_from, Smallest}
 use Rattle.rule_next.proofs.Stepping.{spot_is, spot_next, rule_next_lem, sizes_left}
-use Rattle.promises.specs.Words.{features, size, sizes, count}
+use Rattle.promises.specs.Words.{features, sizes, count}
 use Rattle.promises.specs.RuleWords.{decode, rule_node_list as nodes}
 
 -- ---- a branch word
@@ -32,37 +35,23 @@ pub spot_small : {w : List ℕ} {k b : ℕ} → Spot w k b → b < 65536 + count
 spot_small {w} {k} {b} s = ⊎_elim (λ h. omega (arith, h)) (λ h. omega (arith, h, (spot_is s h).0)) (split b 65536)
 
 -- the marks tell whether a branch leads to x
-marks_tell : {w : List ℕ} {k b : ℕ} {has : List Bool} (x : ℕ) → Spot w k b → Marks w x has → Tells (answered has true x b) (Leads w x k b)
-marks_tell {w} {k} {b} {has} x s q = answered_tells s.sound true x (count w) k b has (le_refl _) q (record { below = spot_small s; above = λ h. (spot_is s h).1 })
+marks_tell : {w : List ℕ} {k b : ℕ} {has : List Bool} (x : ℕ) → Spot w k b → Marks w x has → Tells (answered has (Exactly x) b) (Leads w x k b)
+marks_tell {w} {k} {b} {has} x s q = answered_tells s.sound (Exactly x) (count w) k b has (le_refl _) q (record { below = spot_small s; above = λ h. (spot_is s h).1 })
 
 -- ---- the values of a feature in turn
--- no value from a up to v leads to x
-pub record Passed (w : List ℕ) (x k b a v : ℕ) : Type 0 where
-  pub from : a ≤ v
-  pub none : (y : ℕ) → a ≤ y → y < v → Given (drop (k + 1) (sizes w)) (held y (rule_from w k b)) x → ⊥
-
-pub passed_none : (w : List ℕ) (x k b a : ℕ) → Passed w x k b a a
-passed_none w x k b a = record { from = omega arith; none = λ y h l. absurd (omega arith) }
-
-pub passed_more : {w : List ℕ} {x k b a v : ℕ} → Passed w x k b a v → (Given (drop (k + 1) (sizes w)) (held v (rule_from w k b)) x → ⊥) → Passed w x k b a (v + 1)
-passed_more {w} {x} {k} {b} {a} {v} p n =
-    record { from = omega (arith, p.from); none = λ y h l. ⊎_elim (λ e. rw e n) (λ e. p.none y h (omega arith)) (same y v) }
-
 module _ {w : List ℕ} {k b : ℕ} (s : Spot w k b) (h : k < features w) (x : ℕ) where
   -- the marks tell whether a value leads to x
-  pub value_tells : {has : List Bool} (v c : ℕ) (r : Bool) → decode c ≡ next (nodes w) k (decode b) v → r ≡ answered has true x c → Marks w x has
+  pub value_tells : {has : List Bool} (v c : ℕ) (r : Bool) → decode c ≡ next (nodes w) k (decode b) v → r ≡ answered has (Exactly x) c → Marks w x has
       → Tells r (Given (drop (k + 1) (sizes w)) (held v (rule_from w k b)) x)
   value_tells {has} v c r e t q =
       let p = spot_next s v c e h in
-      rw t (subst (λ (g : Rule). Tells (answered has true x c) (Given (drop (k + 1) (sizes w)) g x)) (rule_next_lem s v c e) (marks_tell x p q))
+      rw t (subst (λ (g : Rule). Tells (answered has (Exactly x) c) (Given (drop (k + 1) (sizes w)) g x)) (rule_next_lem s v c e) (marks_tell x p q))
 
   -- the branch of a value that leads to x does
   pub leads_next : (v c : ℕ) → decode c ≡ next (nodes w) k (decode b) v → Given (drop (k + 1) (sizes w)) (held v (rule_from w k b)) x → Leads w x (k + 1) c
   leads_next v c e r = subst (λ (g : Rule). Given (drop (k + 1) (sizes w)) g x) (sym (rule_next_lem s v c e)) r
 
   -- some value does, if the branch does
-  pub smallest_there : (r : ℕ) → Leads w x k b → Smallest w x k b 0 r → r < size w k
-  smallest_there r l q = ⊎_elim
-      (λ g. g)
-      (λ g. let y = meet_some (rw (sizes_left w k h) at l) in absurd (q.none y.0 (omega arith) (omega (arith, y.1)) y.2))
-      (split r (size w k))
+  pub smallest_there : (r : Option ℕ) → Leads w x k b → Smallest w x k b 0 r → IsSome r
+  smallest_there (Some v) l q = refl
+  smallest_there None l q = let y = meet_some (rw (sizes_left w k h) at l) in absurd (q y.0 (omega arith) (omega (arith, y.1)) y.2)

@@ -1,6 +1,7 @@
 -- The descents: the places that hold a setting, completed feature by feature, and the answer. Assumes nothing.
-use mathlib.Core.Bool.{Bool, true, false}
-use mathlib.Core.Path.{◌≡◌, refl, sym, ap, subst, ◌∙◌}
+use Rattle.std.specs.Prelude.{Some, None}
+use Rattle.std.specs.Bool.{then_some}
+use mathlib.Core.Path.{◌≡◌, sym, ap, subst, ◌∙◌}
 use mathlib.Core.List.{List, [], ◌∷◌}
 use Prim.Native.Nat.{ℕ, ◌+◌, ◌-◌, ◌≤◌, ◌<◌}
 use native.Mathlib.Decide.{ℕ_discrete, dec_lt}
@@ -20,7 +21,7 @@ use Rattle.table_words.proofs.Words.{length_sizes}
 use Rattle.settings.specs.Step.{setting_of}
 use Rattle.settings.proofs.Holding.{values_held, rest_held}
 use Rattle.settings.proofs.Places.{keeps_all, keeps_less, keeps_set, places, set_place, held_first}
-use Rattle.rule_next.specs.Marks.{Leads, Spot, Smallest, rule_from}
+use Rattle.rule_next.specs.Marks.{Leads, Spot, Least, Smallest, rule_from}
 use Rattle.rule_next.specs.Next.{Completes, Finds, Seeks, Answers}
 use Rattle.rule_next.proofs.Stepping.{spot_is, rule_next_lem, sizes_left}
 use Rattle.rule_next.proofs.Marking.{phrase_gives}
@@ -54,10 +55,10 @@ module _ {w : List ℕ} {k b : ℕ} (s : Spot w k b) (x : ℕ) where
           first = rw (none_left, no_place) (first_end (rule_from w k b) x (given_end (rule_from w k b) x (rw none_left at r)));
         }
 
-    pub seek_end : Seeks w x k b v (eqb b x) v
+    pub seek_end : Seeks w x k b v (then_some (eqb b x) v)
     seek_end = go (ℕ_discrete b x)
       where
-        go : Dec (b ≡ x) → Seeks w x k b v (eqb b x) v
+        go : Dec (b ≡ x) → Seeks w x k b v (then_some (eqb b x) v)
         go (yes e) =
             rw (eq-eqb b x e)
             (record { keeps = keeps_all (features w) k v long; first = rw (none_left, no_place) (first_from_end (rule_from w k b) x (phrase_gives w k b [] is_phrase ∙ e)) })
@@ -76,12 +77,12 @@ module _ {w : List ℕ} {k b : ℕ} (s : Spot w k b) (x : ℕ) where
     pub seek_valid : Valid (drop k (sizes w)) (slice k n v) → (get_or v k 0 < size w k) × Valid ns (slice (k + 1) n v)
     seek_valid h = rw (sizes_left w k more, places k n v more few long) at h
 
-    pub complete_more : (y c : ℕ) (r : List ℕ) → decode c ≡ next (nodes w) k (decode b) y → y < size w k → Smallest w x k b 0 y → Completes w x (k + 1) c (set v k y) r → Completes w x k b v r
-    complete_more y c r e h q z =
+    pub complete_more : (y c : ℕ) (r : List ℕ) → decode c ≡ next (nodes w) k (decode b) y → Least w x k b 0 y → Completes w x (k + 1) c (set v k y) r → Completes w x k b v r
+    complete_more y c r e q z =
         record {
           keeps = keeps_set y more z.keeps;
           first = rw (sizes_left w k more, set_place v y more few long z.keeps)
-              (first_smallest (size w k) ns (rule_from w k b) x y (slice (k + 1) n r) h (λ u l. q.none u (omega arith) l)
+              (first_smallest (size w k) ns (rule_from w k b) x y (slice (k + 1) n r) q.below (λ u l. q.none u (omega arith) l)
               (subst (λ (g : Rule). First ns g x (slice (k + 1) n r)) (rule_next_lem s y c e) z.first));
         }
 
@@ -91,9 +92,8 @@ module _ {w : List ℕ} {k b : ℕ} (s : Spot w k b) (x : ℕ) where
       here = places k n v more few long ∙ ap (λ (z : ℕ). z ∷ slice (k + 1) n v) (sym ea)
 
       -- the same value of feature k
-      pub seek_same : (f : Bool) (r : List ℕ) → f ≡ true → Seeks w x (k + 1) c v f r → Seeks w x k b v f r
-      seek_same false r t z = let o : ◌≡◌ {A = Bool} false true = t in let q : ◌≡◌ {A = ℕ} 0 1 = cc in absurd (omega arith)
-      seek_same true r t z =
+      pub seek_same : (r : List ℕ) → Finds w x (k + 1) c v r → Finds w x k b v r
+      seek_same r z =
           record {
             keeps = keeps_less z.keeps;
             first = rw (sizes_left w k more, here, places k n r more few z.keeps.sized, z.keeps.front k (omega arith) ∙ sym ea)
@@ -102,22 +102,22 @@ module _ {w : List ℕ} {k b : ℕ} (s : Spot w k b) (x : ℕ) where
           }
 
       -- else a greater one
-      module _ (f : Bool) (r : List ℕ) (y : ℕ) (t : f ≡ false) (z : Seeks w x (k + 1) c v f r) (q : Smallest w x k b (a + 1) y) where
+      module _ (z : Seeks w x (k + 1) c v None) where
         none_same : NoneFrom ns (held a (rule_from w k b)) x (slice (k + 1) n v)
-        none_same = subst (λ (g : Rule). NoneFrom ns g x (slice (k + 1) n v)) (rule_next_lem s a c e) (subst (λ (u : Bool). Seeks w x (k + 1) c v u r) t z)
+        none_same = subst (λ (g : Rule). NoneFrom ns g x (slice (k + 1) n v)) (rule_next_lem s a c e) z
 
-        pub seek_none : size w k ≤ y → Seeks w x k b v false v
-        seek_none l =
+        pub seek_none : Smallest w x k b (a + 1) None → Seeks w x k b v None
+        seek_none q =
             rw (sizes_left w k more, here)
-            (none_greater (size w k) ns (rule_from w k b) x a (slice (k + 1) n v) none_same (λ u i o. q.none u i (omega arith)))
+            (none_greater (size w k) ns (rule_from w k b) x a (slice (k + 1) n v) none_same (λ u i o. q u i o))
 
-        pub seek_greater : y < size w k → (d : ℕ) (to : List ℕ) → decode d ≡ next (nodes w) k (decode b) y → Completes w x (k + 1) d (set v k y) to → Seeks w x k b v true to
-        seek_greater l d to i p =
+        pub seek_greater : (y d : ℕ) (to : List ℕ) → Least w x k b (a + 1) y → decode d ≡ next (nodes w) k (decode b) y → Completes w x (k + 1) d (set v k y) to → Finds w x k b v to
+        seek_greater y d to q i p =
             record {
               keeps = keeps_set y more p.keeps;
               first = rw (sizes_left w k more, here, set_place v y more few long p.keeps)
                   (first_greater (size w k) ns (rule_from w k b) x a (slice (k + 1) n v) none_same y (slice (k + 1) n to)
-                  (seek_valid h).1 (omega (arith, q.from)) l (λ u j o. q.none u j o)
+                  (seek_valid h).1 (omega (arith, q.from)) q.below (λ u j o. q.none u j o)
                   (subst (λ (g : Rule). First ns g x (slice (k + 1) n to)) (rule_next_lem s y d i) p.first));
             }
 
@@ -140,12 +140,8 @@ module _ {w : List ℕ} (s : Sound w) (p x : ℕ) (l : List ℕ) (h : Valid (siz
   rest = subst (λ (n : ℕ). drop n (setting_of l).values ≡ replicate (16 - n) 0) long (rest_held l short)
 
   module _ (b : ℕ) (e : b ≡ root w p) where
-    pub answer_none : (f : Bool) (r : List ℕ) → f ≡ false → Seeks w x 0 b (setting_of l).values f r → Answers (sizes w) (rule_of w p) x l false (setting_of [])
-    answer_none f r t z =
-        (refl, rw start at (rw e at (subst (λ (y : Bool). Seeks w x 0 b (setting_of l).values y r) t z)))
+    pub answer_none : Seeks w x 0 b (setting_of l).values None → Answers (sizes w) (rule_of w p) x l None
+    answer_none z = rw start at (rw e at z)
 
-    pub answer_some : (f : Bool) (r : List ℕ) → f ≡ true → Seeks w x 0 b (setting_of l).values f r → Answers (sizes w) (rule_of w p) x l true (record { count = length l; values = r })
-    answer_some f r t z = (take (features w) r, held_first (length l) (features w) r long s.header.few q.keeps.sized (q.keeps.back ∙ rest), rw start at (rw e at q.first))
-      where
-        q : Finds w x 0 b (setting_of l).values r
-        q = subst (λ (y : Bool). Seeks w x 0 b (setting_of l).values y r) t z
+    pub answer_some : (r : List ℕ) → Finds w x 0 b (setting_of l).values r → Answers (sizes w) (rule_of w p) x l (Some (record { count = length l; values = r }))
+    answer_some r q = (take (features w) r, held_first (length l) (features w) r long s.header.few q.keeps.sized (q.keeps.back ∙ rest), rw start at (rw e at q.first))

@@ -8,17 +8,20 @@ use lib.ListN.{drop}
 use lib.Seq.{drop-cons}
 use Rattle.theory.specs.Diagrams.{next}
 use Rattle.theory.specs.Functions.{held}
-use Rattle.theory.specs.Rules.{Branch, node}
+use Rattle.theory.specs.Rules.{node}
 use Rattle.theory.specs.WellFormed.{Ok, WellFormed}
 use Rattle.theory.proofs.First.{held_next}
-use Rattle.theory.proofs.Values.{next_here, next_wait, next_ok}
+use Rattle.theory.proofs.Values.{next_ok}
 use Rattle.table_words.proofs.Words.{length_sizes, at_sizes}
-use Rattle.rule_words.proofs.Reading.{decode_phrase, decode_node, length_nodes, branch_at_lem}
+use Rattle.rule_words.proofs.Reading.{decode_node, length_nodes}
 use Rattle.rule_sound.proofs.Sitting.{sits_ok}
-use Rattle.rule_sound.proofs.Pictures.{sound_tidy}
+use Rattle.rule_sound.proofs.Pictures.{sound_tidy, sound_tested}
+use Rattle.table_calls.proofs.Sounding.{tested_holds}
+use Rattle.rule_words.proofs.Regular.{regular}
+use Rattle.rule_nodes.specs.Nodes.{Place}
 use Rattle.rule_count.proofs.Counts.{tests}
 use Rattle.rule_next.specs.Marks.{Spot, rule_from}
-use Rattle.promises.specs.Words.{features, size, sizes, count, feature, body}
+use Rattle.promises.specs.Words.{features, size, sizes, count, feature}
 use Rattle.promises.specs.RuleWords.{decode, rule_node_list as nodes, rule_root as root}
 use Rattle.promises.specs.RuleSound.{RuleSound as Sound}
 
@@ -45,22 +48,9 @@ module _ {w : List ℕ} {k b : ℕ} (s : Spot w k b) where
       let l : b - 65536 < count w = omega (arith, o.0, length_nodes w) in
       (l, omega (arith, o.1, tests w (b - 65536) l))
 
-  pub child_phrase : (v : ℕ) → b < 65536 → decode b ≡ next (nodes w) k (decode b) v
-  child_phrase v h = sym (next_wait (nodes w) k (decode b) v (subst (Ok (nodes w) (suc k)) (sym (decode_phrase b h)) tt))
-
-  pub child_here : (v : ℕ) → v < size w k → 65536 ≤ b → feature w (b - 65536) ≡ k → decode (body w (b - 65536) v) ≡ next (nodes w) k (decode b) v
-  child_here v hv h e =
-      let l : b - 65536 < count w = (spot_is h).0 in
-      let z : size w (feature w (b - 65536)) ≡ size w k = ap (size w) e in
-      sym (ap (λ (c : Branch). next (nodes w) k c v) (decode_node b h)
-      ∙ next_here (nodes w) k (b - 65536) v tt (tests w (b - 65536) l ∙ e)
-      ∙ branch_at_lem w (b - 65536) v l (omega arith))
-
-  pub child_wait : (v : ℕ) → 65536 ≤ b → (feature w (b - 65536) ≡ k → ⊥) → decode b ≡ next (nodes w) k (decode b) v
-  child_wait v h ne =
-      let p = spot_is h in
-      let o : Ok (nodes w) (suc k) (node (b - 65536)) = (omega (arith, p.0, length_nodes w), omega (arith, p.1, ne, tests w (b - 65536) p.0)) in
-      sym (next_wait (nodes w) k (decode b) v (subst (Ok (nodes w) (suc k)) (sym (decode_node b h)) o))
+  -- it is a place of the diagram
+  pub spot_place : Place w k b
+  spot_place = record { holds = tested_holds regular (sound_tested s.sound); good = s.good; up_to = s.up_to }
 
   module _ (v c : ℕ) (e : decode c ≡ next (nodes w) k (decode b) v) where
     pub spot_next : k < features w → Spot w (k + 1) c

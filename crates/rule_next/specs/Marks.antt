@@ -1,11 +1,12 @@
 -- Contract between layers: which branches of a rule table lead to a number: what the pass over the nodes tells. Assumes nothing.
-use Rattle.std.specs.Prelude.{Bool, true, List, ℕ, ◌+◌, ◌≤◌, ◌<◌, drop}
+use Rattle.std.specs.Prelude.{Bool, Option, Some, None, List, ℕ, ◌+◌, ◌≤◌, ◌<◌, drop}
 use Rattle.theory.specs.Counted.{Given}
 use Rattle.theory.specs.Diagrams.{value}
 use Rattle.theory.specs.Functions.{held}
 use Rattle.theory.specs.Rules.{Rule}
 use Rattle.theory.specs.WellFormed.{Ok}
 use Rattle.rule_count.specs.Figures.{Answered}
+use Rattle.rule_count.specs.declared.Wanted.TheVariants.{Exactly}
 use Rattle.promises.specs.Words.{features, size, count, sizes}
 use Rattle.promises.specs.RuleWords.{decode, rule_node_list as nodes}
 use Rattle.promises.specs.RuleSound.{RuleSound as Sound}
@@ -26,11 +27,16 @@ pub record Spot (w : List ℕ) (k b : ℕ) : Type 0 where
 
 -- the list tells of each node whether it leads to x
 abbrev pub Marks : List ℕ → ℕ → List Bool → Type 0
-Marks w x has = Answered w true x (count w) has
+Marks w x has = Answered w (Exactly x) (count w) has
 
--- r is the smallest value of feature k, from v on, whose branch leads to x; the feature's size where there is none
-pub record Smallest (w : List ℕ) (x k b v r : ℕ) : Type 0 where
+-- r is the smallest value of feature k, from v on, whose branch leads to x
+pub record Least (w : List ℕ) (x k b v r : ℕ) : Type 0 where
   pub from : v ≤ r
-  pub most : r ≤ size w k
+  pub below : r < size w k
   pub none : (y : ℕ) → v ≤ y → y < r → Given (drop (k + 1) (sizes w)) (held y (rule_from w k b)) x → ⊥
-  pub leads : r < size w k → Given (drop (k + 1) (sizes w)) (held r (rule_from w k b)) x
+  pub leads : Given (drop (k + 1) (sizes w)) (held r (rule_from w k b)) x
+
+-- there is such a value, the smallest; or there is none
+abbrev pub Smallest : List ℕ → ℕ → ℕ → ℕ → ℕ → Option ℕ → Type 0
+Smallest w x k b v (Some r) = Least w x k b v r
+Smallest w x k b v None = (y : ℕ) → v ≤ y → y < size w k → Given (drop (k + 1) (sizes w)) (held y (rule_from w k b)) x → ⊥
