@@ -1,16 +1,8 @@
 -- Contract between layers: what the words mean in which `rule_lending` says how a rule is built in a rule table; the laws `..-in` and `..-out` are for its own proofs alone. Assumes nothing.
-use Rattle.std.specs.Prelude.{List, ℕ, ◌<◌}
-use Rattle.std.proofs.Math.Option.{Option, none, some}
+use Rattle.std.specs.Prelude.{Option, List, ℕ, ◌<◌}
 use Rattle.theory.specs.Rules.{Rule}
 use Rattle.rule_nodes.specs.Nodes as N
-use Rattle.rule_nodes.specs.declared.Answer.{Answer}
-use Rattle.rule_nodes.specs.declared.Answer.TheVariants.{Is, NoRoom}
 use Rattle.promises.specs.Words.{features}
-
--- the answer that tells this branch word, or that there was no room
-abbrev pub answer : Option ℕ → Answer
-answer (some b) = Is b
-answer none = NoRoom
 
 -- w is a rule table that nodes may be added to
 pub record Ready (w : List ℕ) : Type 0 where
@@ -24,12 +16,12 @@ ready_out r = r.holds
 
 -- w' is w with the nodes of the rule g of features k and up, and the answer tells its branch; or there was no room for them
 pub record Built (w w' : List ℕ) (k : ℕ) (g : Rule) (a : Option ℕ) : Type 0 where
-  result : N.Result w w' k g (answer a)
+  result : N.Result w w' k g a
 
-pub built_in : {w w' : List ℕ} {k : ℕ} {g : Rule} {a : Option ℕ} → N.Result w w' k g (answer a) → Built w w' k g a
+pub built_in : {w w' : List ℕ} {k : ℕ} {g : Rule} {a : Option ℕ} → N.Result w w' k g a → Built w w' k g a
 built_in r = record { result = r }
 
-pub built_out : {w w' : List ℕ} {k : ℕ} {g : Rule} {a : Option ℕ} → Built w w' k g a → N.Result w w' k g (answer a)
+pub built_out : {w w' : List ℕ} {k : ℕ} {g : Rule} {a : Option ℕ} → Built w w' k g a → N.Result w w' k g a
 built_out b = b.result
 
 -- t is w with the nodes of the first v branches of g at feature k, and the list says these branches
@@ -66,10 +58,10 @@ listed_out l = (l.holds, l.left, l.listed)
 
 -- w' is w with that node, and the answer tells its branch; or there was no room for it
 pub record Made (w w' : List ℕ) (k : ℕ) (l : List ℕ) (a : Option ℕ) : Type 0 where
-  makes : N.Makes w w' k l (answer a)
+  makes : N.Makes w w' k l a
 
-pub made_in : {w w' : List ℕ} {k : ℕ} {l : List ℕ} {a : Option ℕ} → N.Makes w w' k l (answer a) → Made w w' k l a
+pub made_in : {w w' : List ℕ} {k : ℕ} {l : List ℕ} {a : Option ℕ} → N.Makes w w' k l a → Made w w' k l a
 made_in m = record { makes = m }
 
-pub made_out : {w w' : List ℕ} {k : ℕ} {l : List ℕ} {a : Option ℕ} → Made w w' k l a → N.Makes w w' k l (answer a)
+pub made_out : {w w' : List ℕ} {k : ℕ} {l : List ℕ} {a : Option ℕ} → Made w w' k l a → N.Makes w w' k l a
 made_out m = m.makes

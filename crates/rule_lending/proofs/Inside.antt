@@ -1,5 +1,5 @@
 -- Laws that look inside the words of this crate, for its own proofs alone: what the functions below may be asked, and what their answers are here. Assumes nothing.
-use mathlib.Core.Path.{◌≡◌, refl, sym, ap, subst, ◌∙◌}
+use mathlib.Core.Path.{◌≡◌, refl, sym, ap, ◌∙◌}
 use mathlib.Core.Logic.{⊎_elim}
 use mathlib.Core.List.{List, ◌∷◌}
 use Prim.Native.Nat.{ℕ, suc, ◌+◌, ◌-◌, ◌≤◌, ◌<◌}
@@ -12,25 +12,14 @@ use Rattle.theory.specs.Rules.{Branch}
 use Rattle.theory.proofs.Values.{value_next, value_wait}
 use Rattle.table_words.proofs.Tab.{split}
 use Rattle.table_records.specs.Laid.{Laid}
-use Rattle.rule_nodes.specs.Nodes as N
 use Rattle.rule_nodes.specs.Nodes.{top}
-use Rattle.rule_nodes.specs.declared.Answer.{Answer as Node}
-use Rattle.rule_nodes.specs.declared.Answer.TheVariants.{Is as NodeIs, NoRoom as NoNode}
 use Rattle.rule_nodes.proofs.Reading.{good_small}
 use Rattle.rule_nodes.proofs.Stepping.{top_phrase, top_node, good_top, top_good, place_next}
 use Rattle.rule_sound.proofs.Sitting.{sits_ok}
 use Rattle.settings.specs.Tells.{Tells}
-use Rattle.settings.specs.declared.refusals.Outcome.{Outcome}
-use Rattle.rule_settling.specs.Settling as S
 use Rattle.rule_settling.proofs.Settling.{sound_holds}
 use Rattle.rule_inside.specs.Branches.{Lent, lent_in, lent_out, lent, Number, number_in, number_out, key_of}
-use Rattle.rule_inside.specs.Building.{made_in}
-use Rattle.rule_inside.specs.Settling.{asking_out, ending_in}
 use Rattle.rule_lending.specs.Lending.{Lends, Roots, Goes, Tops}
-use Rattle.rule_lending.specs.Building.{Makes}
-use Rattle.rule_lending.specs.Settling.{Asks, Settled}
-use Rattle.rule_lending.specs.declared.Answer.{Answer}
-use Rattle.rule_lending.specs.declared.Answer.TheVariants.{Is, NoRoom}
 use Rattle.promises.specs.Words.{features, count}
 use Rattle.promises.specs.RuleWords.{decode, rule_node_list as nodes, rule_root as root}
 use Rattle.promises.specs.RuleSound.{RuleSound as Sound}
@@ -92,24 +81,3 @@ tells_number b = ⊎_elim (λ l. rw (lt-ltb b 65536 l) (number_in l)) (λ l. rw 
 pub key_is : (b : ℕ) → b ≡ key_of b
 unfolding key_of
 key_is b = refl
-
--- ---- the answers of `make`, and those that `settle` is told
-pub made_is : {w w' : List ℕ} {k b : ℕ} {l : List ℕ} {a : Node} → a ≡ NodeIs b → N.Makes w w' k l a → Makes w w' k l (Is b)
-made_is {w} {w'} {k} {b} {l} e m = made_in (subst (λ (x : Node). N.Makes w w' k l x) e m)
-
-pub made_none : {w w' : List ℕ} {k : ℕ} {l : List ℕ} {a : Node} → a ≡ NoNode → N.Makes w w' k l a → Makes w w' k l NoRoom
-made_none {w} {w'} {k} {l} e m = made_in (subst (λ (x : Node). N.Makes w w' k l x) e m)
-
-module _ {p n : ℕ} {w : List ℕ} {a : Answer} where
-  pub asks_is : {b : ℕ} → a ≡ Is b → Asks p n w a → S.Asks p n w (NodeIs b)
-  asks_is {b} e h = let q : Asks p n w (Is b) = subst (λ (x : Answer). Asks p n w x) e h in asking_out q
-
-  pub asks_none : a ≡ NoRoom → Asks p n w a → S.Asks p n w NoNode
-  asks_none e h = let q : Asks p n w NoRoom = subst (λ (x : Answer). Asks p n w x) e h in asking_out q
-
-  module _ {w' : List ℕ} {o : Outcome} where
-    pub settled_is : {b : ℕ} → a ≡ Is b → S.Settled p n w w' (NodeIs b) o → Settled p n w w' a o
-    settled_is {b} e h = let q : Settled p n w w' (Is b) o = ending_in h in subst (λ (x : Answer). Settled p n w w' x o) (sym e) q
-
-    pub settled_none : a ≡ NoRoom → S.Settled p n w w' NoNode o → Settled p n w w' a o
-    settled_none e h = let q : Settled p n w w' NoRoom o = ending_in h in subst (λ (x : Answer). Settled p n w w' x o) (sym e) q

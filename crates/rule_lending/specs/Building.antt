@@ -1,25 +1,17 @@
 -- Contract between layers: how a rule is built in a rule table: what `make` asks and answers, and what a call that builds leaves, which the part above knows by its laws alone. Assumes nothing.
-use Rattle.std.specs.Prelude.{Bool, true, false, List, ℕ}
-use Rattle.std.proofs.Math.Option.{Option, none, some}
+use Rattle.std.specs.Prelude.{Bool, true, false, Option, List, ℕ}
 use Rattle.theory.specs.Rules.{Rule}
 -- shut: a table that nodes may be added to; a rule built, or its first branches, or no room for all; a list that a node may be made of, the node made
 pub use Rattle.rule_inside.specs.Building.{Ready, Built, Filling, Stopped, Listed, Made}
-use Rattle.rule_lending.specs.declared.Answer.{Answer}
-use Rattle.rule_lending.specs.declared.Answer.TheVariants.{Is, NoRoom}
 use Rattle.promises.specs.Words.{size}
 
--- the branch word that an answer tells, if it tells one
-abbrev pub told : Answer → Option ℕ
-told (Is b) = some b
-told NoRoom = none
-
 -- THE CONTRACT of every function that builds: the table afterwards, and the answer, are those of the rule g of features k and up
-abbrev pub Result : List ℕ → List ℕ → ℕ → Rule → Answer → Type 0
-Result w w' k g a = Built w w' k g (told a)
+abbrev pub Result : List ℕ → List ℕ → ℕ → Rule → Option ℕ → Type 0
+Result w w' k g a = Built w w' k g a
 
 -- that of `make`
-abbrev pub Makes : List ℕ → List ℕ → ℕ → List ℕ → Answer → Type 0
-Makes w w' k l a = Made w w' k l (told a)
+abbrev pub Makes : List ℕ → List ℕ → ℕ → List ℕ → Option ℕ → Type 0
+Makes w w' k l a = Made w w' k l a
 
 -- all branches of g at feature k are filled, or there was no room for them
 abbrev pub Fills : List ℕ → List ℕ → ℕ → Rule → Bool → List ℕ → Type 0

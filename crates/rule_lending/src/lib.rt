@@ -10,18 +10,11 @@ ghost use Rattle.rule_lending.specs.Settling.{Marked, Asks, Settled};
 ghost use Rattle.promises.specs.Words.{features, size};
 ghost use Rattle.promises.specs.RuleSound.{RuleSound as Sound};
 
-use rule_nodes::{Answer as Node, child_of, make as make_node, top_of};
+use rule_nodes::{child_of, make as make_node, top_of};
 use rule_settling::settle as settle_node;
 use rule_words::{NUMBERS, root_word};
-use settings::Outcome;
-use table_words::{count_word, wide};
-
-// The answer of a function that may add nodes: the branch word, or that there was no room.
-#[derive(Clone, Copy)]
-pub enum Answer {
-    Is(u32),
-    NoRoom,
-}
+use settings::Refusal;
+use table_words::count_word;
 
 // ---- branches
 // The branch word of a place.
@@ -80,14 +73,11 @@ pub fn key_of(b: u32) -> u32
 
 // ---- building
 // The branch that has the list's branches at feature k; its node is made where there is none.
-pub fn make(t: &mut [u32], k: usize, list: [u32; 12]) -> Answer
+pub fn make(t: &mut [u32], k: usize, list: [u32; 12]) -> Option<u32>
     requires { Listed t.old k list }
     ensures { Makes t.old t.new k list result }
 {
-    let Node::Is(b) = make_node(t, k, list) else {
-        return Answer::NoRoom;
-    };
-    Answer::Is(b)
+    make_node(t, k, list)
 }
 
 // The mark of a table before a call builds: what is built after it can be taken back.
@@ -95,16 +85,13 @@ pub fn begin(t: &[u32]) -> usize
     requires { Sound t.now }
     ensures { Marked t.now result }
 {
-    wide(count_word(t))
+    count_word(t) as usize
 }
 
 // What was built after the mark n becomes the rule of the place; where there was no room it is taken back.
-pub fn settle(t: &mut [u32], place: usize, n: usize, r: Answer) -> Outcome
+pub fn settle(t: &mut [u32], place: usize, n: usize, r: Option<u32>) -> Result<(), Refusal>
     requires { Asks place n t.old r }
     ensures { Settled place n t.old t.new r result }
 {
-    let Answer::Is(b) = r else {
-        return settle_node(t, place, n, Node::NoRoom);
-    };
-    settle_node(t, place, n, Node::Is(b))
+    settle_node(t, place, n, r)
 }

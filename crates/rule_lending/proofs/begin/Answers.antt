@@ -1,7 +1,6 @@
 -- `rule_lending::begin` meets its contract: the mark is the number of nodes. Assumes nothing.
-use mathlib.Core.Path.{◌∙◌}
 use Rattle.rule_inside.specs.Settling.{marked_in}
 use Rattle.rule_lending.proofs.begin.Goals as goal
 
 pub returns : goal.returns
-returns c = marked_in (c.wide.ensures.0 ∙ c.count_word.ensures)
+returns c = marked_in c.count_word.ensures
