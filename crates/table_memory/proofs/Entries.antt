@@ -51,9 +51,6 @@ unfolding key_at
 key_found s key i m e h = subst (λ (x : ℕ). take x (drop ((length key + 2) * i) s) ≡ key) e ((slice_eq-Decides Decides-eqb (take m (drop ((length key + 2) * i) s)) key true h).0 refl)
 
 -- ---- stores
-pub stored_none : (s key : List ℕ) (x y : ℕ) → Stored s s key x y
-stored_none s key x y = record { long = refl; entries = λ i h. inr (λ j a. refl) }
-
 -- entry b is written: t has its key, and the words of the result follow; the others are as they were
 module _ (s t key : List ℕ) (b x y : ℕ) (room : Inside (length key) s b) (len : length t ≡ length s)
     (front : (j : ℕ) → j < (length key + 2) * b → get_or t j 0 ≡ get_or s j 0)

@@ -5,10 +5,11 @@ use Rattle.std.proofs.lemmas.Bool.Decides.{Decides-eqb}
 use Rattle.std.specs.Bool.{Decides}
 use Rattle.std.specs.Cmp.Lexicographic.{pointwise}
 use lib.ListN.{length-drop}
-use lib.Seq.{length-take-le, get_or-take, get_or-drop, ext_get_or}
+use lib.Seq.{length-take-le, ext_get_or}
 use Rattle.settings.specs.Tells.{Tells}
+use Rattle.table_words.proofs.Words.{body_part}
 use Rattle.table_records.specs.Changes.{RecordIs}
-use Rattle.promises.specs.Words.{word, feature, body}
+use Rattle.promises.specs.Words.{feature, body}
 
 module _ (w l : List ℕ) (i k n from : ℕ) (is : feature w i ≡ k) (long : length l ≡ 12) (e : n ≡ 12) (at : from ≡ 8192 + 16 * i + 1) (room : from + 12 ≤ length w) where
   abbrev part : List ℕ
@@ -18,8 +19,7 @@ module _ (w l : List ℕ) (i k n from : ℕ) (is : feature w i ≡ k) (long : le
   length_part = length-take-le n (drop from w) (omega (arith, length-drop from w)) ∙ e
 
   at_part : (v : ℕ) → v < 12 → get_or part v 0 ≡ body w i v
-  unfolding word
-  at_part v h = get_or-take n (drop from w) v 0 (omega arith) ∙ get_or-drop from w v 0 ∙ ap (λ (p : ℕ). get_or w p 0) (omega arith)
+  at_part v h = body_part w i n from e at v h
 
   told : (r : Bool) → Decides r (part ≡ l) → Tells r (RecordIs w i k l)
   told true d = let same = d.0 refl in record { feature = is; each = λ v h. sym (at_part v h) ∙ ap (λ (s : List ℕ). get_or s v 0) same }

@@ -20,13 +20,6 @@ run_more t l b v fits h u lt = ⊎_elim
     (λ n. get_or-set_other t (b + v) (b + u) (get_or l v 0) 0 (omega (arith, n)) ∙ h u (omega (arith, n)))
     (same u v)
 
--- one more word of a run of zeros
-pub zero_more : (t : List ℕ) (b v : ℕ) → b + v < length t → ((j : ℕ) → b ≤ j → j < b + v → get_or t j 0 ≡ 0) → (j : ℕ) → b ≤ j → j < b + (v + 1) → get_or (set t (b + v) 0) j 0 ≡ 0
-zero_more t b v fits h j l u = ⊎_elim
-    (λ e. rw e (get_or-set_same t (b + v) 0 0 fits))
-    (λ n. get_or-set_other t (b + v) j 0 0 n ∙ h j l (omega (arith, n)))
-    (same j (b + v))
-
 -- ---- push: t is w after the feature's store and the body's run; then the link, the chain head and the count are stored
 module _ (w t l : List ℕ) (k k' i n' h nx x y : ℕ) (ei : i ≡ count w) (en : n' ≡ i + 1) (ek : k' ≡ k)
     (eh : h ≡ hash_of k (listed l)) (hh : h < 4096) (ex : nx ≡ head w (4096 + h))

@@ -7,31 +7,25 @@ ghost use Rattle.table_records.specs.Laid.{Laid};
 ghost use Rattle.table_records.specs.Changes.{Pushed, Popped, Rolled, RecordIs, Finds};
 ghost use Rattle.promises.specs.Words.{count, capacity};
 
-use table_words::{
-    CHAINS, RECORDS, bucket_word, count_word, hash_at, hash_of, narrow, record_word, wide,
-};
+use table_words::{CHAINS, RECORDS, bucket_word, count_word, hash_at, hash_of, record_word};
 
 // Adds a record of feature k with the list as its body and two spare words, at the head of its chain; the answer is its index.
 pub fn push(t: &mut [u32], k: usize, list: [u32; 12], x: u32, y: u32) -> usize
     requires { (Laid t.old) × (count t.old < capacity t.old) × (k < 16) }
     ensures { (result ≡ count t.old) × (Pushed t.old t.new k list x y) }
 {
-    let i = wide(count_word(t));
+    let n = count_word(t);
+    let i = n as usize;
     let h = hash_of(k, list);
     let next = bucket_word(t, h);
-    let more = narrow(i + 1);
     let base = RECORDS + 16 * i;
-    t[base] = narrow(k);
-    let mut v: usize = 0;
-    while v < 12 {
-        t[base + 1 + v] = list[v];
-        v += 1;
-    }
+    t[base] = k as u32;
+    t[base + 1..base + 13].copy_from_slice(&list);
     t[base + 13] = next;
     t[base + 14] = x;
     t[base + 15] = y;
-    t[CHAINS + h] = more;
-    t[19] = more;
+    t[CHAINS + h] = n + 1;
+    t[19] = n + 1;
     i
 }
 
@@ -40,17 +34,12 @@ pub fn pop(t: &mut [u32])
     requires { (Laid t.old) × (0 < count t.old) }
     ensures { Popped t.old t.new (count t.old - 1) }
 {
-    let i = wide(count_word(t)) - 1;
+    let i = count_word(t) as usize - 1;
     let h = hash_at(t, i);
-    let next = record_word(t, i, 13);
-    t[CHAINS + h] = next;
+    t[CHAINS + h] = record_word(t, i, 13);
     let base = RECORDS + 16 * i;
-    let mut v: usize = 0;
-    while v < 16 {
-        t[base + v] = 0;
-        v += 1;
-    }
-    t[19] = narrow(i);
+    t[base..base + 16].fill(0);
+    t[19] = i as u32;
 }
 
 // Takes the records from n on away.
@@ -58,10 +47,8 @@ pub fn roll_back(t: &mut [u32], n: usize)
     requires { (Laid t.old) × (n ≤ count t.old) }
     ensures { Rolled t.old t.new n }
 {
-    let mut m = wide(count_word(t));
-    while n < m {
+    for _ in (n..count_word(t) as usize).rev() {
         pop(t);
-        m -= 1;
     }
 }
 

@@ -8,7 +8,7 @@ use lib.Dec.{eqb}
 use Rattle.table_words.specs.Words.{way_of}
 use Rattle.table_words.proofs.Tab.{same}
 use Rattle.promises.specs.Words.{pick}
-use Rattle.promises.specs.CostWords.{half, goes}
+use Rattle.promises.specs.CostWords.{half}
 
 pub half_even : (x v : ℕ) → v % 2 ≡ 0 → half x v ≡ x % 65536
 unfolding half
@@ -20,12 +20,6 @@ half_odd x v e = rw (ne_eqb (v % 2) 0 e)
 
 pub half_zero : (v : ℕ) → half 0 v ≡ 0
 half_zero v = ⊎_elim (half_even 0 v) (half_odd 0 v) (same (v % 2) 0)
-
-pub way_half : (first : ℕ) (f : ℕ → ℕ) (v : ℕ) → first ≡ 1 → way_of first f v ≡ goes f v
-way_half first f v e = rw (eq-eqb first 1 e)
-
-pub way_whole : (first : ℕ) (f : ℕ → ℕ) (v : ℕ) → (first ≡ 1 → ⊥) → way_of first f v ≡ f v
-way_whole first f v e = rw (ne_eqb first 1 e)
 
 -- the same body words say the same branch words
 pub way_same : (first : ℕ) (f g : ℕ → ℕ) (v : ℕ) → v < 8 → ((u : ℕ) → u < 12 → f u ≡ g u) → way_of first f v ≡ way_of first g v

@@ -5,8 +5,8 @@ use Prim.Native.Nat.{ℕ, zero, suc, ◌+◌, ◌-◌, ◌≤◌, ◌<◌}
 use native.Mathlib.Nat.{add-zero}
 use native.Mathlib.Decide.{dec_lt}
 use native.Mathlib.Omega.{arith}
-use lib.ListN.{length, get_or, set, length-set}
-use lib.Seq.{sets, get_or-set_same, get_or-set_other}
+use lib.ListN.{length, get_or, set, take, drop, replicate, length-set, length-drop, length-replicate, get_or-replicate}
+use lib.Seq.{sets, length-take-le, get_or-set_same, get_or-set_other}
 use borrow.Rule.Slice.PartMut.{put_mid}
 use Rattle.std.proofs.lemmas.List.{places}
 
@@ -57,3 +57,15 @@ module _ {A : Type 0} (d : A) (p k : ℕ) (l vs : List A) (room : p + k ≤ leng
 
   pub put_behind : (q : ℕ) → p + k ≤ q → get_or (put_mid p k l vs) q d ≡ get_or l q d
   put_behind q h = grind (arith, places)
+
+-- .. or filled with one word
+module _ {A : Type 0} (d : A) (p k : ℕ) (l vs : List A) (x : A) (room : p + k ≤ length l) (same : vs ≡ replicate (length (take k (drop p l))) x) where
+  pub length_filled : length vs ≡ k
+  length_filled = ap length same ∙ length-replicate (length (take k (drop p l))) x ∙ length-take-le k (drop p l) (omega (arith, length-drop p l))
+
+  pub put_filled : (q : ℕ) → p ≤ q → q < p + k → get_or (put_mid p k l vs) q d ≡ x
+  put_filled q a b =
+      let e : p + (q - p) ≡ q = omega arith in
+      let n : length (take k (drop p l)) ≡ k = length-take-le k (drop p l) (omega (arith, length-drop p l)) in
+      rw e at (put_within d p k l vs room length_filled (q - p) (omega arith) ∙ ap (λ (s : List A). get_or s (q - p) d) same
+      ∙ get_or-replicate (length (take k (drop p l))) (q - p) x d (omega (arith, length-replicate (length (take k (drop p l))) x)))

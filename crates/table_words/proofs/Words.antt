@@ -5,7 +5,8 @@ use mathlib.Core.List.{List}
 use Prim.Native.Nat.{ℕ, zero, suc, ◌+◌, ◌*◌, ◌/◌, ◌%◌, ◌≤◌, ◌<◌}
 use native.Mathlib.Nat.{mod-lt}
 use native.Mathlib.Omega.{arith}
-use lib.ListN.{length, get_or, get_or-eq_default}
+use lib.ListN.{length, get_or, take, drop, get_or-eq_default}
+use lib.Seq.{get_or-take, get_or-drop}
 use Rattle.theory.specs.Settings.{Pos}
 use Rattle.theory.proofs.Lists.{pos_of}
 use Rattle.table_words.specs.Words.{Kept}
@@ -56,6 +57,11 @@ kept_trans u v w p q =
       header = λ j h n. q.header j h n ∙ p.header j h n;
       past = λ j h. q.past j (omega (arith, kept_capacity u v p)) ∙ p.past j h;
     }
+
+-- ---- a record's body read at once
+pub body_part : (w : List ℕ) (i n from : ℕ) → n ≡ 12 → from ≡ 8192 + 16 * i + 1 → (v : ℕ) → v < 12 → get_or (take n (drop from w)) v 0 ≡ body w i v
+unfolding word
+body_part w i n from e at v h = get_or-take n (drop from w) v 0 (omega arith) ∙ get_or-drop from w v 0 ∙ ap (λ (p : ℕ). get_or w p 0) (omega arith)
 
 -- ---- hashes
 hash_to_ext : (k : ℕ) (f g : ℕ → ℕ) (n : ℕ) → ((v : ℕ) → v < n → f v ≡ g v) → hash_to k f n ≡ hash_to k g n

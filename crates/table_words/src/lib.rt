@@ -52,9 +52,10 @@ pub fn with_half(x: u32, v: usize, r: u32) -> u32
     ensures { (half result v ≡ r) × ((u : ℕ) → (u % 2 ≡ v % 2 → ⊥) → half result u ≡ half x u) }
 {
     if v % 2 == 0 {
-        return x / HALF * HALF + r;
+        x / HALF * HALF + r
+    } else {
+        x % HALF + HALF * r
     }
-    x % HALF + HALF * r
 }
 
 // Word j of record i. The far records follow the near ones: far record i is record capacity + i.
@@ -71,9 +72,10 @@ pub fn way_word(t: &[u32], first: u32, i: usize, v: usize) -> u32
     ensures { result ≡ way_of first (body t.now i) v }
 {
     if first == HALVES {
-        return half_of(record_word(t, i, 1 + v / 2), v);
+        half_of(record_word(t, i, 1 + v / 2), v)
+    } else {
+        record_word(t, i, 1 + v)
     }
-    record_word(t, i, 1 + v)
 }
 
 // How many branches record i has.
@@ -81,7 +83,7 @@ pub fn width(t: &[u32], i: usize) -> usize
     requires { (8192 + 16 * i + 16 ≤ length t.now) × (i < 8192) × (feature t.now i < 16) }
     ensures { result ≡ size t.now (feature t.now i) }
 {
-    wide(size_word(t, wide(record_word(t, i, 0))))
+    size_word(t, record_word(t, i, 0) as usize) as usize
 }
 
 // The body of record i.
@@ -89,12 +91,9 @@ pub fn body_of(t: &[u32], i: usize) -> [u32; 12]
     requires { (8192 + 16 * i + 16 ≤ length t.now) × (i < 8192) }
     ensures { (v : ℕ) → v < 12 → get_or result v 0 ≡ body t.now i v }
 {
-    let mut list = [0u32; 12];
-    let mut v: usize = 0;
-    while v < 12 {
-        list[v] = record_word(t, i, 1 + v);
-        v += 1;
-    }
+    let from = RECORDS + 16 * i + 1;
+    let mut list = [0; 12];
+    list.copy_from_slice(&t[from..from + 12]);
     list
 }
 
@@ -104,10 +103,8 @@ pub fn hash_of(k: usize, list: [u32; 12]) -> usize
     ensures { (result ≡ hash_of k (listed list)) × (result < 4096) }
 {
     let mut h = k;
-    let mut v: usize = 0;
-    while v < 12 {
-        h = (h * 2654435761 + wide(list[v])) % 4294967296;
-        v += 1;
+    for x in &list {
+        h = (h * 2654435761 + *x as usize) % 4294967296;
     }
     h / 1048576
 }
@@ -117,5 +114,5 @@ pub fn hash_at(t: &[u32], i: usize) -> usize
     requires { (8192 + 16 * i + 16 ≤ length t.now) × (i < 8192) }
     ensures { (result ≡ hash_at t.now i) × (result < 4096) }
 {
-    hash_of(wide(record_word(t, i, 0)), body_of(t, i))
+    hash_of(record_word(t, i, 0) as usize, body_of(t, i))
 }

@@ -1,49 +1,22 @@
--- `table_records::push` meets its contract: in the loop the first v words of the list stand in the body, all other words are as after the feature's store. Assumes nothing.
-use Rattle.std.proofs.Common.{arith, ◌≡◌}
-use Rattle.table_records.proofs.Writing.{run_more, pushed}
-use lib.Seq.{get_or-set_other}
+-- `table_records::push` meets its contract: the list stands in the body, all other words are as after the feature's store. Assumes nothing.
+use Rattle.std.proofs.Common.{◌≡◌, ℕ, ◌+◌, ◌-◌, ◌*◌, ◌≤◌, List, length, get_or, set, refl, ap, ◌∙◌, arith}
+use Rattle.table_words.proofs.Stores.{length_put, put_before, put_within, put_behind}
+use Rattle.table_records.proofs.Writing.{pushed}
 use lib.ListN.{length-set}
-use mathlib.Core.Path.{◌∙◌}
-use borrow.Author.Rules.{rules}
-use Rattle.promises.specs.Words.{count}
 use Rattle.table_records.proofs.push.Goals as goal
-
-pub bounds-t-base-in-loop-v : goal.bounds-t-base-in-loop-v
-bounds-t-base-in-loop-v c = omega (arith, simp length-set at c.loop-v.invariant.0)
-
-pub loop-v-preserved : goal.loop-v-preserved
-loop-v-preserved c =
-    let l = c.loop-v in (
-      simp length-set (simp length-set at l.invariant.0),
-      search rules,
-      (λ j h. get_or-set_other l.t _ j _ 0 (omega arith) ∙ l.invariant.2 j h),
-      run_more l.t c.args.list _ l.v (omega (arith, simp length-set at l.invariant.0)) l.invariant.3,
-      (λ j h. get_or-set_other l.t _ j _ 0 (omega arith) ∙ l.invariant.4 j (omega arith)),
-    )
-
-pub bounds-t-base-2 : goal.bounds-t-base-2
-bounds-t-base-2 c = omega (arith, simp length-set at c.loop-v.invariant.0)
-
-pub bounds-t-base-3 : goal.bounds-t-base-3
-bounds-t-base-3 c = simp length-set (omega (arith, simp length-set at c.loop-v.invariant.0))
-
-pub bounds-t-base-4 : goal.bounds-t-base-4
-bounds-t-base-4 c = simp length-set (omega (arith, simp length-set at c.loop-v.invariant.0))
-
-pub bounds-t-h : goal.bounds-t-h
-bounds-t-h c = simp length-set (omega (arith, simp length-set at c.loop-v.invariant.0))
-
-pub bounds-t-19 : goal.bounds-t-19
-bounds-t-19 c = simp length-set (omega (arith, simp length-set at c.loop-v.invariant.0))
-
-pub shape_of-t : goal.shape_of-t
-shape_of-t c = simp length-set (simp length-set at c.loop-v.invariant.0)
 
 pub returns : goal.returns
 returns c =
-    let l = c.loop-v in let e : c.wide-i.result ≡ count c.args.t.now = c.wide-i.ensures.0 ∙ c.count_word.ensures in (
-      e,
-      pushed c.args.t.now l.t c.args.list _ _ _ _ _ _ _ _ e c.narrow-more.ensures c.narrow.ensures
-          c.hash_of-h.ensures.0 c.hash_of-h.ensures.1 c.bucket_word-next.ensures (omega arith) l.invariant.0 l.invariant.2
-          (λ j h. l.invariant.4 j (omega arith)) (λ u h. l.invariant.3 u (omega arith)),
+    let i : ℕ = c.count_word-n.result in
+    let from : ℕ = 8192 + 16 * i + 1 in
+    let m : ℕ = 8192 + 16 * i + 13 - from in
+    let s : List ℕ = set c.args.t.now (8192 + 16 * i) c.args.k in
+    let ys : List ℕ = c.copy_from_slice.new.self in
+    let room : from + m ≤ length s = simp length-set (omega (arith, c.requires.0.room, c.requires.0.within)) in
+    let long : length ys ≡ m = ap length c.copy_from_slice.ensures.after ∙ omega arith in (
+      c.count_word-n.ensures,
+      pushed c.args.t.now _ c.args.list c.args.k _ _ _ _ _ _ _ c.count_word-n.ensures refl refl
+          c.hash_of-h.ensures.0 c.hash_of-h.ensures.1 c.bucket_word-next.ensures (omega (arith, c.requires.0.room, c.requires.0.within))
+          (length_put 0 from m s ys room long) (put_before 0 from m s ys room long) (λ j h. put_behind 0 from m s ys room long j (omega arith))
+          (λ u h. put_within 0 from m s ys room long u (omega arith) ∙ ap (λ (l : List ℕ). get_or l u 0) c.copy_from_slice.ensures.after),
     )

@@ -7,7 +7,6 @@ use Rattle.table_words.proofs.hash_at.Goals as goal
 
 pub returns : goal.returns
 returns c = (
-  c.hash_of.ensures.0 ∙ ap (λ (k : ℕ). hash_of k (λ v. get_or c.body_of.result v 0))
-      (c.wide.ensures.0 ∙ c.record_word.ensures) ∙ hash_ext _ _ _ c.body_of.ensures,
+  c.hash_of.ensures.0 ∙ ap (λ (k : ℕ). hash_of k (λ v. get_or c.body_of.result v 0)) c.record_word.ensures ∙ hash_ext _ _ _ c.body_of.ensures,
   c.hash_of.ensures.1,
 )

@@ -11,8 +11,8 @@ returns-then-v-eq0 c =
       λ u n. half_odd _ u (omega (arith, n)) ∙ omega arith ∙ sym (half_odd a.x u (omega (arith, n))),
     )
 
-pub returns : goal.returns
-returns c =
+pub returns-else-v-eq0 : goal.returns-else-v-eq0
+returns-else-v-eq0 c =
     let a = c.args in let e = c.if-v-eq0.false in (
       half_odd _ a.v e ∙ omega arith,
       λ u n. half_even _ u (omega (arith, n, e)) ∙ omega arith ∙ sym (half_even a.x u (omega (arith, n, e))),
