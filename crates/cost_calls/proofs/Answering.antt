@@ -1,9 +1,10 @@
 -- What the calls of the cost table write and answer: the constant, the copy, whether two places are one. Assumes nothing.
 use mathlib.Core.Path.{◌≡◌, refl, sym, ap, subst, ◌∙◌}
-use mathlib.Core.Bool.{false}
+use mathlib.Core.Bool.{Bool}
 use mathlib.Core.List.{List}
 use Prim.Native.Nat.{ℕ, ◌<◌}
 use lib.Dec.{eqb}
+use borrow.Author.Tests.{ne_eqb}
 use lib.IntN.{ℤ}
 use Rattle.theory.specs.Functions.{Agree}
 use Rattle.theory.specs.Diagrams.{Branch, meaning}
@@ -91,8 +92,8 @@ module _ {w : List ℕ} (s : Sound w) (p q : ℕ) (hp : p < 16) (hq : q < 16) wh
   from_edge a t v = sym (ap (λ (f : Cost). f t) (at_costs w p hp)) ∙ a t v ∙ ap (λ (f : Cost). f t) (at_costs w q hq)
 
   -- what the code reads
-  pub same_other : (x y : ℕ) → x ≡ root w p → y ≡ root w q → (x ≡ y → ⊥) → Tells false Same
-  same_other x y ex ey n a = n (ex ∙ agree_roots (from_edge a) ∙ sym ey)
+  pub same_other : (x y : ℕ) → x ≡ root w p → y ≡ root w q → (x ≡ y → ⊥) → Tells (eqb x y) Same
+  same_other x y ex ey n = subst (λ (r : Bool). Tells r Same) (sym (ne_eqb x y n)) (λ a. n (ex ∙ agree_roots (from_edge a) ∙ sym ey))
 
   pub same_tells : (x y a b : ℕ) → x ≡ root w p → y ≡ root w q → x ≡ y → a ≡ base w p → b ≡ base w q → Tells (eqb a b) Same
   same_tells x y a b ex ey e ea eb = tells_eqb a b (λ f. to_edge (places_agree (sym ex ∙ e ∙ ey) (sym ea ∙ f ∙ eb))) (λ g. ea ∙ agree_bases (from_edge g) ∙ sym eb)

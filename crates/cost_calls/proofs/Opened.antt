@@ -7,7 +7,7 @@ use native.Mathlib.Omega.{arith}
 use lib.ListN.{length, get_or}
 use Rattle.theory.specs.Costs.{costs}
 use Rattle.theory.specs.Diagrams.{Branch, blank}
-use Rattle.settings.specs.declared.refusals.Outcome.TheVariants.{Taken}
+use Rattle.settings.specs.Refusals.{Taken}
 use Rattle.theory_costs.specs.Integers.{word_for}
 use Rattle.theory_costs.proofs.Integers.{fit_zero}
 use Rattle.table_words.proofs.Tab.{split, get_or_tab}

@@ -2,7 +2,7 @@
 use Rattle.std.specs.Prelude.{List, [], ◌∷◌, ℕ}
 use Rattle.theory.specs.Costs.{Cost}
 use Rattle.settings.specs.Refusals.{Cases}
-use Rattle.settings.specs.declared.refusals.Outcome.{Outcome}
+use Rattle.settings.specs.Refusals.{Outcome}
 use Rattle.table_calls.specs.Writing as C
 use Rattle.cost_words.specs.Table.{cost_table}
 

@@ -7,20 +7,16 @@ ghost use Rattle.promises.specs.CostDeeds.{costed};
 use crate::at_the_door::door;
 use cost_amounts::{amount_ok, word_of};
 use cost_collect::finish;
-use settings::{Outcome, Refusal};
+use settings::Refusal;
 
 // The cost of the place becomes the constant amount.
-pub fn constant(t: &mut [u32], place: usize, amount: i64) -> Outcome
+pub fn constant(t: &mut [u32], place: usize, amount: i64) -> Result<(), Refusal>
     ensures { Meets (D.constant costed place (C.amount amount)) t.old t.new result }
 {
-    let o = door(t, &[place]);
-    if let Outcome::Refused(x) = o {
-        return Outcome::Refused(x);
-    }
+    door(t, &[place])?;
     if !amount_ok(amount) {
-        return Outcome::Refused(Refusal::BadArgument);
+        return Err(Refusal::BadArgument);
     }
-    let a = word_of(amount);
-    finish(t, place, 0, a);
-    Outcome::Taken
+    finish(t, place, 0, word_of(amount));
+    Ok(())
 }

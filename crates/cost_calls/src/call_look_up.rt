@@ -2,7 +2,6 @@
 ghost use Rattle.std.specs.Prelude.{◌≡◌, ◌<◌};
 ghost use Rattle.theory.specs.Settings.{Valid};
 ghost use Rattle.theory.specs.Questions.{asked};
-ghost use Rattle.settings.specs.declared.refusals.Outcome.TheVariants.{Taken};
 ghost use Rattle.promises.specs.Words.{sizes};
 ghost use Rattle.promises.specs.CostWords.{cost_of};
 ghost use Rattle.promises.specs.CostSound.{CostSound};
@@ -14,52 +13,38 @@ use crate::at_the_door::door;
 use cost_amounts::cost_of;
 use cost_words::{adds_at, base_word, goes_to, root_word, sum_word};
 use promises::CostLooked;
-use settings::{Outcome, Refusal};
-use table_calls::{index, setting_fits};
-use table_words::{record_word, wide};
+use settings::Refusal;
+use table_calls::setting_fits;
+use table_words::record_word;
 
 // The cost that the place gives the setting: from the root, branch by branch, adding up, each node a feature asked.
 fn walk(t: &[u32], place: usize, setting: &[u8]) -> CostLooked
     requires { (CostSound t.now) × (place < 16) × (Valid (sizes t.now) setting.now) }
-    ensures { (result.outcome ≡ Taken) × (result.cost ≡ (cost_of t.now place setting.now).off)
+    ensures { (result.cost ≡ (cost_of t.now place setting.now).off)
         × (result.asked ≡ asked (sizes t.now) (cost_of t.now place) setting.now) }
 {
     let mut x = root_word(t, place);
     let mut a = base_word(t, place);
     let mut asked: u32 = 0;
     while 0 < x {
-        let i = wide(x - 1);
-        let k = wide(record_word(t, i, 0));
-        let v = index(setting[k]);
+        let i = (x - 1) as usize;
+        let k = record_word(t, i, 0) as usize;
+        let v = usize::from(setting[k]);
         a = sum_word(a, adds_at(t, i, v));
         x = goes_to(t, i, v);
         asked += 1;
     }
-    CostLooked {
-        outcome: Outcome::Taken,
-        cost: cost_of(a),
-        asked,
-    }
+    let cost = cost_of(a);
+    CostLooked { cost, asked }
 }
 
 // The cost that the place gives the setting, and how many features were asked.
-pub fn look_up(t: &[u32], place: usize, setting: &[u8]) -> CostLooked
+pub fn look_up(t: &[u32], place: usize, setting: &[u8]) -> Result<CostLooked, Refusal>
     ensures { Meets (D.look_up costed place setting.now) t.now t.now result }
 {
-    let o = door(t, &[place]);
-    if let Outcome::Refused(x) = o {
-        return CostLooked {
-            outcome: Outcome::Refused(x),
-            cost: 0,
-            asked: 0,
-        };
-    }
+    door(t, &[place])?;
     if !setting_fits(t, setting) {
-        return CostLooked {
-            outcome: Outcome::Refused(Refusal::BadArgument),
-            cost: 0,
-            asked: 0,
-        };
+        return Err(Refusal::BadArgument);
     }
-    walk(t, place, setting)
+    Ok(walk(t, place, setting))
 }

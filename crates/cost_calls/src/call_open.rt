@@ -5,16 +5,16 @@ ghost use Rattle.promises.specs.TableDeeds as D;
 ghost use Rattle.promises.specs.CostDeeds.{costed};
 
 use cost_words::ZERO;
-use settings::{Outcome, Refusal};
+use settings::Refusal;
 use table_calls::{can_open, lay};
 
 // Opens a cost table over the feature list, with room for capacity nodes.
-pub fn open(t: &mut [u32], features: &[u8], capacity: usize) -> Outcome
+pub fn open(t: &mut [u32], features: &[u8], capacity: usize) -> Result<(), Refusal>
     ensures { Meets (D.open_table costed features.now capacity (length t.old)) t.old t.new result }
 {
     if !can_open(t, features, capacity) {
-        return Outcome::Refused(Refusal::BadOpening);
+        return Err(Refusal::BadOpening);
     }
     lay(t, 2, ZERO, features, capacity);
-    Outcome::Taken
+    Ok(())
 }

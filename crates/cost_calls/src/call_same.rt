@@ -5,28 +5,12 @@ ghost use Rattle.promises.specs.CostDeeds.{costed};
 
 use crate::at_the_door::door;
 use cost_words::{base_word, root_word};
-use promises::Compared;
-use settings::Outcome;
+use settings::Refusal;
 
 // Whether the costs of two places agree at every setting.
-pub fn same(t: &[u32], a: usize, b: usize) -> Compared
+pub fn same(t: &[u32], a: usize, b: usize) -> Result<bool, Refusal>
     ensures { Meets (D.same costed a b) t.now t.now result }
 {
-    let o = door(t, &[a, b]);
-    if let Outcome::Refused(x) = o {
-        return Compared {
-            outcome: Outcome::Refused(x),
-            same: false,
-        };
-    }
-    if root_word(t, a) != root_word(t, b) {
-        return Compared {
-            outcome: Outcome::Taken,
-            same: false,
-        };
-    }
-    Compared {
-        outcome: Outcome::Taken,
-        same: base_word(t, a) == base_word(t, b),
-    }
+    door(t, &[a, b])?;
+    Ok(root_word(t, a) == root_word(t, b) && base_word(t, a) == base_word(t, b))
 }

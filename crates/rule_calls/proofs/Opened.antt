@@ -6,7 +6,7 @@ use Prim.Native.Nat.{ℕ, ◌+◌, ◌<◌}
 use native.Mathlib.Omega.{arith}
 use lib.ListN.{length, get_or}
 use Rattle.theory.specs.Diagrams.{blank}
-use Rattle.settings.specs.declared.refusals.Outcome.TheVariants.{Taken}
+use Rattle.settings.specs.Refusals.{Taken}
 use Rattle.table_words.proofs.Tab.{split, get_or_tab}
 use Rattle.table_calls.specs.Opening.{Opens, Named}
 use Rattle.table_calls.proofs.Opened as C

@@ -3,18 +3,18 @@ ghost use Rattle.promises.specs.RuleSound.{RuleSound};
 ghost use Rattle.table_calls.specs.Door.{Enters};
 
 use rule_sound::sound;
-use settings::{Outcome, Refusal};
+use settings::Refusal;
 use table_calls::are_places;
 
 // DAMAGED, BAD PLACE, or taken.
-pub fn door(t: &[u32], places: &[usize]) -> Outcome
+pub fn door(t: &[u32], places: &[usize]) -> Result<(), Refusal>
     ensures { Enters RuleSound 32 places.now t.now result }
 {
     if !sound(t) {
-        return Outcome::Refused(Refusal::Damaged);
+        return Err(Refusal::Damaged);
     }
     if !are_places(32, places) {
-        return Outcome::Refused(Refusal::BadPlace);
+        return Err(Refusal::BadPlace);
     }
-    Outcome::Taken
+    Ok(())
 }

@@ -7,19 +7,16 @@ ghost use Rattle.promises.specs.RuleDeeds.{ruled};
 use crate::at_the_door::door;
 use rule_collect::finish;
 use rule_words::NUMBERS;
-use settings::{Outcome, Refusal};
+use settings::Refusal;
 
 // The rule of the place becomes the constant number.
-pub fn constant(t: &mut [u32], place: usize, number: u32) -> Outcome
+pub fn constant(t: &mut [u32], place: usize, number: u32) -> Result<(), Refusal>
     ensures { Meets (D.constant ruled place (says number)) t.old t.new result }
 {
-    let o = door(t, &[place]);
-    if let Outcome::Refused(x) = o {
-        return Outcome::Refused(x);
-    }
+    door(t, &[place])?;
     if NUMBERS <= number {
-        return Outcome::Refused(Refusal::BadArgument);
+        return Err(Refusal::BadArgument);
     }
     finish(t, place, number);
-    Outcome::Taken
+    Ok(())
 }

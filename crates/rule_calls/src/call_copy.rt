@@ -6,17 +6,14 @@ ghost use Rattle.promises.specs.RuleDeeds.{ruled};
 use crate::at_the_door::door;
 use rule_collect::finish;
 use rule_words::root_word;
-use settings::Outcome;
+use settings::Refusal;
 
 // The rule of the place becomes that of another.
-pub fn copy(t: &mut [u32], place: usize, from: usize) -> Outcome
+pub fn copy(t: &mut [u32], place: usize, from: usize) -> Result<(), Refusal>
     ensures { Meets (D.copy ruled place from) t.old t.new result }
 {
-    let o = door(t, &[place, from]);
-    if let Outcome::Refused(x) = o {
-        return Outcome::Refused(x);
-    }
+    door(t, &[place, from])?;
     let b = root_word(t, from);
     finish(t, place, b);
-    Outcome::Taken
+    Ok(())
 }

@@ -1,33 +1,13 @@
 -- `cost_calls::call_look_up::look_up` meets its contract: the door, the setting tested, and the way adds up to the cost. Assumes nothing.
-use Rattle.std.proofs.Common.{arith, refl, ap}
-use Rattle.cost_calls.proofs.Sounding.{sound_long}
+use Rattle.std.proofs.Common.{refl, ap}
 use Rattle.cost_calls.proofs.Edge.{drawn}
-use Rattle.table_calls.proofs.Meeting.{turned_away, let_in, refuses}
 use Rattle.table_calls.proofs.Drawn.{looks}
 use Rattle.promises.specs.CostDeeds.{cost_looked}
 use Rattle.theory.specs.Costs.{amount}
-use Rattle.settings.proofs.Endings.{stop}
-use Rattle.settings.proofs.Answers.{denied, granted}
 use Rattle.cost_calls.proofs.call_look_up.look_up.Goals as goal
-
-pub returns-in-Refused : goal.returns-in-Refused
-returns-in-Refused c = refuses refl refl (turned_away c.door-o.ensures c.in-Refused.is)
-
-pub setting_fits-requires : goal.setting_fits-requires
-setting_fits-requires c = let s = c.door-o.ensures.sound c.in_default.is in (omega (arith, sound_long s), s.header.few)
-
-pub returns-then-not-setting_fits : goal.returns-then-not-setting_fits
-returns-then-not-setting_fits c =
-    refuses refl refl (let_in c.door-o.ensures c.in_default.is
-    (stop (denied c.setting_fits.result c.if-not-setting_fits.true-raw c.setting_fits.ensures)))
-
-pub walk-requires : goal.walk-requires
-walk-requires c =
-    let e = c.door-o.ensures in let t = c.in_default.is in
-    (e.sound t, (e.there t).each 0 (omega arith), granted c.setting_fits.result c.if-not-setting_fits.false-raw c.setting_fits.ensures)
 
 pub returns : goal.returns
 returns c =
-    looks cost_looked drawn c.door-o.ensures c.in_default.is
-    (granted c.setting_fits.result c.if-not-setting_fits.false-raw c.setting_fits.ensures)
-    c.walk.ensures.0 (ap amount c.walk.ensures.1) c.walk.ensures.2
+    looks cost_looked drawn c.door.ensures c.in_ok-door.was
+    c.if-not-setting_fits.ensures
+    refl (ap amount c.walk.ensures.0) c.walk.ensures.1

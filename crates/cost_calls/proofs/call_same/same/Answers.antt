@@ -1,43 +1,23 @@
 -- `cost_calls::call_same::same` meets its contract: the door, and root words and bases tell. Assumes nothing.
 use Rattle.std.proofs.Common.{arith, refl}
-use Rattle.cost_calls.proofs.Sounding.{sound_long}
 use Rattle.cost_calls.proofs.Answering.{same_other, same_tells}
-use Rattle.table_calls.proofs.Meeting.{turned_away, let_in, refuses, takes}
+use Rattle.table_calls.proofs.Meeting.{let_in, takes}
 use Rattle.cost_calls.proofs.call_same.same.Goals as goal
-
-pub returns-in-Refused : goal.returns-in-Refused
-returns-in-Refused c = refuses refl refl (turned_away c.door-o.ensures c.in-Refused.is)
-
-pub root_word-requires : goal.root_word-requires
-root_word-requires c = let e = c.door-o.ensures in let t = c.in_default.is in (omega (arith, sound_long (e.sound t)), (e.there t).each 0 (omega arith))
-
-pub root_word-requires-2 : goal.root_word-requires-2
-root_word-requires-2 c =
-    let e = c.door-o.ensures in let t = c.in_default.is in (omega (arith, sound_long (e.sound t)), (e.there t).each 1 (omega arith))
 
 pub returns-then-root_word : goal.returns-then-root_word
 returns-then-root_word c =
-    let e = c.door-o.ensures in
-    let t = c.in_default.is in
-    takes refl (let_in e t refl) refl
-    (same_other (e.sound t) c.args.a c.args.b ((e.there t).each 0 (omega arith)) ((e.there t).each 1 (omega arith)) c.root_word.result
-    c.root_word-2.result c.root_word.ensures c.root_word-2.ensures c.if-root_word.true)
-
-pub base_word-requires : goal.base_word-requires
-base_word-requires c =
-    let e = c.door-o.ensures in let t = c.in_default.is in
-    (omega (arith, sound_long (e.sound t)), (e.there t).each 0 (omega arith))
-
-pub base_word-requires-2 : goal.base_word-requires-2
-base_word-requires-2 c =
-    let e = c.door-o.ensures in let t = c.in_default.is in (omega (arith, sound_long (e.sound t)), (e.there t).each 1 (omega arith))
-
-pub returns : goal.returns
-returns c =
-    let e = c.door-o.ensures in
-    let t = c.in_default.is in
+    let e = c.door.ensures in
+    let t = c.in_ok-door.was in
     takes refl (let_in e t refl) refl
     (same_tells (e.sound t) c.args.a c.args.b ((e.there t).each 0 (omega arith)) ((e.there t).each 1 (omega arith))
-    c.root_word.result c.root_word-2.result c.base_word.result c.base_word-2.result
-    c.root_word.ensures c.root_word-2.ensures c.if-root_word.false c.base_word.ensures
-    c.base_word-2.ensures)
+    c.root_word.result c.root_word-2.result c.base_word.result c.base_word-then-root_word.result
+    c.root_word.ensures c.root_word-2.ensures c.if-root_word.true c.base_word.ensures
+    c.base_word-then-root_word.ensures)
+
+pub returns-else-root_word : goal.returns-else-root_word
+returns-else-root_word c =
+    let e = c.door.ensures in
+    let t = c.in_ok-door.was in
+    takes refl (let_in e t refl) refl
+    (same_other (e.sound t) c.args.a c.args.b ((e.there t).each 0 (omega arith)) ((e.there t).each 1 (omega arith)) c.root_word.result
+    c.root_word-2.result c.root_word.ensures c.root_word-2.ensures c.if-root_word.false)

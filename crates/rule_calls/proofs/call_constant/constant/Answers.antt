@@ -6,24 +6,18 @@ use Rattle.promises.specs.RuleDeeds.{looked}
 use Rattle.rule_calls.proofs.Edge.{drawn}
 use Rattle.rule_calls.proofs.Answering.{constant_becomes}
 use Rattle.rule_words.proofs.Reading.{decode_phrase}
-use Rattle.table_calls.proofs.Meeting.{turned_away, let_in, refuses, takes}
+use Rattle.table_calls.proofs.Meeting.{let_in, takes}
 use Rattle.promises.specs.RuleWords.{rule_node_list}
-use Rattle.settings.proofs.Endings.{stop, pass}
+use Rattle.settings.proofs.Endings.{pass}
 use Rattle.theory.specs.WellFormed.{Ok}
 use mathlib.Core.Path.{subst}
 use Rattle.rule_calls.proofs.call_constant.constant.Goals as goal
 
-pub returns-in-Refused : goal.returns-in-Refused
-returns-in-Refused c = refuses refl refl (turned_away c.door-o.ensures c.in-Refused.is)
-
-pub returns-then-number-ge-NUMBERS : goal.returns-then-number-ge-NUMBERS
-returns-then-number-ge-NUMBERS c = refuses refl refl (let_in c.door-o.ensures c.in_default.is (stop (λ h. omega (arith, h))))
-
 pub finish-requires : goal.finish-requires
 finish-requires c =
-    let s = c.door-o.ensures.sound c.in_default.is in
+    let s = c.door.ensures.sound c.in_ok-door.was in
     let h : c.args.number < 65536 = omega arith in
-    let q = (c.door-o.ensures.there c.in_default.is).each 0 (omega arith) in (
+    let q = (c.door.ensures.there c.in_ok-door.was).each 0 (omega arith) in (
       sound_untidy s c.args.place q,
       q,
       subst (Ok (rule_node_list c.args.t.now) 0) (sym (decode_phrase c.args.number h)) tt,
@@ -31,5 +25,5 @@ finish-requires c =
 
 pub returns : goal.returns
 returns c =
-    takes refl (let_in c.door-o.ensures c.in_default.is (pass (λ k. k (omega arith)) refl))
+    takes refl (let_in c.door.ensures c.in_ok-door.was (pass (λ k. k (omega arith)) refl))
     (written looked drawn (λ s v. refl) (constant_becomes (omega arith) c.finish.ensures)) tt
