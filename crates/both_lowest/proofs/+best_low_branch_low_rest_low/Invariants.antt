@@ -1,8 +1,8 @@
 -- `both_lowest::rest_low`, `best_low` and `branch_low` meet their contracts: the remaining features fall; the lowest of the first v values is kept, and the memory stays right. Assumes nothing.
-use Rattle.std.proofs.Common.{length, ◌+◌, ◌-◌, ◌*◌, ◌≤◌, ◌≡◌}
+use Rattle.std.proofs.Common.{◌+◌, ◌-◌, ◌*◌, ◌≡◌}
 use Rattle.both_lowest.specs.Pairs.{told, cost_of, spot_to, Noted}
 use Rattle.table_memory.specs.Memory.{Remembers}
-use Rattle.promises.specs.Words.{features, size}
+use Rattle.promises.specs.Words.{features}
 use Rattle.both_lowest.proofs.+best_low_branch_low_rest_low.Given as goal
 
 abbrev pub decreases-rest_low : goal.decreases-rest_low
@@ -16,7 +16,4 @@ decreases-best_low l = 3 * (features l.c.now - l.k) + 1
 
 abbrev pub invariant-best_low-loop-v : goal.invariant-best_low-loop-v
 invariant-best_low-loop-v l =
-    (l.m ≡ size l.c l.k) × (l.v ≤ l.m) × (cost_of (spot_to l.c l.r l.k l.x l.b l.v) ≡ told l.best.any l.best.low) × Remembers 3 (Noted l.c l.r) l.s × (length l.s ≡ length l.initial.s)
-
-abbrev pub decreases-best_low-loop-v : goal.decreases-best_low-loop-v
-decreases-best_low-loop-v l = l.m - l.v
+    (cost_of (spot_to l.c l.r l.k l.x l.b l.v) ≡ told l.best) × Remembers 3 (Noted l.c l.r) l.s
