@@ -1,11 +1,16 @@
 -- The walk of less over two targets of a cost table: one value on, a feature that neither tests, equal targets, the start; its results in the rule table beside. Assumes nothing.
-use mathlib.Core.Path.{◌≡◌, sym, ap, ap₂, subst, ◌∙◌}
+use mathlib.Core.Path.{◌≡◌, refl, sym, ap, ap₂, subst, ◌∙◌}
 use mathlib.Core.Bool.{Bool, true, false, cond}
 use mathlib.Core.Logic.{⊎_elim}
 use mathlib.Core.List.{List, ◌∷◌}
 use Prim.Native.Nat.{ℕ, suc, ◌+◌, ◌<◌}
 use native.Mathlib.Numerals.{add-one}
 use native.Mathlib.Omega.{arith}
+use lib.Dec.{ltb}
+use mir.Val.{bool_byte}
+use Rattle.std.proofs.lemmas.Bool.{ltb-true, ltb-false}
+use Rattle.theory_costs.proofs.Words.{int_lt, int_le}
+use Rattle.cost_words.proofs.Packing.{int_zero}
 use lib.IntN.{ℤ, pos, ◌+ℤ◌, ◌-ℤ◌}
 use lib.ListN.{drop}
 use lib.Signed.{lt_z}
@@ -28,8 +33,7 @@ use Rattle.cost_nodes.proofs.Reading.{lawful, sizes_from}
 use Rattle.cost_nodes.proofs.Stepping.{good_small, good_top, top_good, top_most, top_below}
 use Rattle.rule_lending.specs.Lending.{Says, phrases}
 use Rattle.rule_lending.specs.Building.{Filling, Result}
-use Rattle.rule_lending.specs.declared.Answer.{Answer}
-use Rattle.rule_lending.specs.declared.Answer.TheVariants.{Is}
+use Rattle.std.specs.Prelude.{Option, Some}
 use Rattle.rule_lending.proofs.Building.{result_agree, result_number, result_skip, filling_ready, filling_sizes}
 use Rattle.both_less.specs.Less.{Beside, Comparable, less_from, Operands}
 use Rattle.promises.specs.Integers.{Fit, int}
@@ -46,6 +50,17 @@ beside_grown b f = record { ready = filling_ready f; same = filling_sizes f b.re
 pub bit_small : {e : ℕ} (t : Bool) → e ≡ cond t 1 0 → e < phrases
 bit_small true h = omega (arith, h)
 bit_small false h = omega (arith, h)
+
+-- the bit of a difference above 0
+pub bit_above : {e : ℕ} (d : ℕ) → e ≡ bool_byte (ltb 2147483648 d) → e ≡ cond (lt_z (pos 0) (int d)) 1 0
+bit_above d q = q ∙ go (ltb 2147483648 d) refl
+  where
+    by_zero : {u : Bool} → lt_z (int 2147483648) (int d) ≡ u → ◌≡◌ {A = ℕ} (cond u 1 0) (cond (lt_z (pos 0) (int d)) 1 0)
+    by_zero e = sym (ap (λ (b : Bool). cond b 1 0) (ap (λ (z : ℤ). lt_z z (int d)) (sym int_zero) ∙ e))
+
+    go : (u : Bool) → ltb 2147483648 d ≡ u → bool_byte u ≡ cond (lt_z (pos 0) (int d)) 1 0
+    go true h = by_zero (int_lt 2147483648 d (ltb-true 2147483648 d h))
+    go false h = by_zero (int_le 2147483648 d (ltb-false 2147483648 d h))
 
 -- the word of the difference one value on
 pub onward_word : (d a b r g : ℕ) → int r ≡ int d +ℤ int b → int g ≡ int r -ℤ int a → int g ≡ onward (int d) (int a) (int b)
@@ -71,7 +86,7 @@ module _ (w : List ℕ) (k x y d : ℕ) (p : Operands w k x y d) where
   unfolding less_from
   less_same s e = ap (λ (z : ℕ). below_from (nodes w) k (target x) (target z) (int d) s) (sym e) ∙ below_same (nodes w) k (target x) (int d) s
 
-  pub less_equal : {v : List ℕ} {e z : ℕ} → Beside w v → x ≡ y → e ≡ cond (lt_z (pos 0) (int d)) 1 0 → Says z e → Result v v k (less_from w k x y d) (Is z)
+  pub less_equal : {v : List ℕ} {e z : ℕ} → Beside w v → x ≡ y → e ≡ cond (lt_z (pos 0) (int d)) 1 0 → Says z e → Result v v k (less_from w k x y d) (Some z)
   less_equal b q h z = result_number b.ready z (λ s. less_same s q ∙ ap says (sym h))
 
   -- both in range from feature k on
@@ -100,7 +115,7 @@ module _ (w : List ℕ) (k x y d : ℕ) (p : Operands w k x y d) where
               (listed_placed skip_left);
         })
 
-    pub less_skip : (v t : List ℕ) (a : Answer) → Beside w v → Result v t (k + 1) (less_from w (k + 1) x y d) a → Result v t k (less_from w k x y d) a
+    pub less_skip : (v t : List ℕ) (a : Option ℕ) → Beside w v → Result v t (k + 1) (less_from w (k + 1) x y d) a → Result v t k (less_from w k x y d) a
     unfolding less_from
     less_skip v t a b r =
         result_skip b.ready a (omega (arith, as_long v w b.same, skip_left))
@@ -176,7 +191,7 @@ module _ (w v : List ℕ) (x a y b : ℕ) (p : Comparable w v (branch x a) (bran
         placed = subst (λ (z : ℤ). Placed cost_most (sizes w) (nodes w) 0 (target x) (target y) z) (sym e) start_placed;
       }
 
-  pub less_start : (d : ℕ) → int d ≡ int b -ℤ int a → (t : List ℕ) (r : Answer) → Result v t 0 (less_from w 0 x y d) r →
+  pub less_start : (d : ℕ) → int d ≡ int b -ℤ int a → (t : List ℕ) (r : Option ℕ) → Result v t 0 (less_from w 0 x y d) r →
       Result v t 0 (is_below (meaning (nodes w) (branch x a)) (meaning (nodes w) (branch y b))) r
   unfolding less_from
   less_start d e t r g =

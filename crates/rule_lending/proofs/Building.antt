@@ -1,6 +1,5 @@
 -- The laws of building a rule in a rule table: results, a result built branch by branch, and what is there stays there. Assumes nothing.
 use Rattle.std.specs.Prelude.{Option, None, Some}
-use mathlib.Core.Bool.{Bool, true, false}
 use mathlib.Core.Path.{◌≡◌, sym, ap, subst, ◌∙◌}
 use mathlib.Core.List.{List, ◌∷◌}
 use Prim.Native.Nat.{ℕ, ◌+◌, ◌<◌}
@@ -15,7 +14,7 @@ use Rattle.rule_nodes.proofs.Staying as S
 use Rattle.rule_settling.proofs.Settling.{sound_holds}
 use Rattle.rule_inside.specs.Branches.{Says, says_out}
 use Rattle.rule_inside.specs.Building.{Ready, ready_in, ready_out, built_in, built_out, Filling, filling_in, filling_out, Stopped, stopped_in, stopped_out, Listed, listed_in, made_out}
-use Rattle.rule_lending.specs.Building.{Result, Makes, Fills}
+use Rattle.rule_lending.specs.Building.{Result, Makes}
 use Rattle.promises.specs.Words.{features, size, sizes}
 use Rattle.promises.specs.RuleSound.{RuleSound as Sound}
 
@@ -92,11 +91,3 @@ module _ {w : List ℕ} {k : ℕ} {g : Rule} (ok : Ready w) (hk : k < features w
   -- and its answer is the result
   pub fill_make : {t t' l : List ℕ} (a : Option ℕ) → Filling w t k g (size w k) l → Makes t t' k l a → Result w t' k g a
   fill_make {t} {t'} {l} a f m = built_in (F.fill_make w k g (ready_out ok) hk t t' l a (filling_out f) (made_out m))
-
--- what a function that fills the list answered
-module _ {w t : List ℕ} {k : ℕ} {g : Rule} {r : Bool} (l : List ℕ) where
-  pub filled : r ≡ true → Fills w t k g r l → Filling w t k g (size w k) l
-  filled e f = subst (λ (b : Bool). Fills w t k g b l) e f
-
-  pub not_filled : r ≡ false → Fills w t k g r l → Stopped w t k g
-  not_filled e f = subst (λ (b : Bool). Fills w t k g b l) e f

@@ -1,5 +1,5 @@
 -- Contract between layers: how a rule is built in a rule table: what `make` asks and answers, and what a call that builds leaves, which the part above knows by its laws alone. Assumes nothing.
-use Rattle.std.specs.Prelude.{Bool, true, false, Option, List, ℕ}
+use Rattle.std.specs.Prelude.{Option, None, Some, List, ℕ}
 use Rattle.theory.specs.Rules.{Rule}
 -- shut: a table that nodes may be added to; a rule built, or its first branches, or no room for all; a list that a node may be made of, the node made
 pub use Rattle.rule_inside.specs.Building.{Ready, Built, Filling, Stopped, Listed, Made}
@@ -13,7 +13,7 @@ Result w w' k g a = Built w w' k g a
 abbrev pub Makes : List ℕ → List ℕ → ℕ → List ℕ → Option ℕ → Type 0
 Makes w w' k l a = Made w w' k l a
 
--- all branches of g at feature k are filled, or there was no room for them
-abbrev pub Fills : List ℕ → List ℕ → ℕ → Rule → Bool → List ℕ → Type 0
-Fills w t k g true l = Filling w t k g (size w k) l
-Fills w t k g false l = Stopped w t k g
+-- all branches of g at feature k, or None where there was no room for them
+abbrev pub Fills : List ℕ → List ℕ → ℕ → Rule → Option (List ℕ) → Type 0
+Fills w t k g (Some l) = Filling w t k g (size w k) l
+Fills w t k g None = Stopped w t k g
