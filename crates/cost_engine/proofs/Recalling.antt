@@ -13,7 +13,7 @@ use Rattle.table_words.specs.Words.{listed}
 use Rattle.table_words.proofs.Words.{kept_sizes}
 use Rattle.table_memory.proofs.Building.{mean_said}
 use Rattle.cost_nodes.specs.Nodes.{Holds, Good, Result}
-use Rattle.cost_nodes.specs.declared.Arm.{Arm}
+use Rattle.cost_words.specs.declared.Arm.{Arm}
 use Rattle.cost_nodes.proofs.Filling.{result_ext, result_mean, mean_result}
 use Rattle.cost_engine.specs.Joint.{joint_from, Operands}
 use Rattle.cost_engine.specs.Memory.{Recalled, Right}

@@ -27,7 +27,7 @@ use Rattle.table_notes.specs.Plain.{Resting, plain}
 use Rattle.table_notes.proofs.Plain.{plain_of}
 use Rattle.cost_words.proofs.Packing.{target_end}
 use Rattle.cost_nodes.specs.Nodes.{Holds, Good, top, Place, built, Result, Filling}
-use Rattle.cost_nodes.specs.declared.Arm.{Arm}
+use Rattle.cost_words.specs.declared.Arm.{Arm}
 use Rattle.cost_nodes.proofs.Reading.{lawful, pos_from, sizes_from}
 use Rattle.cost_nodes.proofs.Stepping.{good_small, good_top, top_good, top_most, top_below, skipped}
 use Rattle.cost_nodes.proofs.Filling.{filling_ext, filling_narrow}
@@ -119,12 +119,12 @@ module _ (w : List ℕ) (o : Operator) (k x y : ℕ) (d : ℤ) (p : Operands w o
         narrow = nr;
       }
 
-  pub operands_ext : (t : List ℕ) (v : ℕ) (xs ys : List ℕ) → Filling w t k (joint_from o (nodes w) k (target x) (target y) d) v xs ys → k < features w → v ≤ size w k → Operands t o k x y d
-  operands_ext t v xs ys f hk l =
+  pub operands_ext : (t : List ℕ) (v : ℕ) (bs : List Arm) → Filling w t k (joint_from o (nodes w) k (target x) (target y) d) v bs → k < features w → v ≤ size w k → Operands t o k x y d
+  operands_ext t v bs f hk l =
       let g : Cost = joint_from o (nodes w) k (target x) (target y) d in
       let kp = f.filled.grown.kept in
-      operands_grown t f.filled.grown.well (kept_features w t kp) (kept_sizes w t kp p.holds.laid.laid.few) (filling_ext w k g p.holds hk t v xs ys f)
-      (filling_narrow w k g p.holds hk t v xs ys f l p.bounded.spread p.narrow)
+      operands_grown t f.filled.grown.well (kept_features w t kp) (kept_sizes w t kp p.holds.laid.laid.few) (filling_ext w k g p.holds hk t v bs f)
+      (filling_narrow w k g p.holds hk t v bs f l p.bounded.spread p.narrow)
 
   -- both have ended
   pub joint_ends : (e : ℕ) → x + y ≡ 0 → int e ≡ op_of o (pos 0) d → Result w w k (joint_from o (nodes w) k (target x) (target y) d) (Some (record { to = 0; adds = e }))

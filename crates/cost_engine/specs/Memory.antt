@@ -1,10 +1,9 @@
 -- Contract between layers: what the engine remembers, under a feature + 1, two targets and their difference, and what its calls leave. Assumes nothing.
-use Rattle.std.specs.Prelude.{Bool, true, false, ◌≡◌, List, ℕ, ◌+◌, drop, Option, Some, None}
+use Rattle.std.specs.Prelude.{◌≡◌, List, ℕ, ◌+◌, drop, Option, Some, None}
 use Rattle.theory.specs.WellFormed.{Mean}
 use Rattle.table_words.specs.Words.{listed}
 use Rattle.table_memory.specs.Memory as M
 use Rattle.cost_nodes.specs.Nodes.{Good}
-use Rattle.cost_nodes.specs.declared.Arm.{Arm}
 use Rattle.cost_engine.specs.Joint.{joint_from}
 use Rattle.cost_engine.specs.declared.operators.Operator.{Operator}
 use Rattle.promises.specs.Integers.{int}
@@ -26,10 +25,6 @@ abbrev pub Noted : List ℕ → Operator → List ℕ → Type 0
 Noted w o s = M.Noted 4 (Right o) w s
 
 -- as it is after a call that had room
-abbrev pub Still : List ℕ → Operator → List ℕ → Option Arm → Type 0
+abbrev pub Still : {A : Type 0} → List ℕ → Operator → List ℕ → Option A → Type 0
 Still w o s (Some b) = Noted w o s
 Still w o s None = Unit {0}
-
-abbrev pub StillIf : List ℕ → Operator → List ℕ → Bool → Type 0
-StillIf w o s true = Noted w o s
-StillIf w o s false = Unit {0}

@@ -6,9 +6,9 @@ mod operators; // operators.rt: the operators in words that stand for integers
 ghost use Rattle.std.specs.Prelude.{◌<◌};
 ghost use Rattle.theory.specs.Diagrams.{meaning};
 ghost use Rattle.table_notes.specs.Plain.{plain};
-ghost use Rattle.cost_nodes.specs.Nodes.{Result, Empty, Fills};
+ghost use Rattle.cost_nodes.specs.Nodes.{Result, Fills};
 ghost use Rattle.cost_engine.specs.Joint.{together, Joinable, joint, joint_from, Operands, Branches};
-ghost use Rattle.cost_engine.specs.Memory.{Noted, Still, StillIf};
+ghost use Rattle.cost_engine.specs.Memory.{Noted, Still};
 ghost use Rattle.promises.specs.Integers.{int};
 ghost use Rattle.promises.specs.Words.{features};
 ghost use Rattle.promises.specs.CostWords.{target, cost_branch as branch, cost_node_list as nodes};
@@ -18,7 +18,6 @@ use cost_notes::{arm_in, lowest, make_in, recall_in, remember_in};
 use cost_words::{ZERO, sum_word};
 pub use operators::Operator;
 use operators::{ahead_word, end_word, gap_word, number_of};
-use table_memory::Memo;
 use table_notes::{begin, clear, clear_far, clear_window};
 use table_words::size_word;
 
@@ -49,21 +48,16 @@ fn rest_result(
     }
     let number = number_of(o);
     let tag = (k + 1) as u32;
-    let memo = recall_in(t, s, number, tag, x, y, d);
-    if let Memo::Known(z, e) = memo {
-        return Some(Arm { to: z, adds: e });
+    if let Some((to, adds)) = recall_in(t, s, number, tag, x, y, d) {
+        return Some(Arm { to, adds });
     }
-    let mut goes = [0u32; 8];
-    let mut adds = [0u32; 8];
-    if fill_branches(t, s, o, k, x, y, d, &mut goes, &mut adds) {
-        let b = make_in(t, k, &goes, &adds)?;
-        remember_in(t, s, number, tag, x, y, d, b.to, b.adds);
-        return Some(b);
-    }
-    None
+    let arms = fill_branches(t, s, o, k, x, y, d)?;
+    let b = make_in(t, k, &arms)?;
+    remember_in(t, s, number, tag, x, y, d, b.to, b.adds);
+    Some(b)
 }
 
-// Lays its branches into two empty lists: the results for the values of feature k in turn. False where there was no room for them.
+// Its branches: the results for the values of feature k in turn, or None where there was no room for them.
 #[cycle(branch_result_fill_branches_rest_result)]
 fn fill_branches(
     t: &mut [u32],
@@ -73,24 +67,20 @@ fn fill_branches(
     x: u32,
     y: u32,
     d: u32,
-    goes: &mut [u32; 8],
-    adds: &mut [u32; 8],
-) -> bool
-    requires { (Operands (plain t.old) o k x y (int d)) × (Noted t.old o s.old) × (k < features (plain t.old)) × (Empty goes.old) × (Empty adds.old) }
-    ensures { (Fills (plain t.old) (plain t.new) k (joint_from o (nodes (plain t.old)) k (target x) (target y) (int d)) result
-        goes.new adds.new) × (StillIf t.new o s.new result) }
+) -> Option<[Arm; 8]>
+    requires { (Operands (plain t.old) o k x y (int d)) × (Noted t.old o s.old) × (k < features (plain t.old)) }
+    ensures { (Fills (plain t.old) (plain t.new) k (joint_from o (nodes (plain t.old)) k (target x) (target y) (int d)) result)
+        × (Still t.new o s.new result) }
 {
     let m = size_word(t, k) as usize;
+    let mut arms = [Arm { to: 0, adds: 0 }; 8];
     for v in 0..m {
         let a = arm_in(t, k, x, v);
         let b = arm_in(t, k, y, v);
-        let Some(c) = branch_result(t, s, o, k + 1, a, b, d) else {
-            return false;
-        };
-        goes[v] = c.to;
-        adds[v] = c.adds;
+        let c = branch_result(t, s, o, k + 1, a, b, d)?;
+        arms[v] = c;
     }
-    true
+    Some(arms)
 }
 
 // The result for two branches from feature k on: that of their targets, with what both add put before it.

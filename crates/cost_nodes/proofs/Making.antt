@@ -1,5 +1,5 @@
 -- The laws of `find` and `make`: those of every kind, for packed bodies whose branch 0 adds nothing. Assumes nothing.
-use mathlib.Core.Path.{◌≡◌, refl, sym, ap, ap₂, subst, ◌∙◌}
+use mathlib.Core.Path.{◌≡◌, sym, ap, ap₂, subst, ◌∙◌}
 use mathlib.Core.Logic.{⊎_elim}
 use mathlib.Core.Bool.{Bool, true, false}
 use mathlib.Core.List.{List, [], ◌∷◌, ◌++◌, map}
@@ -30,9 +30,11 @@ use Rattle.table_words.proofs.Tab.{split, length_tab, get_or_tab}
 use Rattle.table_records.specs.Changes.{pair_of, Pushed, RecordIs, Finds as FindsRecord}
 use Rattle.table_records.specs.Nodes.{Listed, node_of, Behind, Absent}
 use Rattle.table_records.proofs.Making as M
-use Rattle.cost_words.specs.Sides.{end_of, arm_sum, Bodied, Sides}
+use Rattle.cost_words.specs.Sides.{arm_sum, Bodied, Sides}
 use Rattle.cost_words.specs.Table.{cost_table}
-use Rattle.cost_words.specs.Words.{packed, pair_word, target_of}
+use Rattle.cost_words.specs.Words.{packed, pair_word, target_of, tos, adding}
+use Rattle.cost_words.specs.declared.Arm.{Arm}
+use Rattle.cost_words.specs.declared.sides.Span.{Span}
 use Rattle.cost_words.proofs.Pairing.{new_pair}
 use Rattle.cost_words.specs.declared.Target.{Target as CodeTarget}
 use Rattle.cost_words.specs.declared.Target.TheVariants.{Node as NodeIs}
@@ -89,9 +91,9 @@ module _ (w : List ℕ) (k : ℕ) (l : List ℕ) (ok : Holds w) (hk : k < featur
   found_none n f = M.found_none regular w k l ok hk lv.fits (not_alike n) f
 
 -- ---- make
-pub small_target : (w : List ℕ) (k : ℕ) (x a : List ℕ) → Holds w → Armed w k x a → (v : ℕ) → v < 8 → listed x v < 65536
-small_target w k x a ok ar v h = ⊎_elim
-    (λ l. omega (arith, ok_small w (suc k) (listed x v) (listed a v) (ar.each v l), ok.laid.laid.within, ok.laid.laid.most))
+pub small_target : (w : List ℕ) (k : ℕ) (b : List Arm) → Holds w → Armed w k b → (v : ℕ) → v < 8 → tos b v < 65536
+small_target w k b ok ar v h = ⊎_elim
+    (λ l. omega (arith, ok_small w (suc k) (tos b v) (adding b v) (ar.each v l), ok.laid.laid.within, ok.laid.laid.most))
     (λ l. omega (arith, ar.pad v l h))
     (split v (size w k))
 
@@ -101,11 +103,11 @@ back z y = ℕ-eq (z +ℤ (y -ℤ z)) y (omega (arith, sum_ℕ z (y -ℤ z), min
 turn : (y z u : ℤ) → (y -ℤ z) +ℤ u ≡ (y +ℤ u) -ℤ z
 turn y z u = ℕ-eq ((y -ℤ z) +ℤ u) ((y +ℤ u) -ℤ z) (omega (arith, minus_ℕ y z, sum_ℕ (y -ℤ z) u, sum_ℕ y u, minus_ℕ (y +ℤ u) z))
 
--- the body l has the targets x, and what a adds more than its first
-module _ (w : List ℕ) (k : ℕ) (x a r l : List ℕ) (ok : Holds w) (hk : k < features w) (ar : Armed w k x a) (lo : Lowered (size w k) a r)
-    (e : (v : ℕ) → v < 12 → get_or l v 0 ≡ packed (listed x) (listed r) v) where
+-- the body l has the targets of b, and what each adds more than the first
+module _ (w : List ℕ) (k : ℕ) (b r : List Arm) (l : List ℕ) (ok : Holds w) (hk : k < features w) (ar : Armed w k b) (lo : Lowered (size w k) b r)
+    (e : (v : ℕ) → v < 12 → get_or l v 0 ≡ packed (tos r) (adding r) v) where
   abbrev z : ℤ
-  z = int (listed a 0)
+  z = int (adding b 0)
 
   abbrev m : ℕ
   m = size w k
@@ -113,22 +115,22 @@ module _ (w : List ℕ) (k : ℕ) (x a r l : List ℕ) (ok : Holds w) (hk : k < 
   size_is : (2 ≤ m) × (m ≤ 8)
   size_is = ok.laid.laid.large k hk
 
-  small : (v : ℕ) → v < 8 → listed x v < 65536
-  small = small_target w k x a ok ar
+  small : (v : ℕ) → v < 8 → tos r v < 65536
+  small v h = omega (arith, lo.targets v h, small_target w k b ok ar v h)
 
-  arm_is : (v : ℕ) → v < 8 → cost_table.arm (listed l) v ≡ branch (listed x v) (listed r v)
+  arm_is : (v : ℕ) → v < 8 → cost_table.arm (listed l) v ≡ branch (tos b v) (adding r v)
   arm_is v h =
-      regular.reads (listed l) (packed (listed x) (listed r)) v h e
-      ∙ ap₂ branch (packed_goes (listed x) (listed r) small v h) (packed_added (listed x) (listed r) v)
+      regular.reads (listed l) (packed (tos r) (adding r)) v h e
+      ∙ ap₂ branch (packed_goes (tos r) (adding r) small v h ∙ lo.targets v h) (packed_added (tos r) (adding r) v)
 
   fits : Listed cost_table w k l
   fits =
       record {
         each = λ v h. subst (Ok (nodes w) (suc k)) (sym (arm_is v (omega (arith, size_is)))) (ar.each v h);
-        pad = regular.padded m (packed (listed x) (listed r)) (listed l) (λ v h. sym (e v h))
+        pad = regular.padded m (packed (tos r) (adding r)) (listed l) (λ v h. sym (e v h))
             (record {
-              targets = λ v b h. packed_goes (listed x) (listed r) small v h ∙ ar.pad v b h;
-              addeds = λ v b h. packed_added (listed x) (listed r) v ∙ lo.pad v b h;
+              targets = λ v b h. packed_goes (tos r) (adding r) small v h ∙ lo.targets v h ∙ ar.pad v b h;
+              addeds = λ v b h. packed_added (tos r) (adding r) v ∙ lo.pad v b h;
             });
       }
 
@@ -137,42 +139,42 @@ module _ (w : List ℕ) (k : ℕ) (x a r l : List ℕ) (ok : Holds w) (hk : k < 
       let h : 0 < m = omega (arith, size_is) in
       record {
         fits = fits;
-        level = e 4 (omega arith) ∙ packed_added (listed x) (listed r) 0 ∙ int_one (listed r 0) 2147483648 (lo.each 0 h ∙ minus_self z ∙ sym int_zero);
+        level = e 4 (omega arith) ∙ packed_added (tos r) (adding r) 0 ∙ int_one (adding r 0) 2147483648 (lo.each 0 h ∙ minus_self z ∙ sym int_zero);
       }
 
   -- with the first's added integer put back the branches are those asked for
-  arms_up : map (up z) (branches cost_table m (listed l)) ≡ arms m x a
+  arms_up : map (up z) (branches cost_table m (listed l)) ≡ arms m b
   arms_up =
       let n : length (branches cost_table m (listed l)) ≡ m = length_tab (cost_table.arm (listed l)) m in
       let n' : length (map (up z) (branches cost_table m (listed l))) ≡ m = length-map (branches cost_table m (listed l)) (up z) ∙ n in
-      ext_get_or blank (map (up z) (branches cost_table m (listed l))) (arms m x a) (n' ∙ sym (length_tab (λ v. branch (listed x v) (listed a v)) m))
+      ext_get_or blank (map (up z) (branches cost_table m (listed l))) (arms m b) (n' ∙ sym (length_tab (λ v. branch (tos b v) (adding b v)) m))
       (λ v h.
       let hm : v < m = omega arith in
       get_or_map_in (up z) blank blank (branches cost_table m (listed l)) v (omega arith)
       ∙ ap (up z) (get_or_tab (cost_table.arm (listed l)) m v blank hm ∙ arm_is v (omega (arith, size_is)))
-      ∙ (λ i. record { adds = (ap (λ (y : ℤ). z +ℤ y) (lo.each v hm) ∙ back z (int (listed a v))) i; to = (branch (listed x v) 0).to })
-      ∙ sym (get_or_tab (λ u. branch (listed x u) (listed a u)) m v blank hm))
+      ∙ (λ i. record { adds = (ap (λ (y : ℤ). z +ℤ y) (lo.each v hm) ∙ back z (int (adding b v))) i; to = (branch (tos b v) 0).to })
+      ∙ sym (get_or_tab (λ u. branch (tos b u) (adding b u)) m v blank hm))
 
-  lifted : (w' : List ℕ) (o : Maybe (Branch costs)) → H.Gives layout w w' (make k (branches cost_table m (listed l)) (nodes w)) o → H.Gives layout w w' (make k (arms m x a) (nodes w)) (raised z o)
+  lifted : (w' : List ℕ) (o : Maybe (Branch costs)) → H.Gives layout w w' (make k (branches cost_table m (listed l)) (nodes w)) o → H.Gives layout w w' (make k (arms m b) (nodes w)) (raised z o)
   lifted w' o g =
       subst (λ (cs : List (Branch costs)). H.Gives layout w w' (make k cs (nodes w)) (raised z o)) arms_up
       (gives_lift lawful w w' k z (branches cost_table m (listed l)) o ok (omega (arith, length_tab (cost_table.arm (listed l)) m, size_is)) g)
 
   -- the answer that goes to the word y
-  raised_is : (y : ℕ) → up z (branch y 2147483648) ≡ branch y (listed a 0)
+  raised_is : (y : ℕ) → up z (branch y 2147483648) ≡ branch y (adding b 0)
   raised_is y = λ i. record { adds = (ap (λ (c : ℤ). z +ℤ c) int_zero ∙ +ℤ_idr z) i; to = (branch y 0).to }
 
-  answered : (w' : List ℕ) (y : ℕ) → H.Gives layout w w' (make k (branches cost_table m (listed l)) (nodes w)) (some (branch y 2147483648)) → Makes w w' k x a (Some (record { to = y; adds = listed a 0 }))
+  answered : (w' : List ℕ) (y : ℕ) → H.Gives layout w w' (make k (branches cost_table m (listed l)) (nodes w)) (some (branch y 2147483648)) → Makes w w' k b (Some (record { to = y; adds = adding b 0 }))
   answered w' y g =
-      subst (λ (b : Branch costs). H.Gives layout w w' (make k (arms m x a) (nodes w)) (some b)) (raised_is y) (lifted w' (some (branch y 2147483648)) g)
+      subst (λ (c : Branch costs). H.Gives layout w w' (make k (arms m b) (nodes w)) (some c)) (raised_is y) (lifted w' (some (branch y 2147483648)) g)
 
   -- ---- the pair of the new node
   -- the sum along branch v: that of the branch asked for, less what the first adds
-  sum_is : (up : Bool) (v : ℕ) → v < m → arm_sum up w l v ≡ along (kept up w) (branch (listed x v) (listed a v)) -ℤ z
+  sum_is : (up : Bool) (v : ℕ) → v < m → arm_sum up w l v ≡ along (kept up w) (branch (tos b v) (adding b v)) -ℤ z
   sum_is up v h =
       ap (along (kept up w)) (arm_is v (omega (arith, size_is)))
-      ∙ ap (λ (c : ℤ). c +ℤ kept_at (kept up w) (branch (listed x v) 0).to) (lo.each v h)
-      ∙ turn (int (listed a v)) z (kept_at (kept up w) (branch (listed x v) 0).to)
+      ∙ ap (λ (c : ℤ). c +ℤ kept_at (kept up w) (branch (tos b v) 0).to) (lo.each v h)
+      ∙ turn (int (adding b v)) z (kept_at (kept up w) (branch (tos b v) 0).to)
 
   -- the sums along the first branches may be asked for, ..
   pub bodied : (n : ℕ) → 1 ≤ n → n ≤ m → Bodied w l n
@@ -186,9 +188,8 @@ module _ (w : List ℕ) (k : ℕ) (x a r l : List ℕ) (ok : Holds w) (hk : k < 
       }
 
   -- .. none is lost, ..
-  sides_are : (c d : ℕ) → Sides w l m c d → (up : Bool) → int (end_of up c d) ≡ across (side_of up) (arm_sum up w l) m
-  sides_are zero d s = absurd (s.lost refl (λ up v h. subst (Fit add_most) (sym (sum_is up v h)) (ar.sums up v h)))
-  sides_are (suc c) d s = s.stands (omega arith)
+  pub not_lost : (n : ℕ) → n ≡ m → Sides w l n None → ⊥
+  not_lost n en s = s (λ up v h. let hm : v < m = omega arith in subst (Fit add_most) (sym (sum_is up v hm)) (ar.sums up v hm))
 
   -- .. and the furthest are the new node's own
   own_is : (up : Bool) → across (side_of up) (arm_sum up w l) m ≡ own (side_of up) (kept up w) (node_of cost_table w k l)
@@ -199,30 +200,30 @@ module _ (w : List ℕ) (k : ℕ) (x a r l : List ℕ) (ok : Holds w) (hk : k < 
       ∙ ap (across (side_of up) (λ v. along (kept up w) (get_or (branches cost_table m (listed l)) v blank))) (sym (length_tab (cost_table.arm (listed l)) m))
 
   -- so they are its spare words
-  behind : (c d : ℕ) → Absent cost_table w k l → Sides w l m c d → Behind cost_table w k l c d
-  behind c d ab e = go
+  behind : (a : Span) → Absent cost_table w k l → Sides w l m (Some a) → Behind cost_table w k l a.low a.high
+  behind a ab e = go
     where
-      pair : (c ≡ pair_word (sizes w) (nodes w ++ (node_of cost_table w k l ∷ [])) (length (nodes w)) 0) × (d ≡ pair_word (sizes w) (nodes w ++ (node_of cost_table w k l ∷ [])) (length (nodes w)) 1)
+      pair : (a.low ≡ pair_word (sizes w) (nodes w ++ (node_of cost_table w k l ∷ [])) (length (nodes w)) 0) × (a.high ≡ pair_word (sizes w) (nodes w ++ (node_of cost_table w k l ∷ [])) (length (nodes w)) 1)
       pair =
           new_pair (sizes w) (lawful.positive w ok.laid) (nodes w) (node_of cost_table w k l) (M.new_wf regular w k l ok hk fits (level_bs w k l ok hk levelled) ab)
-          (λ up. kept up w) ar.paired c d (sides_are c d e false ∙ own_is false) (sides_are c d e true ∙ own_is true)
+          (λ up. kept up w) ar.paired a.low a.high (e false ∙ own_is false) (e true ∙ own_is true)
 
-      go : (j : ℕ) → j < 2 → pair_of c d j ≡ pair_word (sizes w) (nodes w ++ (node_of cost_table w k l ∷ [])) (count w) j
+      go : (j : ℕ) → j < 2 → pair_of a.low a.high j ≡ pair_word (sizes w) (nodes w ++ (node_of cost_table w k l ∷ [])) (count w) j
       go zero h = pair.0 ∙ ap (λ (i : ℕ). pair_word (sizes w) (nodes w ++ (node_of cost_table w k l ∷ [])) i 0) (length_nodes cost_table w)
       go (suc zero) h = pair.1 ∙ ap (λ (i : ℕ). pair_word (sizes w) (nodes w ++ (node_of cost_table w k l ∷ [])) i 1) (length_nodes cost_table w)
       go (suc (suc j)) h = absurd (omega arith)
 
-  pub made_new : (w' : List ℕ) (y i c d n : ℕ) → Absent cost_table w k l → count w < capacity w → target y ≡ node i → i ≡ count w → n ≡ m → Sides w l n c d → Pushed w w' k l c d
-      → Makes w w' k x a (Some (record { to = y; adds = listed a 0 }))
-  made_new w' y i c d n ab less e ei en s p =
+  pub made_new : (w' : List ℕ) (y i n : ℕ) (a : Span) → Absent cost_table w k l → count w < capacity w → target y ≡ node i → i ≡ count w → n ≡ m → Sides w l n (Some a) → Pushed w w' k l a.low a.high
+      → Makes w w' k b (Some (record { to = y; adds = adding b 0 }))
+  made_new w' y i n a ab less e ei en s p =
       answered w' y
       (subst (λ (b : Branch costs). H.Gives layout w w' (make k (branches cost_table m (listed l)) (nodes w)) (some b)) (bare_branch y (node (count w)) (e ∙ ap node ei))
-      (M.made_new regular w k l ok hk fits (level_bs w k l ok hk levelled) w' ab less (behind c d ab (subst (λ (q : ℕ). Sides w l q c d) en s)) p))
+      (M.made_new regular w k l ok hk fits (level_bs w k l ok hk levelled) w' ab less (behind a ab (subst (λ (q : ℕ). Sides w l q (Some a)) en s)) p))
 
-  pub made_none : Absent cost_table w k l → (count w < capacity w → ⊥) → Makes w w k x a None
+  pub made_none : Absent cost_table w k l → (count w < capacity w → ⊥) → Makes w w k b None
   made_none ab full = lifted w none (M.made_none regular w k l ok hk fits (level_bs w k l ok hk levelled) ab full)
 
-  pub made_there : (y : ℕ) (t : CodeTarget) → target y ≡ target_of t → make k (branches cost_table m (listed l)) (nodes w) ≡ (bare (target_of t), nodes w) → Makes w w k x a (Some (record { to = y; adds = listed a 0 }))
+  pub made_there : (y : ℕ) (t : CodeTarget) → target y ≡ target_of t → make k (branches cost_table m (listed l)) (nodes w) ≡ (bare (target_of t), nodes w) → Makes w w k b (Some (record { to = y; adds = adding b 0 }))
   made_there y t e d =
       answered w y
       (M.made_there regular w k l ok hk fits (branch y 2147483648) (d ∙ ap (λ (b : Branch costs). let o : Built costs = (b, nodes w) in o) (bare_branch y (target_of t) e)))

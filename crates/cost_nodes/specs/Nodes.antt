@@ -1,5 +1,5 @@
 -- Contract between layers: a cost table as the holder of a node list: the unique search, the making of a node, steps down a diagram, and the contract of what adds nodes. Assumes nothing.
-use Rattle.std.specs.Prelude.{Bool, true, false, ◌≡◌, List, ℕ, zero, suc, ◌≤◌, ◌<◌, ◌-ℤ◌, length, get_or, Option, Some, None}
+use Rattle.std.specs.Prelude.{Bool, ◌≡◌, List, ℕ, zero, suc, ◌≤◌, ◌<◌, ◌-ℤ◌, length, get_or, Option, Some, None}
 use Rattle.std.proofs.Math.Option.{Option as Maybe, none, some}
 use Rattle.theory.specs.Build.{Built, make}
 use Rattle.theory.specs.Costs.{costs, Cost}
@@ -11,9 +11,9 @@ use Rattle.table_words.specs.Holding as H
 use Rattle.table_words.specs.Words.{listed}
 use Rattle.table_records.specs.Nodes as R
 use Rattle.cost_words.specs.Table.{cost_table}
-use Rattle.cost_words.specs.Words.{target_of, Worded}
+use Rattle.cost_words.specs.Words.{target_of, Worded, tos, adding}
+use Rattle.cost_words.specs.declared.Arm.{Arm}
 use Rattle.cost_words.specs.declared.Target.{Target}
-use Rattle.cost_nodes.specs.declared.Arm.{Arm}
 use Rattle.promises.specs.Integers.{Fit, int}
 use Rattle.promises.specs.Range.{add_most}
 use Rattle.promises.specs.Tab.{tab}
@@ -67,31 +67,27 @@ Finds w k l (Some x) = (make k (branches cost_table (size w k) (listed l)) (node
 Finds w k l None = R.Absent cost_table w k l
 
 -- ---- the making of a node
--- the branches of m targets and added words
-abbrev pub arms : ℕ → List ℕ → List ℕ → List (Branch costs)
-arms m x a = tab (λ v. branch (listed x v) (listed a v)) m
+-- the first m branches of a list
+abbrev pub arms : ℕ → List Arm → List (Branch costs)
+arms m b = tab (λ v. branch (tos b v) (adding b v)) m
 
--- targets and added words for feature k: 0 past its size, no two added integers too far apart, nor the sums below; and the table keeps each node's own
-pub record Armed (w : List ℕ) (k : ℕ) (x a : List ℕ) : Type 0 where
-  pub each : (v : ℕ) → v < size w k → Ok (nodes w) (suc k) (branch (listed x v) (listed a v))
-  pub pad : (v : ℕ) → size w k ≤ v → v < 8 → listed x v ≡ 0
-  pub near : (v : ℕ) → v < size w k → Fit add_most (int (listed a v) -ℤ int (listed a 0))
-  pub sums : (up : Bool) (v : ℕ) → v < size w k → Fit add_most (along (kept up w) (branch (listed x v) (listed a v)) -ℤ int (listed a 0))
+-- branches for feature k: the targets 0 past its size, no two added integers too far apart, nor the sums below; and the table keeps each node's own
+pub record Armed (w : List ℕ) (k : ℕ) (b : List Arm) : Type 0 where
+  pub each : (v : ℕ) → v < size w k → Ok (nodes w) (suc k) (branch (tos b v) (adding b v))
+  pub pad : (v : ℕ) → size w k ≤ v → v < 8 → tos b v ≡ 0
+  pub near : (v : ℕ) → v < size w k → Fit add_most (int (adding b v) -ℤ int (adding b 0))
+  pub sums : (up : Bool) (v : ℕ) → v < size w k → Fit add_most (along (kept up w) (branch (tos b v) (adding b v)) -ℤ int (adding b 0))
   pub paired : (up : Bool) → Passed (side_of up) (nodes w) (length (nodes w)) (kept up w)
 
--- a list for the words of a node's branches that nothing is laid in
-pub record Empty (l : List ℕ) : Type 0 where
-  pub long : length l ≡ 8
-  pub blank : (v : ℕ) → v < 8 → listed l v ≡ 0
-
--- r has what the added words a add more than the first, and 0 past the first m
-pub record Lowered (m : ℕ) (a r : List ℕ) : Type 0 where
-  pub each : (v : ℕ) → v < m → int (listed r v) ≡ int (listed a v) -ℤ int (listed a 0)
-  pub pad : (v : ℕ) → m ≤ v → v < 8 → listed r v ≡ 0
+-- r has the targets of b and what the branches add more than the first, and adds 0 past the first m
+pub record Lowered (m : ℕ) (b r : List Arm) : Type 0 where
+  pub targets : (v : ℕ) → v < 8 → tos r v ≡ tos b v
+  pub each : (v : ℕ) → v < m → int (adding r v) ≡ int (adding b v) -ℤ int (adding b 0)
+  pub pad : (v : ℕ) → m ≤ v → v < 8 → adding r v ≡ 0
 
 -- the answer and the table are those of `make` with these branches
-abbrev pub Makes : List ℕ → List ℕ → ℕ → List ℕ → List ℕ → Option Arm → Type 0
-Makes w w' k x a o = Gives w w' (make k (arms (size w k) x a) (nodes w)) o
+abbrev pub Makes : List ℕ → List ℕ → ℕ → List Arm → Option Arm → Type 0
+Makes w w' k b o = Gives w w' (make k (arms (size w k) b) (nodes w)) o
 
 -- ---- steps down a diagram
 -- a target word of the table that tests nothing below k
@@ -110,18 +106,17 @@ pub record Place (w : List ℕ) (k x : ℕ) : Type 0 where
   pub up_to : k ≤ features w
 
 -- ---- a result built branch by branch
--- the first v branches of the cost g at feature k are in t, and the lists say them
-pub record Filling (w t : List ℕ) (k : ℕ) (g : Cost) (v : ℕ) (x a : List ℕ) : Type 0 where
-  pub filled : H.Filled layout w t k g v (arms v x a)
-  pub pad : (u : ℕ) → v ≤ u → u < 8 → listed x u ≡ 0
-  pub targets : length x ≡ 8
-  pub addeds : length a ≡ 8
+-- the first v branches of the cost g at feature k are in t, and the list says them
+pub record Filling (w t : List ℕ) (k : ℕ) (g : Cost) (v : ℕ) (b : List Arm) : Type 0 where
+  pub filled : H.Filled layout w t k g v (arms v b)
+  pub pad : (u : ℕ) → v ≤ u → u < 8 → tos b u ≡ 0
+  pub long : length b ≡ 8
 
 -- there was no room for all branches
 abbrev pub Stopped : List ℕ → List ℕ → ℕ → Cost → Type 0
 Stopped w t k g = H.Stopped layout w t k g (get_or (sizes w) k 0)
 
--- all branches are filled, or there was no room for them
-abbrev pub Fills : List ℕ → List ℕ → ℕ → Cost → Bool → List ℕ → List ℕ → Type 0
-Fills w t k g true x a = Filling w t k g (size w k) x a
-Fills w t k g false x a = Stopped w t k g
+-- all branches, or None where there was no room for them
+abbrev pub Fills : List ℕ → List ℕ → ℕ → Cost → Option (List Arm) → Type 0
+Fills w t k g (Some b) = Filling w t k g (size w k) b
+Fills w t k g None = Stopped w t k g

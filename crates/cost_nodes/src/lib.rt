@@ -3,28 +3,22 @@
 
 ghost use Rattle.std.specs.Prelude.{◌≡◌, ℕ, ◌+◌, ◌≤◌, ◌<◌, ◌-ℤ◌, length};
 ghost use Rattle.theory_costs.specs.Relative.{branch_at};
-ghost use Rattle.table_words.specs.Words.{listed};
 ghost use Rattle.table_records.specs.Laid.{Laid};
 ghost use Rattle.settings.specs.Tells.{Tells};
-ghost use Rattle.cost_nodes.specs.Nodes.{Holds, Levelled, AllSame, Finds, Armed, Empty, Lowered, Makes, top, Place};
+ghost use Rattle.cost_words.specs.Words.{tos, adding};
+ghost use Rattle.cost_nodes.specs.Nodes.{Holds, Levelled, AllSame, Finds, Armed, Lowered, Makes, top, Place};
 ghost use Rattle.promises.specs.Integers.{Fit, int};
 ghost use Rattle.promises.specs.Range.{add_most};
 ghost use Rattle.promises.specs.Words.{features, size, count};
 ghost use Rattle.promises.specs.CostWords.{target, cost_branch as branch, cost_node_list as nodes, root_at};
 
+pub use cost_words::Arm;
 use cost_words::{
-    Target, ZERO, adds_at, base_word, difference_word, goes_to, pack, root_word, sides_of,
+    Target, ZERO, adds_at, base_word, difference_word, goes_to, packed_body, root_word, sides_of,
     target_at, target_word,
 };
 use table_records::{find_record, push};
 use table_words::{capacity_word, count_word, features_word, half_of, record_word, size_word};
-
-// A branch: the words of its target and of what it adds.
-#[derive(Clone, Copy)]
-pub struct Arm {
-    pub to: u32,
-    pub adds: u32,
-}
 
 // Whether the first m targets and added words of a body are all equal to the first.
 fn all_same(list: &[u32; 12], m: usize) -> bool
@@ -54,43 +48,41 @@ pub fn find(t: &[u32], k: usize, list: &[u32; 12]) -> Option<Target>
     Some(Target::Node(i as u32))
 }
 
-// Lays what the first m add more than the first into an empty list.
-fn lowered(adds: &[u32; 8], m: usize, list: &mut [u32; 8])
-    requires { (m ≤ 8) × ((v : ℕ) → v < m → Fit add_most (int (listed adds.now v) -ℤ int (listed adds.now 0))) × (Empty list.old) }
-    ensures { Lowered m adds.now list.new }
+// The first m branches less what the first of them adds.
+fn lowered(arms: &[Arm; 8], m: usize) -> [Arm; 8]
+    requires { (m ≤ 8) × ((v : ℕ) → v < m → Fit add_most (int (adding arms.now v) -ℤ int (adding arms.now 0))) × ((v : ℕ) → m ≤ v → v < 8 → tos arms.now v ≡ 0) }
+    ensures { Lowered m arms.now result }
 {
+    let mut list = [Arm { to: 0, adds: 0 }; 8];
     for v in 0..m {
-        list[v] = difference_word(adds[v], adds[0]);
+        list[v] = Arm {
+            to: arms[v].to,
+            adds: difference_word(arms[v].adds, arms[0].adds),
+        };
     }
+    list
 }
 
 // The branch that has these branches at feature k; its node is made where there is none, and None says that it has no room.
 // What the first branch adds is added above the node.
-pub fn make(t: &mut [u32], k: usize, goes: &[u32; 8], adds: &[u32; 8]) -> Option<Arm>
-    requires { (Holds t.old) × (k < features t.old) × (Armed t.old k goes.now adds.now) }
-    ensures { Makes t.old t.new k goes.now adds.now result }
+pub fn make(t: &mut [u32], k: usize, arms: &[Arm; 8]) -> Option<Arm>
+    requires { (Holds t.old) × (k < features t.old) × (Armed t.old k arms.now) }
+    ensures { Makes t.old t.new k arms.now result }
 {
     let m = size_word(t, k) as usize;
-    let mut less = [0u32; 8];
-    lowered(adds, m, &mut less);
-    let mut list = [0u32; 12];
-    pack(goes, &less, &mut list);
-    let base = adds[0];
+    let list = packed_body(&lowered(arms, m));
+    let adds = arms[0].adds;
     let Some(x) = find(t, k, &list) else {
         if count_word(t) < capacity_word(t) {
-            let pair = sides_of(t, list, m);
+            let pair = sides_of(t, list, m)?;
             let i = push(t, k, list, pair.low, pair.high) as u32;
-            return Some(Arm {
-                to: target_word(Target::Node(i)),
-                adds: base,
-            });
+            let to = target_word(Target::Node(i));
+            return Some(Arm { to, adds });
         }
         return None;
     };
-    Some(Arm {
-        to: target_word(x),
-        adds: base,
-    })
+    let to = target_word(x);
+    Some(Arm { to, adds })
 }
 
 // The branch of a place: its root and its base.

@@ -9,7 +9,6 @@ use lib.IntN.{ℤ, ◌+ℤ◌, ◌-ℤ◌}
 use lib.ListN.{length}
 use Rattle.theory_costs.specs.Extremes.{Passed, kept_at}
 use Rattle.theory_costs.proofs.Passing.{own_ext}
-use Rattle.table_words.specs.Words.{listed}
 use Rattle.table_records.specs.Laid.{Laid}
 use Rattle.table_notes.specs.Plain.{plain}
 use Rattle.table_notes.proofs.Alike.{Like, plain_like, like_head, like_sym, like_size, like_record, like_nodes, like_laid, like_holds, plain_grown}
@@ -17,7 +16,8 @@ use Rattle.cost_words.specs.Sides.{Keeps}
 use Rattle.cost_words.proofs.Reading.{length_nodes}
 use Rattle.cost_words.proofs.Regular.{regular}
 use Rattle.cost_nodes.specs.Nodes.{Holds, Armed, Makes, top, Place}
-use Rattle.cost_nodes.specs.declared.Arm.{Arm}
+use Rattle.cost_words.specs.Words.{tos, adding}
+use Rattle.cost_words.specs.declared.Arm.{Arm}
 use Rattle.cost_nodes.proofs.Reading.{ok_small}
 use Rattle.promises.specs.Integers.{Fit, int}
 use Rattle.promises.specs.Range.{add_most}
@@ -54,18 +54,18 @@ module _ {w u : List ℕ} (e : Like w u) where
             ∙ sym (own_ext (side_of up) (sizes w) (nodes w) ok.wf (kept up w) (kept up u) i h (λ j l. like_kept ok.laid.laid up j (omega (arith, length_nodes w))));
       }
 
-  like_armed : (k : ℕ) (x a : List ℕ) → Holds w → k < features w → Armed w k x a → Armed u k x a
-  like_armed k x a ok h r =
+  like_armed : (k : ℕ) (b : List Arm) → Holds w → k < features w → Armed w k b → Armed u k b
+  like_armed k b ok h r =
       let n = like_nodes e ok.laid.laid regular in
       let s : size u k ≡ size w k = like_size e ok.laid.laid k h in
       record {
         each = λ v l. rw n (r.each v (omega arith));
-        pad = λ v l b. r.pad v (omega arith) b;
+        pad = λ v l h. r.pad v (omega arith) h;
         near = λ v l. r.near v (omega arith);
         sums = λ up v l.
             let y : v < size w k = omega arith in
-            subst (λ (z : ℤ). Fit add_most ((int (listed a v) +ℤ z) -ℤ int (listed a 0)))
-            (sym (like_at ok.laid.laid up (listed x v) (ok_small w (suc k) (listed x v) (listed a v) (r.each v y)))) (r.sums up v y);
+            subst (λ (z : ℤ). Fit add_most ((int (adding b v) +ℤ z) -ℤ int (adding b 0)))
+            (sym (like_at ok.laid.laid up (tos b v) (ok_small w (suc k) (tos b v) (adding b v) (r.each v y)))) (r.sums up v y);
         paired = λ up. rw n (like_passed ok up (r.paired up));
       }
 
@@ -95,12 +95,12 @@ module _ (w : List ℕ) where
   pub noted_nodes : Laid (plain w) → nodes w ≡ nodes (plain w)
   noted_nodes d = like_nodes with_notes d regular
 
-  pub noted_armed : (k : ℕ) (x a : List ℕ) → Holds (plain w) → k < features (plain w) → Armed (plain w) k x a → Armed w k x a
-  noted_armed k x a ok h r = like_armed with_notes k x a ok h r
+  pub noted_armed : (k : ℕ) (b : List Arm) → Holds (plain w) → k < features (plain w) → Armed (plain w) k b → Armed w k b
+  noted_armed k b ok h r = like_armed with_notes k b ok h r
 
 -- `make` on a table is `make` on its words without notes
-pub plain_makes : (t t' : List ℕ) (k : ℕ) (x a : List ℕ) (o : Option Arm) → Holds (plain t) → k < features (plain t) → Makes t t' k x a o → Makes (plain t) (plain t') k x a o
-plain_makes t t' k x a o ok h m =
+pub plain_makes : (t t' : List ℕ) (k : ℕ) (b : List Arm) (o : Option Arm) → Holds (plain t) → k < features (plain t) → Makes t t' k b o → Makes (plain t) (plain t') k b o
+plain_makes t t' k b o ok h m =
     let n : nodes t ≡ nodes (plain t) = noted_nodes t ok.laid.laid in
     let s : size t k ≡ size (plain t) k = like_size (like_sym (plain_like t)) ok.laid.laid k h in
     let c = like_head (plain_like t) 1 (omega arith) in

@@ -17,7 +17,6 @@ ghost use Rattle.promises.specs.CostWords.{target, cost_branch as branch, cost_n
 use cost_nodes::{Arm, arm_at, make, top_of};
 use cost_words::{Span, kept_span};
 pub use operators::{ADD, CHOOSE, LARGER, LESS, LOWEST, SCALE, SMALLER, SUBTRACT};
-use table_memory::Memo;
 
 // The lowest feature that one of two targets tests.
 pub fn lowest(t: &[u32], x: u32, y: u32) -> usize
@@ -44,15 +43,23 @@ pub fn kept_in(t: &[u32], x: u32) -> Span
 }
 
 // The branch that has these branches at feature k, or None where its node has no room; what is remembered stays.
-pub fn make_in(t: &mut [u32], k: usize, goes: &[u32; 8], adds: &[u32; 8]) -> Option<Arm>
-    requires { (Roomy t.old) × (Holds (plain t.old)) × (k < features (plain t.old)) × (Armed (plain t.old) k goes.now adds.now) }
-    ensures { (Makes (plain t.old) (plain t.new) k goes.now adds.now result) × (Aside t.old t.new) }
+pub fn make_in(t: &mut [u32], k: usize, arms: &[Arm; 8]) -> Option<Arm>
+    requires { (Roomy t.old) × (Holds (plain t.old)) × (k < features (plain t.old)) × (Armed (plain t.old) k arms.now) }
+    ensures { (Makes (plain t.old) (plain t.new) k arms.now result) × (Aside t.old t.new) }
 {
-    make(t, k, goes, adds)
+    make(t, k, arms)
 }
 
 // What is remembered under a tag for two targets and their difference. Keys of four words are lent here alone, so that they have one length for the compiler.
-pub fn recall_in(t: &[u32], s: &[u32], o: u32, tag: u32, x: u32, y: u32, d: u32) -> Memo
+pub fn recall_in(
+    t: &[u32],
+    s: &[u32],
+    o: u32,
+    tag: u32,
+    x: u32,
+    y: u32,
+    d: u32,
+) -> Option<(u32, u32)>
     requires { Windowed t.now }
     ensures { Recalls (memory t.now s.now) (tag ∷ x ∷ y ∷ d ∷ []) result }
 {

@@ -8,8 +8,8 @@ use Rattle.theory.specs.Costs.{Cost}
 use Rattle.theory.specs.Diagrams.{meaning}
 use Rattle.theory.specs.Functions.{Agree}
 use Rattle.settings.specs.declared.refusals.Refusal.TheVariants.{NoRoom}
-use Rattle.settings.specs.declared.refusals.Outcome.{Outcome}
-use Rattle.settings.specs.declared.refusals.Outcome.TheVariants.{Taken, Refused}
+use Rattle.settings.specs.Refusals.{Outcome}
+use Rattle.settings.specs.Refusals.{Taken, Refused}
 use Rattle.table_words.proofs.Filling.{built_ext}
 use Rattle.table_records.specs.Changes.{Rolled}
 use Rattle.table_calls.proofs.Settling as C
@@ -18,7 +18,7 @@ pub use Rattle.table_calls.proofs.Theorems.{puts_agree, puts_one, write_pass}
 use Rattle.theory_costs.proofs.Spreads.{within_agree}
 use Rattle.cost_words.specs.Picture.{Becomes}
 use Rattle.cost_nodes.specs.Nodes.{Holds, Result, told}
-use Rattle.cost_nodes.specs.declared.Arm.{Arm}
+use Rattle.cost_words.specs.declared.Arm.{Arm}
 use Rattle.cost_nodes.proofs.Filling.{result_mean}
 use Rattle.cost_nodes.proofs.Reading.{lawful}
 use Rattle.cost_words.proofs.Regular.{regular}

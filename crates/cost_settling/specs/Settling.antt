@@ -3,12 +3,12 @@ use Rattle.std.specs.Prelude.{List, [], ◌∷◌, ℕ, ◌≤◌, ◌<◌, Opti
 use Rattle.theory.specs.Costs.{Cost}
 use Rattle.theory.specs.Diagrams.{meaning}
 use Rattle.theory.specs.WellFormed.{Ok}
-use Rattle.settings.specs.declared.refusals.Outcome.{Outcome}
+use Rattle.settings.specs.Refusals.{Outcome}
 use Rattle.table_records.specs.Laid.{Laid}
 use Rattle.table_calls.specs.Writing as C
 use Rattle.cost_words.specs.Table.{cost_table}
 use Rattle.cost_nodes.specs.Nodes.{told}
-use Rattle.cost_nodes.specs.declared.Arm.{Arm}
+use Rattle.cost_words.specs.declared.Arm.{Arm}
 use Rattle.cost_collect.specs.Tidy.{Untidy}
 use Rattle.promises.specs.Words.{count, sizes}
 use Rattle.promises.specs.Range.{Within, cost_most}

@@ -5,18 +5,18 @@ ghost use Rattle.cost_settling.specs.Settling.{Asks, Settled};
 
 use cost_collect::finish;
 use cost_nodes::Arm;
-use settings::{Outcome, Refusal};
+use settings::Refusal;
 use table_records::roll_back;
 
 // What was built into a table of n nodes becomes the cost of the place; where there was no room it is taken back.
-pub fn settle(t: &mut [u32], place: usize, n: usize, r: Option<Arm>) -> Outcome
+pub fn settle(t: &mut [u32], place: usize, n: usize, r: Option<Arm>) -> Result<(), Refusal>
     requires { Asks place n t.old r }
     ensures { Settled place n t.old t.new r result }
 {
     let Some(b) = r else {
         roll_back(t, n);
-        return Outcome::Refused(Refusal::NoRoom);
+        return Err(Refusal::NoRoom);
     };
     finish(t, place, b.to, b.adds);
-    Outcome::Taken
+    Ok(())
 }

@@ -1,13 +1,15 @@
 -- The test of the pairs and of the range, step by step: a node's own, the nodes in turn, the places. Assumes nothing.
+use Rattle.std.specs.Prelude.{Some, None}
 use mathlib.Core.Path.{◌≡◌, sym, ap, subst, ◌∙◌}
-use mathlib.Core.Bool.{Bool, true, false, not}
+use mathlib.Core.Bool.{Bool, true, false}
 use mathlib.Core.Logic.{◌↔◌, ⊎_elim}
 use mathlib.Core.List.{List, ◌∷◌}
 use Prim.Native.Nat.{ℕ, suc, ◌+◌, ◌≤◌, ◌<◌}
 use native.Mathlib.Nat.{le_refl}
 use native.Mathlib.Omega.{arith}
-use borrow.Author.Tests.{not-true, not-false}
-use lib.Dec.{leb}
+use native.Mathlib.Decide.{ℕ_discrete}
+use borrow.Author.Tests.{eq-eqb, ne_eqb}
+use lib.Dec.{eqb}
 use lib.IntN.{ℤ, ◌+ℤ◌}
 use lib.ListN.{length, get_or, drop}
 use lib.Seq.{drop-cons}
@@ -26,13 +28,12 @@ use Rattle.table_words.specs.Words.{listed}
 use Rattle.table_words.proofs.Tab.{split}
 use Rattle.table_words.proofs.Words.{length_sizes, at_sizes}
 use Rattle.cost_words.specs.Sides.{end_of, Keeps, arm_sum, Bodied, Sides}
+use Rattle.cost_words.specs.declared.sides.Span.{Span}
 use Rattle.cost_words.proofs.Regular.{regular}
 use Rattle.cost_words.proofs.Packing.{target_one}
 use Rattle.cost_words.proofs.Pairing.{pairs_passed, passed_pairs}
 use Rattle.cost_words.proofs.Summing.{way}
 use Rattle.cost_words.proofs.Reading.{length_nodes, at_nodes, branch_at_lem}
-use Rattle.settings.specs.Tells.{Tells}
-use Rattle.settings.proofs.Answers.{tells_leb}
 use Rattle.table_checks.proofs.Pictures.{Tested}
 use Rattle.table_checks.proofs.Sitting.{sits_good}
 use Rattle.cost_sound.specs.Paired.{Shaped, Passes, Owns}
@@ -44,12 +45,13 @@ use Rattle.promises.specs.CostSound.{across, extreme, kept, Pairs, side_of, Cost
 use Rattle.promises.specs.Words.{features, size, count, sizes, feature, body, word}
 use Rattle.promises.specs.CostWords.{target, cost_branch as branch, goes, added, cost_node_list as nodes, cost_root as root, cost_base as base, root_at, cost_of}
 
--- a test that may end early, turned round by `!`
-pub passes_no : (w : List ℕ) (P : Type 0) (r : Bool) → not r ≡ true → Passes r w P → Sound w → ⊥
-passes_no w P r e t = subst (λ (x : Bool). Passes x w P) (not-true r e) t
-
-pub passes_yes : (w : List ℕ) (P : Type 0) (r : Bool) → not r ≡ false → Passes r w P → P
-passes_yes w P r e t = subst (λ (x : Bool). Passes x w P) (not-false r e) t
+-- a comparison for equality as such a test
+pub passes_equal : (w : List ℕ) (P : Type 0) (a b : ℕ) → (a ≡ b → P) → ((a ≡ b → ⊥) → Sound w → ⊥) → Passes (eqb a b) w P
+passes_equal w P a b f g = go (ℕ_discrete a b)
+  where
+    go : Dec (a ≡ b) → Passes (eqb a b) w P
+    go (yes h) = subst (λ (x : Bool). Passes x w P) (sym (eq-eqb a b h)) (f h)
+    go (no h) = subst (λ (x : Bool). Passes x w P) (sym (ne_eqb a b h)) (g h)
 
 -- what is kept in a sound table is each node's own
 sound_tested : {w : List ℕ} → Sound w → Tested cost_table w
@@ -104,34 +106,30 @@ module _ {w : List ℕ} (s : Shaped w) where
         (drop (suc (at (nodes w) i).feature) (sizes w)) (omega (arith, length_nodes w)) (omega (arith, length_nodes w)) d
         (subst Pos d (pos_drop (at (nodes w) i).feature (sizes w) (sizes_pos s.header))) v (omega arith))
 
-    module _ (c d : ℕ) (q : Sides w l m c d) where
-      -- a sum is lost
-      pub own_lost : c ≡ 0 → Sound w → ⊥
-      own_lost e z = q.lost e (arm_fits z)
+    -- a sum is lost
+    pub own_lost : Sides w l m None → Sound w → ⊥
+    own_lost q z = q (arm_fits z)
 
-      module _ (z : 0 < c) where
-        -- the furthest sum is the node's own
-        own_is : (up : Bool) → int (end_of up c d) ≡ own (side_of up) (kept up w) (at (nodes w) i)
-        unfolding own
-        own_is up =
-            let n : length (at (nodes w) i).branches ≡ m = (wf.fits i (omega (arith, length_nodes w))).full ∙ ap (λ (j : ℕ). get_or (sizes w) j 0) feature_is ∙ at_sizes w K known ∙ sym em in
-            q.stands z up
-            ∙ across_ext (side_of up) (arm_sum up w l) (λ v. along (kept up w) (get_or (at (nodes w) i).branches v blank)) m (λ v hv. ap (along (kept up w)) (arm_is v hv))
-            ∙ ap (across (side_of up) (λ v. along (kept up w) (get_or (at (nodes w) i).branches v blank))) (sym n)
+    module _ (a : Span) (q : Sides w l m (Some a)) where
+      -- the furthest sum is the node's own
+      own_is : (up : Bool) → int (end_of up a.low a.high) ≡ own (side_of up) (kept up w) (at (nodes w) i)
+      unfolding own
+      own_is up =
+          let n : length (at (nodes w) i).branches ≡ m = (wf.fits i (omega (arith, length_nodes w))).full ∙ ap (λ (j : ℕ). get_or (sizes w) j 0) feature_is ∙ at_sizes w K known ∙ sym em in
+          q up
+          ∙ across_ext (side_of up) (arm_sum up w l) (λ v. along (kept up w) (get_or (at (nodes w) i).branches v blank)) m (λ v hv. ap (along (kept up w)) (arm_is v hv))
+          ∙ ap (across (side_of up) (λ v. along (kept up w) (get_or (at (nodes w) i).branches v blank))) (sym n)
 
-        -- what a sound table keeps is that
-        sound_own : Sound w → (up : Bool) → int (end_of up c d) ≡ kept up w i
-        sound_own g up = own_is up ∙ sym ((sound_passed g up).each i (omega (arith, length_nodes w)))
+      -- what a sound table keeps is that
+      sound_own : Sound w → (up : Bool) → int (end_of up a.low a.high) ≡ kept up w i
+      sound_own g up = own_is up ∙ sym ((sound_passed g up).each i (omega (arith, length_nodes w)))
 
-        pub low_wrong : (y : ℕ) → y ≡ word w i 14 → (c ≡ y → ⊥) → Sound w → ⊥
-        low_wrong y e n g = n (int_one c y (sound_own g false ∙ ap int (sym e)))
+      pub own_wrong : (a.low ≡ word w i 14 → a.high ≡ word w i 15 → ⊥) → Sound w → ⊥
+      own_wrong n g = n (int_one a.low _ (sound_own g false)) (int_one a.high _ (sound_own g true))
 
-        pub high_wrong : (y : ℕ) → y ≡ word w i 15 → (d ≡ y → ⊥) → Sound w → ⊥
-        high_wrong y e n g = n (int_one d y (sound_own g true ∙ ap int (sym e)))
-
-        pub own_right : (x y : ℕ) → x ≡ word w i 14 → y ≡ word w i 15 → c ≡ x → d ≡ y → Owns w i
-        own_right x y ex ey ec ed true = ap int (sym (ed ∙ ey)) ∙ own_is true
-        own_right x y ex ey ec ed false = ap int (sym (ec ∙ ex)) ∙ own_is false
+      pub own_right : a.low ≡ word w i 14 → a.high ≡ word w i 15 → Owns w i
+      own_right ec ed true = ap int (sym ed) ∙ own_is true
+      own_right ec ed false = ap int (sym ec) ∙ own_is false
 
   -- ---- nodes in turn
   pub pairs_none : (up : Bool) → Passed (side_of up) (nodes w) 0 (kept up w)
@@ -159,11 +157,11 @@ module _ {w : List ℕ} (s : Shaped w) where
         (subst (λ (y : ℤ). Within cost_most (sizes w) (cost_of w p) ↔ ((fall (extreme (side_of false) (sizes w) (cost_of w p)) ≤ cost_most) × (rise y ≤ cost_most))) (sym (end_is true))
         (within_exactly cost_most (sizes w) (sizes_pos s.header) (cost_of w p)))
 
-    pub place_low : (y : ℕ) → y ≡ a + b → y < 3294967296 → Within cost_most (sizes w) (cost_of w p) → ⊥
-    place_low y e l f = omega (arith, words_sum a b, (ends.0 f).0)
+    pub place_inside : 3294967296 ≤ a + b → a + c ≤ 5294967296 → Within cost_most (sizes w) (cost_of w p)
+    place_inside l m = ends.1 (fall_near (int a +ℤ int b) (omega (arith, words_sum a b)), rise_near (int a +ℤ int c) (omega (arith, words_sum a c)))
 
-    pub place_tells : (y z : ℕ) → y ≡ a + b → (y < 3294967296 → ⊥) → z ≡ a + c → Tells (leb z 5294967296) (Within cost_most (sizes w) (cost_of w p))
-    place_tells y z ey l ez =
-        tells_leb z 5294967296
-        (λ g. ends.1 (fall_near (int a +ℤ int b) (omega (arith, words_sum a b, l)), rise_near (int a +ℤ int c) (omega (arith, words_sum a c))))
-        (λ f. omega (arith, words_sum a c, (ends.0 f).1))
+    pub place_low : Within cost_most (sizes w) (cost_of w p) → 3294967296 ≤ a + b
+    place_low f = omega (arith, words_sum a b, (ends.0 f).0)
+
+    pub place_high : Within cost_most (sizes w) (cost_of w p) → a + c ≤ 5294967296
+    place_high f = omega (arith, words_sum a c, (ends.0 f).1)

@@ -9,25 +9,18 @@ ghost use Rattle.promises.specs.CostSound.{Pairs, Ranged};
 ghost use Rattle.promises.specs.CostWords.{cost_of};
 
 use cost_words::{base_word, kept_span, root_word, sides_of};
-use table_words::{body_of, count_word, record_word, size_word, wide};
+use table_words::{body_of, count_word, record_word, size_word};
 
 // Whether what is kept for node i is its own. A sum outside ±2,000,000,000 ends the test: no sound table has one.
 fn own_ok(t: &[u32], i: usize) -> bool
     requires { (Shaped t.now) × (i < count t.now) }
     ensures { Passes result t.now (Owns t.now i) }
 {
-    let m = wide(size_word(t, wide(record_word(t, i, 0))));
-    let pair = sides_of(t, body_of(t, i), m);
-    if pair.low == 0 {
+    let m = size_word(t, record_word(t, i, 0) as usize) as usize;
+    let Some(pair) = sides_of(t, body_of(t, i), m) else {
         return false;
-    }
-    if pair.low != record_word(t, i, 14) {
-        return false;
-    }
-    if pair.high != record_word(t, i, 15) {
-        return false;
-    }
-    true
+    };
+    pair.low == record_word(t, i, 14) && pair.high == record_word(t, i, 15)
 }
 
 // Whether what is kept for each node is its own.
@@ -35,13 +28,11 @@ pub fn pairs_ok(t: &[u32]) -> bool
     requires { Shaped t.now }
     ensures { Passes result t.now (Pairs t.now) }
 {
-    let n = wide(count_word(t));
-    let mut i: usize = 0;
-    while i < n {
+    let n = count_word(t) as usize;
+    for i in 0..n {
         if !own_ok(t, i) {
             return false;
         }
-        i += 1;
     }
     true
 }
@@ -51,12 +42,9 @@ fn place_ok(t: &[u32], p: usize) -> bool
     requires { (Shaped t.now) × (Pairs t.now) × (p < 16) }
     ensures { Tells result (Within cost_most (sizes t.now) (cost_of t.now p)) }
 {
-    let base = wide(base_word(t, p));
+    let base = u64::from(base_word(t, p));
     let below = kept_span(t, root_word(t, p));
-    if base + wide(below.low) < 3294967296 {
-        return false;
-    }
-    base + wide(below.high) <= 5294967296
+    3294967296 <= base + u64::from(below.low) && base + u64::from(below.high) <= 5294967296
 }
 
 // Whether the cost of each place does.
@@ -64,12 +52,10 @@ pub fn places_ok(t: &[u32]) -> bool
     requires { (Shaped t.now) × (Pairs t.now) }
     ensures { Tells result (Ranged t.now) }
 {
-    let mut p: usize = 0;
-    while p < 16 {
+    for p in 0..16 {
         if !place_ok(t, p) {
             return false;
         }
-        p += 1;
     }
     true
 }

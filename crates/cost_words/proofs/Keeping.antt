@@ -1,4 +1,5 @@
 -- What is kept for a target, and the sums along the branches of a body in turn. Assumes nothing.
+use Rattle.std.specs.Prelude.{Some, None}
 use mathlib.Core.Path.{◌≡◌, sym, ap, subst, ◌∙◌}
 use mathlib.Core.Bool.{Bool, true, false}
 use mathlib.Core.List.{List}
@@ -11,6 +12,7 @@ use Rattle.theory_costs.proofs.Extremes.{across_one, across_more}
 use Rattle.table_words.specs.Words.{listed}
 use Rattle.cost_words.specs.Sides.{end_of, Keeps, Wider, arm_sum, ArmSums, Sides}
 use Rattle.cost_words.specs.Sums.{Stands}
+use Rattle.cost_words.specs.declared.sides.Span.{Span}
 use Rattle.cost_words.proofs.Packing.{target_end, target_node, int_zero}
 use Rattle.promises.specs.Integers.{Fit, int}
 use Rattle.promises.specs.Range.{add_most}
@@ -40,8 +42,8 @@ keeps_node w x j a b h e ea eb =
     }
 
 -- ---- the further of two
-pub both_wider : (a b c d e f : ℕ) → int e ≡ side_of false (int a) (int c) → (0 < a → 0 < c → 0 < e) → int f ≡ side_of true (int b) (int d) → Wider a b c d e f
-both_wider a b c d e f p z q = record { wider = go; some = z }
+pub both_wider : (a b c d e f : ℕ) → int e ≡ side_of false (int a) (int c) → int f ≡ side_of true (int b) (int d) → Wider a b c d e f
+both_wider a b c d e f p q = record { wider = go }
   where
     go : (up : Bool) → int (end_of up e f) ≡ side_of up (int (end_of up a b)) (int (end_of up c d))
     go true = q
@@ -53,32 +55,31 @@ module _ (w l : List ℕ) where
     arm_is : (up : Bool) → int (added (listed l) v) +ℤ int (end_of up a b) ≡ arm_sum up w l v
     arm_is up = ap (λ (z : ℤ). int (added (listed l) v) +ℤ z) (k.keeps up ∙ ap (λ (y : ℕ). kept_at (kept up w) (target y)) e)
 
-    -- the higher is lost, ..
-    pub arm_lost : (d : ℕ) → d ≡ 0 → Stands (int (added (listed l) v) +ℤ int b) d → ArmSums w l v 0 0
-    arm_lost d z s = record { stands = λ h. absurd (omega arith); lost = λ h f. s.lost z (subst (Fit add_most) (sym (arm_is true)) (f true)) }
+    -- one is lost, ..
+    pub low_lost : Stands (int (added (listed l) v) +ℤ int a) None → ArmSums w l v None
+    low_lost s f = s (subst (Fit add_most) (sym (arm_is false)) (f false))
 
-    -- .. or not
-    pub arm_stands : (c d : ℕ) → 0 < d → Stands (int (added (listed l) v) +ℤ int a) c → Stands (int (added (listed l) v) +ℤ int b) d → ArmSums w l v c d
-    arm_stands c d z p q =
-        record {
-          stands = λ h. both (λ up r. int r ≡ arm_sum up w l v) c d (p.stands h ∙ arm_is false) (q.stands z ∙ arm_is true);
-          lost = λ h f. p.lost h (subst (Fit add_most) (sym (arm_is false)) (f false));
-        }
+    pub high_lost : Stands (int (added (listed l) v) +ℤ int b) None → ArmSums w l v None
+    high_lost s f = s (subst (Fit add_most) (sym (arm_is true)) (f true))
+
+    -- .. or none
+    pub arm_stands : (c d : ℕ) → Stands (int (added (listed l) v) +ℤ int a) (Some c) → Stands (int (added (listed l) v) +ℤ int b) (Some d) → ArmSums w l v (Some (record { low = c; high = d }))
+    arm_stands c d p q = both (λ up r. int r ≡ arm_sum up w l v) c d (p ∙ arm_is false) (q ∙ arm_is true)
 
   -- ---- branches in turn
-  pub side_one : (a b : ℕ) → 0 < a → ArmSums w l 0 a b → (up : Bool) → int (end_of up a b) ≡ across (side_of up) (arm_sum up w l) 1
-  side_one a b z s up = s.stands z up ∙ sym (across_one (side_of up) (arm_sum up w l))
+  pub side_one : (a : Span) → ArmSums w l 0 (Some a) → (up : Bool) → int (end_of up a.low a.high) ≡ across (side_of up) (arm_sum up w l) 1
+  side_one a s up = s up ∙ sym (across_one (side_of up) (arm_sum up w l))
 
-  pub side_more : (v a b c d e f : ℕ) → 0 < v → ((up : Bool) → int (end_of up a b) ≡ across (side_of up) (arm_sum up w l) v) → 0 < c → ArmSums w l v c d → Wider a b c d e f →
-      (up : Bool) → int (end_of up e f) ≡ across (side_of up) (arm_sum up w l) (v + 1)
-  side_more zero a b c d e f z q h s y up = absurd (omega arith)
-  side_more (suc v) a b c d e f z q h s y up =
-      y.wider up ∙ (λ j. side_of up (q up j) (s.stands h up j)) ∙ sym (ap (across (side_of up) (arm_sum up w l)) (add-one (suc v)) ∙ across_more (side_of up) (arm_sum up w l) v)
+  pub side_more : (v : ℕ) (a b c : Span) → 0 < v → ((up : Bool) → int (end_of up a.low a.high) ≡ across (side_of up) (arm_sum up w l) v) → ArmSums w l v (Some b)
+      → Wider a.low a.high b.low b.high c.low c.high → (up : Bool) → int (end_of up c.low c.high) ≡ across (side_of up) (arm_sum up w l) (v + 1)
+  side_more zero a b c z q s y up = absurd (omega arith)
+  side_more (suc v) a b c z q s y up =
+      y.wider up ∙ (λ j. side_of up (q up j) (s up j)) ∙ sym (ap (across (side_of up) (arm_sum up w l)) (add-one (suc v)) ∙ across_more (side_of up) (arm_sum up w l) v)
 
   -- one is lost, ..
-  pub side_lost : (m v a b : ℕ) → v < m → a ≡ 0 → ArmSums w l v a b → Sides w l m 0 0
-  side_lost m v a b h e s = record { stands = λ z. absurd (omega arith); lost = λ z f. s.lost e (λ up. f up v h) }
+  pub side_lost : (m v : ℕ) → v < m → ArmSums w l v None → Sides w l m None
+  side_lost m v h s f = s (λ up. f up v h)
 
   -- .. or none
-  pub side_all : (m v a b : ℕ) → v ≡ m → 0 < a → ((up : Bool) → int (end_of up a b) ≡ across (side_of up) (arm_sum up w l) v) → Sides w l m a b
-  side_all m v a b e z q = record { stands = λ h up. q up ∙ ap (across (side_of up) (arm_sum up w l)) e; lost = λ h. absurd (omega arith) }
+  pub side_all : (m v : ℕ) (a : Span) → v ≡ m → ((up : Bool) → int (end_of up a.low a.high) ≡ across (side_of up) (arm_sum up w l) v) → Sides w l m (Some a)
+  side_all m v a e q up = q up ∙ ap (across (side_of up) (arm_sum up w l)) e

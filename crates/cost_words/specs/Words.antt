@@ -1,8 +1,9 @@
 -- Contract between layers: the words of a cost table: those that say targets, the pair of a node, a body packed; the code's targets. Assumes nothing.
-use Rattle.std.specs.Prelude.{List, ℕ, zero, suc, ◌+◌, ◌*◌, ◌-◌, ◌<◌, ltb}
+use Rattle.std.specs.Prelude.{List, ℕ, zero, suc, ◌+◌, ◌*◌, ◌-◌, ◌<◌, ltb, get_or}
 use Rattle.theory.specs.Costs.{costs}
 use Rattle.theory.specs.Diagrams.{Node, Target, leaf, node}
 use Rattle.theory_costs.specs.Integers.{word_for}
+use Rattle.cost_words.specs.declared.Arm.{Arm}
 use Rattle.cost_words.specs.declared.Target.{Target as CodeTarget}
 use Rattle.cost_words.specs.declared.Target.TheVariants.{End, Node as NodeIs}
 use Rattle.promises.specs.CostOperations.{smaller_of, larger_of}
@@ -32,3 +33,10 @@ target_of (NodeIs i) = node i
 abbrev pub Worded : CodeTarget → Type 0
 Worded End = Unit {0}
 Worded (NodeIs i) = i < 65535
+
+-- the target word and the added word of branch v of a list; past its end 0
+abbrev pub tos : List Arm → ℕ → ℕ
+tos b v = (get_or b v (record { to = 0; adds = 0 })).to
+
+abbrev pub adding : List Arm → ℕ → ℕ
+adding b v = (get_or b v (record { to = 0; adds = 0 })).adds

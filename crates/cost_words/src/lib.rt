@@ -5,8 +5,7 @@ mod sides; // sides.rt: the lowest and the highest sum kept for each node
 mod sums; // sums.rt: sums that may have no word
 
 ghost use Rattle.std.specs.Prelude.{◌≡◌, ℕ, ◌+◌, ◌*◌, ◌≤◌, ◌<◌, length, get_or, ◌+ℤ◌, ◌-ℤ◌};
-ghost use Rattle.table_words.specs.Words.{listed};
-ghost use Rattle.cost_words.specs.Words.{packed, target_of, Worded};
+ghost use Rattle.cost_words.specs.Words.{packed, target_of, Worded, tos, adding};
 ghost use Rattle.promises.specs.Integers.{Fit, int};
 ghost use Rattle.promises.specs.Range.{add_most};
 ghost use Rattle.promises.specs.Words.{body};
@@ -85,19 +84,12 @@ pub fn base_word(t: &[u32], p: usize) -> u32
     head_word(t, 48 + p)
 }
 
-// A word in a wider number.
-fn wider(x: u32) -> u64
-    ensures { (result ≡ x) × (result < 4294967296) }
-{
-    x as u64
-}
-
 // The word that stands for the sum of two.
 pub fn sum_word(a: u32, b: u32) -> u32
     requires { Fit add_most (int a +ℤ int b) }
     ensures { int result ≡ int a +ℤ int b }
 {
-    (wider(a) + wider(b) - WIDE_ZERO) as u32
+    (u64::from(a) + u64::from(b) - WIDE_ZERO) as u32
 }
 
 // The word that stands for the difference of two.
@@ -105,29 +97,36 @@ pub fn difference_word(a: u32, b: u32) -> u32
     requires { Fit add_most (int a -ℤ int b) }
     ensures { int result ≡ int a -ℤ int b }
 {
-    (wider(a) + WIDE_ZERO - wider(b)) as u32
+    (u64::from(a) + WIDE_ZERO - u64::from(b)) as u32
 }
 
-// Body word v of a record with these targets and added words.
-fn packed_word(to: &[u32; 8], adds: &[u32; 8], v: usize) -> u32
-    requires { ((u : ℕ) → u < 8 → listed to.now u < 65536) × (v < 12) }
-    ensures { result ≡ packed (listed to.now) (listed adds.now) v }
+// A branch: the words of its target and of what it adds.
+#[derive(Clone, Copy)]
+pub struct Arm {
+    pub to: u32,
+    pub adds: u32,
+}
+
+// Body word v of a record with these branches.
+fn packed_word(arms: &[Arm; 8], v: usize) -> u32
+    requires { ((u : ℕ) → u < 8 → tos arms.now u < 65536) × (v < 12) }
+    ensures { result ≡ packed (tos arms.now) (adding arms.now) v }
 {
     if v < 4 {
-        to[2 * v] + HALF * to[2 * v + 1]
+        arms[2 * v].to + HALF * arms[2 * v + 1].to
     } else {
-        adds[v - 4]
+        arms[v - 4].adds
     }
 }
 
-// Lays the body of a record with these targets and added words into a list.
-pub fn pack(to: &[u32; 8], adds: &[u32; 8], list: &mut [u32; 12])
-    requires { (length list.old ≡ 12) × ((u : ℕ) → u < 8 → listed to.now u < 65536) }
-    ensures { (v : ℕ) → v < 12 → get_or list.new v 0 ≡ packed (listed to.now) (listed adds.now) v }
+// The body of a record with these branches.
+pub fn packed_body(arms: &[Arm; 8]) -> [u32; 12]
+    requires { (u : ℕ) → u < 8 → tos arms.now u < 65536 }
+    ensures { (v : ℕ) → v < 12 → get_or result v 0 ≡ packed (tos arms.now) (adding arms.now) v }
 {
-    let mut v: usize = 0;
-    while v < 12 {
-        list[v] = packed_word(to, adds, v);
-        v += 1;
+    let mut list = [0u32; 12];
+    for v in 0..12 {
+        list[v] = packed_word(arms, v);
     }
+    list
 }

@@ -4,7 +4,7 @@ ghost use Rattle.cost_words.specs.Sides.{Keeps, Near, Wider, Bodied, ArmSums, Si
 
 use crate::ZERO;
 use crate::sums::{further, sum_or_lost};
-use table_words::{half_of, record_word, wide};
+use table_words::{half_of, record_word};
 
 // The words of a lowest and of a highest sum.
 #[derive(Clone, Copy)]
@@ -24,7 +24,7 @@ pub fn kept_span(t: &[u32], x: u32) -> Span
             high: ZERO,
         };
     }
-    let i = wide(x - 1);
+    let i = x as usize - 1;
     Span {
         low: record_word(t, i, 14),
         high: record_word(t, i, 15),
@@ -41,41 +41,27 @@ fn wider(a: Span, b: Span) -> Span
     }
 }
 
-// The sums along branch v of a body; 0 and 0 if one lies outside ±2,000,000,000.
-fn arm_span(t: &[u32], list: [u32; 12], m: usize, v: usize) -> Span
+// The sums along branch v of a body; None if one lies outside ±2,000,000,000.
+fn arm_span(t: &[u32], list: [u32; 12], m: usize, v: usize) -> Option<Span>
     requires { (Bodied t.now list m) × (v < m) }
-    ensures { ArmSums t.now list v result.low result.high }
+    ensures { ArmSums t.now list v result }
 {
     let adds = list[4 + v];
     let below = kept_span(t, half_of(list[v / 2], v));
-    let low = sum_or_lost(adds, below.low);
-    let high = sum_or_lost(adds, below.high);
-    if high == 0 {
-        return Span { low: 0, high: 0 };
-    }
-    Span {
-        low: low,
-        high: high,
-    }
+    let low = sum_or_lost(adds, below.low)?;
+    let high = sum_or_lost(adds, below.high)?;
+    Some(Span { low, high })
 }
 
-// The lowest and the highest sum along m branches of a body; 0 and 0 if one lies outside ±2,000,000,000.
-pub fn sides_of(t: &[u32], list: [u32; 12], m: usize) -> Span
+// The lowest and the highest sum along m branches of a body; None if one lies outside ±2,000,000,000.
+pub fn sides_of(t: &[u32], list: [u32; 12], m: usize) -> Option<Span>
     requires { Bodied t.now list m }
-    ensures { Sides t.now list m result.low result.high }
+    ensures { Sides t.now list m result }
 {
-    let mut best = arm_span(t, list, m, 0);
-    if best.low == 0 {
-        return Span { low: 0, high: 0 };
-    }
-    let mut v: usize = 1;
-    while v < m {
-        let x = arm_span(t, list, m, v);
-        if x.low == 0 {
-            return Span { low: 0, high: 0 };
-        }
+    let mut best = arm_span(t, list, m, 0)?;
+    for v in 1..m {
+        let x = arm_span(t, list, m, v)?;
         best = wider(best, x);
-        v += 1;
     }
-    best
+    Some(best)
 }

@@ -5,7 +5,7 @@ use mathlib.Core.Path.{subst, ◌∙◌}
 use Rattle.table_words.proofs.Words.{kept_features, kept_size}
 use Rattle.table_notes.specs.Plain.{plain}
 use Rattle.table_notes.proofs.Plain.{length_plain}
-use Rattle.cost_nodes.proofs.Filling.{gives_is, gives_none, empty, fill_start, fill_more, fill_stop, stop_result, fill_armed, fill_make, filled, not_filled, filling_ext}
+use Rattle.cost_nodes.proofs.Filling.{gives_is, gives_none, fill_start, fill_more, fill_stop, stop_result, fill_armed, fill_make, filled, not_filled, filling_ext}
 use Rattle.cost_nodes.proofs.Stepping.{good_small}
 use Rattle.theory.proofs.Growing.{make_grows}
 use Rattle.cost_words.specs.Table.{cost_table}
@@ -14,7 +14,7 @@ use Rattle.table_memory.proofs.Remembering.{noted_hit}
 use Rattle.table_notes.proofs.Far.{grown_windowed}
 use Rattle.cost_notes.proofs.Reading.{plain_head}
 use Rattle.cost_engine.specs.Joint.{Operands}
-use Rattle.cost_engine.specs.Memory.{Still, StillIf}
+use Rattle.cost_engine.specs.Memory.{Still}
 use Rattle.cost_engine.proofs.Recalling.{recalled_result, result_recalled, right_here, right_more}
 use Rattle.cost_engine.proofs.Walking.{first_place, second_place, operands_more, operands_end, at_gap, still_left, skip_most, operands_skip, joint_skip, operands_step, joint_held, operands_ext, joint_ends, sum_fits, joint_raised, joint_stopped}
 use Rattle.promises.specs.Words.{size}
@@ -62,14 +62,14 @@ pub fill_branches-loop-v-init : goal.fill_branches-loop-v-init
 fill_branches-loop-v-init t c =
     let e : c.size_word-m.result ≡ size (plain c.args.t.now) c.args.k = c.size_word-m.ensures
     ∙ sym (plain_head c.args.t.now (3 + c.args.k) (omega (arith, c.requires.0.holds.laid.laid.few, c.requires.2))) in
-    (e, fill_start _ c.args.k _ c.requires.0.holds c.requires.2 _ _ c.requires.3 c.requires.4, c.requires.1)
+    (e, fill_start _ c.args.k _ c.requires.0.holds c.requires.2, c.requires.1)
 
 pub fill_branches-arm_in-a-requires : goal.fill_branches-arm_in-a-requires
 fill_branches-arm_in-a-requires t c =
     let l = c.loop-v in
     let fl = l.invariant.1 in
     let kp = fl.filled.grown.kept in (
-      first_place _ _ _ _ _ _ (operands_ext (plain c.args.t.now) _ c.args.k _ _ _ c.requires.0 _ l.v l.goes l.adds fl c.requires.2 (omega (arith, l.invariant.0))),
+      first_place _ _ _ _ _ _ (operands_ext (plain c.args.t.now) _ c.args.k _ _ _ c.requires.0 _ l.v l.arms fl c.requires.2 (omega (arith, l.invariant.0))),
       omega (arith, kept_features _ _ kp, c.requires.2),
       omega (arith, kept_size _ _ kp c.requires.0.holds.laid.laid.few c.args.k c.requires.2, l.invariant.0),
     )
@@ -79,7 +79,7 @@ fill_branches-arm_in-b-requires t c =
     let l = c.loop-v in
     let fl = l.invariant.1 in
     let kp = fl.filled.grown.kept in (
-      second_place _ _ _ _ _ _ (operands_ext (plain c.args.t.now) _ c.args.k _ _ _ c.requires.0 _ l.v l.goes l.adds fl c.requires.2 (omega (arith, l.invariant.0))),
+      second_place _ _ _ _ _ _ (operands_ext (plain c.args.t.now) _ c.args.k _ _ _ c.requires.0 _ l.v l.arms fl c.requires.2 (omega (arith, l.invariant.0))),
       omega (arith, kept_features _ _ kp, c.requires.2),
       omega (arith, kept_size _ _ kp c.requires.0.holds.laid.laid.few c.args.k c.requires.2, l.invariant.0),
     )
@@ -96,7 +96,7 @@ fill_branches-branch_result-requires t c =
     let hk = c.requires.2 in (
       omega arith,
       (
-        operands_step _ _ _ _ _ _ (operands_ext (plain c.args.t.now) _ c.args.k _ _ _ c.requires.0 _ l.v l.goes l.adds fl hk
+        operands_step _ _ _ _ _ _ (operands_ext (plain c.args.t.now) _ c.args.k _ _ _ c.requires.0 _ l.v l.arms fl hk
             (omega (arith, l.invariant.0))) l.v _ _ _ _ (omega arith) (omega
             (arith, kept_size _ _ kp c.requires.0.holds.laid.laid.few c.args.k hk, l.invariant.0)) c.arm_in-a.ensures
             c.arm_in-b.ensures,
@@ -104,35 +104,32 @@ fill_branches-branch_result-requires t c =
       ),
     )
 
-pub fill_branches-returns-in_default : goal.fill_branches-returns-in_default
-fill_branches-returns-in_default t c =
+pub fill_branches-returns-in_err-c : goal.fill_branches-returns-in_err-c
+fill_branches-returns-in_err-c t c =
     let l = c.loop-v in
-    let fl = l.invariant.1 in (
-      fill_stop (plain c.args.t.now) c.args.k _ c.requires.0.holds c.requires.2 (plain l.t) _ l.v l.goes l.adds _ _ fl (omega (arith, l.invariant.0))
+    let fl = l.invariant.1 in
+    rw c.from_residual.ensures (
+      fill_stop (plain c.args.t.now) c.args.k _ c.requires.0.holds c.requires.2 (plain l.t) _ l.v l.arms _ _ fl (omega (arith, l.invariant.0))
           (joint_held (plain c.args.t.now) _ c.args.k _ _ _ c.requires.0 (plain l.t) l.v _ _ _ _
-          (filling_ext (plain c.args.t.now) c.args.k _ c.requires.0.holds c.requires.2 (plain l.t) l.v l.goes l.adds fl) c.arm_in-a.ensures c.arm_in-b.ensures)
-          c.branch_result.ensures.0 c.in_default.is,
+          (filling_ext (plain c.args.t.now) c.args.k _ c.requires.0.holds c.requires.2 (plain l.t) l.v l.arms fl) c.arm_in-a.ensures c.arm_in-b.ensures)
+          c.branch_result.ensures.0 c.in_err-c.was,
       tt,
     )
 
-pub fill_branches-bounds-goes-v : goal.fill_branches-bounds-goes-v
-fill_branches-bounds-goes-v t c =
-    omega (arith, c.requires.0.holds.laid.laid.large c.args.k c.requires.2, c.loop-v.invariant.0, c.loop-v.invariant.1.targets)
-
-pub fill_branches-bounds-adds-v : goal.fill_branches-bounds-adds-v
-fill_branches-bounds-adds-v t c =
-    omega (arith, c.requires.0.holds.laid.laid.large c.args.k c.requires.2, c.loop-v.invariant.0, c.loop-v.invariant.1.addeds)
+pub fill_branches-bounds-arms-v : goal.fill_branches-bounds-arms-v
+fill_branches-bounds-arms-v t c =
+    omega (arith, c.requires.0.holds.laid.laid.large c.args.k c.requires.2, c.loop-v.invariant.0, c.loop-v.invariant.1.long)
 
 pub fill_branches-loop-v-preserved : goal.fill_branches-loop-v-preserved
 fill_branches-loop-v-preserved t c =
     let l = c.loop-v in
     let fl = l.invariant.1 in (
       l.invariant.0,
-      fill_more (plain c.args.t.now) c.args.k _ c.requires.0.holds c.requires.2 (plain l.t) _ l.v _ l.goes l.adds _ _ fl (omega (arith, l.invariant.0))
+      fill_more (plain c.args.t.now) c.args.k _ c.requires.0.holds c.requires.2 (plain l.t) _ l.v _ l.arms _ _ fl (omega (arith, l.invariant.0))
           (joint_held (plain c.args.t.now) _ c.args.k _ _ _ c.requires.0 (plain l.t) l.v _ _ _ _
-          (filling_ext (plain c.args.t.now) c.args.k _ c.requires.0.holds c.requires.2 (plain l.t) l.v l.goes l.adds fl) c.arm_in-a.ensures c.arm_in-b.ensures)
-          c.branch_result.ensures.0 c.in-Some.is,
-      subst (Still _ _ _) c.in-Some.is c.branch_result.ensures.1,
+          (filling_ext (plain c.args.t.now) c.args.k _ c.requires.0.holds c.requires.2 (plain l.t) l.v l.arms fl) c.arm_in-a.ensures c.arm_in-b.ensures)
+          c.branch_result.ensures.0 c.in_ok-c.was,
+      subst (Still _ _ _) c.in_ok-c.was c.branch_result.ensures.1,
     )
 
 pub fill_branches-returns : goal.fill_branches-returns
@@ -171,54 +168,54 @@ rest_result-overflow_add-tag t c =
     let hk = still_left _ _ _ _ _ _ c.requires.0 c.if-x-y-eq0.false in
     omega (arith, c.requires.0.holds.laid.laid.few)
 
-pub rest_result-recall_in-memo-requires : goal.rest_result-recall_in-memo-requires
-rest_result-recall_in-memo-requires t c = c.requires.1.room
+pub rest_result-recall_in-requires : goal.rest_result-recall_in-requires
+rest_result-recall_in-requires t c = c.requires.1.room
 
-pub rest_result-returns-in-Known : goal.rest_result-returns-in-Known
-rest_result-returns-in-Known t c =
-    let h = noted_hit c.args.t.now c.args.s.now _ _ _ _ refl c.requires.1 c.recall_in-memo.ensures c.in-Known.is
+pub rest_result-returns-in-Some : goal.rest_result-returns-in-Some
+rest_result-returns-in-Some t c =
+    let h = noted_hit c.args.t.now c.args.s.now _ _ _ _ refl c.requires.1 c.recall_in.ensures c.in-Some.is
     (omega arith) in
     (recalled_result _ _ c.args.k _ _ _ c.requires.0 refl h, c.requires.1)
 
 pub rest_result-fill_branches-requires : goal.rest_result-fill_branches-requires
 rest_result-fill_branches-requires t c =
     let hk = still_left _ _ _ _ _ _ c.requires.0 c.if-x-y-eq0.false in
-    (omega arith, (c.requires.0, c.requires.1, hk, empty, empty))
+    (omega arith, (c.requires.0, c.requires.1, hk))
+
+pub rest_result-returns-in_err-arms : goal.rest_result-returns-in_err-arms
+rest_result-returns-in_err-arms t c =
+    let hk = still_left _ _ _ _ _ _ c.requires.0 c.if-x-y-eq0.false in
+    rw c.from_residual.ensures (stop_result _ _ _ c.requires.0.holds hk _ (not_filled _ _ _ _ _ c.in_err-arms.was c.fill_branches.ensures.0), tt)
 
 pub rest_result-make_in-requires : goal.rest_result-make_in-requires
 rest_result-make_in-requires t c =
     let hk = still_left _ _ _ _ _ _ c.requires.0 c.if-x-y-eq0.false in
-    let fl = filled _ _ _ _ _ _ _ c.if-fill_branches.true c.fill_branches.ensures.0 in (
-      (subst (StillIf _ _ _) c.if-fill_branches.true c.fill_branches.ensures.1).room.roomy,
+    let fl = filled _ _ _ _ _ _ c.in_ok-arms.was c.fill_branches.ensures.0 in (
+      (subst (Still _ _ _) c.in_ok-arms.was c.fill_branches.ensures.1).room.roomy,
       fl.filled.grown.well,
       omega (arith, kept_features _ _ fl.filled.grown.kept),
-      fill_armed _ _ _ c.requires.0.holds hk _ _ _ fl c.requires.0.bounded.spread c.requires.0.narrow,
+      fill_armed _ _ _ c.requires.0.holds hk _ _ fl c.requires.0.bounded.spread c.requires.0.narrow,
     )
 
 pub rest_result-returns-in_err-b : goal.rest_result-returns-in_err-b
 rest_result-returns-in_err-b t c =
     let hk = still_left _ _ _ _ _ _ c.requires.0 c.if-x-y-eq0.false in
-    let fl = filled _ _ _ _ _ _ _ c.if-fill_branches.true c.fill_branches.ensures.0 in
-    rw c.from_residual.ensures (gives_none c.in_err-b.was (fill_make _ _ _ c.requires.0.holds hk _ _ _ _ c.make_in.result fl c.make_in.ensures.0), tt)
+    let fl = filled _ _ _ _ _ _ c.in_ok-arms.was c.fill_branches.ensures.0 in
+    rw c.from_residual-in_err-b.ensures (gives_none c.in_err-b.was (fill_make _ _ _ c.requires.0.holds hk _ _ _ c.make_in.result fl c.make_in.ensures.0), tt)
 
 pub rest_result-remember_in-requires : goal.rest_result-remember_in-requires
 rest_result-remember_in-requires t c =
-    let r = (subst (StillIf _ _ _) c.if-fill_branches.true c.fill_branches.ensures.1).room in
+    let r = (subst (Still _ _ _) c.in_ok-arms.was c.fill_branches.ensures.1).room in
     (grown_windowed _ _ c.make_in.ensures.0.grown.kept c.make_in.ensures.1 r, omega arith)
-
-pub rest_result-returns-then-fill_branches : goal.rest_result-returns-then-fill_branches
-rest_result-returns-then-fill_branches t c =
-    let hk = still_left _ _ _ _ _ _ c.requires.0 c.if-x-y-eq0.false in
-    let fl = filled _ _ _ _ _ _ _ c.if-fill_branches.true c.fill_branches.ensures.0 in
-    let m = c.make_in in
-    let re = gives_is c.in_ok-b.was (fill_make _ _ _ c.requires.0.holds hk _ _ _ _ m.result fl m.ensures.0) in (
-      rw c.remember_in.ensures.0 re,
-      noted_result cost_table (right_more c.args.o) fl.filled.grown.well m.ensures.0.grown (make_grows _ _ _) m.ensures.1
-          (subst (StillIf _ _ _) c.if-fill_branches.true c.fill_branches.ensures.1) refl c.remember_in.ensures
-          (right_here _ _ c.args.k _ _ _ refl (result_recalled _ _ _ c.args.k _ _ c.args.d _ c.requires.0 re)),
-    )
 
 pub rest_result-returns : goal.rest_result-returns
 rest_result-returns t c =
     let hk = still_left _ _ _ _ _ _ c.requires.0 c.if-x-y-eq0.false in
-    (stop_result _ _ _ c.requires.0.holds hk _ (not_filled _ _ _ _ _ _ _ c.if-fill_branches.false c.fill_branches.ensures.0), tt)
+    let fl = filled _ _ _ _ _ _ c.in_ok-arms.was c.fill_branches.ensures.0 in
+    let m = c.make_in in
+    let re = gives_is c.in_ok-b.was (fill_make _ _ _ c.requires.0.holds hk _ _ _ m.result fl m.ensures.0) in (
+      rw c.remember_in.ensures.0 re,
+      noted_result cost_table (right_more c.args.o) fl.filled.grown.well m.ensures.0.grown (make_grows _ _ _) m.ensures.1
+          (subst (Still _ _ _) c.in_ok-arms.was c.fill_branches.ensures.1) refl c.remember_in.ensures
+          (right_here _ _ c.args.k _ _ _ refl (result_recalled _ _ _ c.args.k _ _ c.args.d _ c.requires.0 re)),
+    )

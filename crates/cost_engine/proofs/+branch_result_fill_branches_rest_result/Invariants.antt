@@ -22,4 +22,4 @@ decreases-branch_result l = 3 * (features (plain l.t.now) - l.k) + 1
 abbrev pub invariant-fill_branches-loop-v : goal.invariant-fill_branches-loop-v
 invariant-fill_branches-loop-v l =
     (l.m ≡ size (plain l.initial.t) l.k) × Filling (plain l.initial.t) (plain l.t) l.k
-    (joint_from l.o (nodes (plain l.initial.t)) l.k (target l.x) (target l.y) (int l.d)) l.v l.goes l.adds × Noted l.t l.o l.s
+    (joint_from l.o (nodes (plain l.initial.t)) l.k (target l.x) (target l.y) (int l.d)) l.v l.arms × Noted l.t l.o l.s

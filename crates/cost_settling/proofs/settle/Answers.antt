@@ -2,7 +2,7 @@
 use Rattle.std.proofs.Common.{Option}
 use Rattle.cost_settling.proofs.Settling.{settled_none, settled_is}
 use Rattle.cost_settling.specs.Settling.{Asks}
-use Rattle.cost_nodes.specs.declared.Arm.{Arm}
+use Rattle.cost_words.specs.declared.Arm.{Arm}
 use mathlib.Core.Path.{subst}
 use Rattle.cost_settling.proofs.settle.Goals as goal
 

@@ -1,5 +1,5 @@
 -- `cost_sound::range::pairs_ok` meets its contract: what is kept for the nodes passed is their own. Assumes nothing.
-use Rattle.std.proofs.Common.{◌≡◌, Bool, ◌-◌, ◌≤◌}
+use Rattle.std.proofs.Common.{◌≡◌, Bool}
 use Rattle.theory_costs.specs.Extremes.{Passed}
 use Rattle.promises.specs.Words.{count}
 use Rattle.promises.specs.CostWords.{cost_node_list as nodes}
@@ -7,7 +7,4 @@ use Rattle.promises.specs.CostSound.{side_of, kept}
 use Rattle.cost_sound.proofs.range.pairs_ok.Given as goal
 
 abbrev pub invariant-loop-i : goal.invariant-loop-i
-invariant-loop-i l = (l.n ≡ count l.t) × (l.i ≤ l.n) × ((up : Bool) → Passed (side_of up) (nodes l.t) l.i (kept up l.t))
-
-abbrev pub decreases-loop-i : goal.decreases-loop-i
-decreases-loop-i l = l.n - l.i
+invariant-loop-i l = (l.n ≡ count l.t) × ((up : Bool) → Passed (side_of up) (nodes l.t) l.i (kept up l.t))

@@ -1,5 +1,5 @@
 -- `cost_words::sides::kept_span` meets its contract: 0 for the end, the spare words for a node. Assumes nothing.
-use Rattle.std.proofs.Common.{arith}
+use Rattle.std.proofs.Common.{arith, refl, ◌-◌}
 use Rattle.cost_words.proofs.Keeping.{keeps_end, keeps_node}
 use Rattle.cost_words.proofs.sides.kept_span.Goals as goal
 
@@ -7,6 +7,4 @@ pub returns-then-x-eq0 : goal.returns-then-x-eq0
 returns-then-x-eq0 c = let a = c.args in keeps_end a.t.now a.x c.if-x-eq0.true
 
 pub returns : goal.returns
-returns c =
-    let a = c.args in keeps_node a.t.now a.x c.wide-i.result _ _ (omega arith)
-    c.wide-i.ensures.0 c.record_word.ensures c.record_word-2.ensures
+returns c = let a = c.args in keeps_node a.t.now a.x (a.x - 1) _ _ (omega arith) refl c.record_word.ensures c.record_word-2.ensures

@@ -1,35 +1,25 @@
 -- `cost_words::sides::sides_of` meets its contract: the furthest of the branches passed, on each side. Assumes nothing.
-use Rattle.std.proofs.Common.{◌<◌, arith}
+use Rattle.std.proofs.Common.{arith}
 use Rattle.cost_words.proofs.Keeping.{side_one, side_more, side_lost, side_all}
 use Rattle.cost_words.proofs.sides.sides_of.Goals as goal
 
-pub arm_span-best-requires : goal.arm_span-best-requires
-arm_span-best-requires c = let p = c.requires in (p, omega (arith, p.some))
+pub arm_span-requires : goal.arm_span-requires
+arm_span-requires c = let p = c.requires in (p, omega (arith, p.some))
 
-pub returns-then-best-eq0 : goal.returns-then-best-eq0
-returns-then-best-eq0 c = side_lost c.args.t.now c.args.list c.args.m 0 _ _ (omega (arith, c.requires.some)) c.if-best-eq0.true c.arm_span-best.ensures
+pub returns-in_err-best : goal.returns-in_err-best
+returns-in_err-best c = rw c.from_residual.ensures (side_lost c.args.t.now c.args.list c.args.m 0 (omega (arith, c.requires.some)) c.in_err-best.ensures)
 
 pub loop-v-init : goal.loop-v-init
-loop-v-init c =
-    let z : 0 < c.arm_span-best.result.low = omega (arith, c.if-best-eq0.false) in
-    (omega arith, c.requires.some, z, side_one c.args.t.now c.args.list _ _ z c.arm_span-best.ensures)
+loop-v-init c = side_one c.args.t.now c.args.list _ c.in_ok-best.ensures
 
-pub arm_span-x-requires : goal.arm_span-x-requires
-arm_span-x-requires c = (c.requires, omega arith)
+pub arm_span-requires-in-loop-v : goal.arm_span-requires-in-loop-v
+arm_span-requires-in-loop-v c = (c.requires, omega arith)
 
-pub returns-then-x-eq0 : goal.returns-then-x-eq0
-returns-then-x-eq0 c = let a = c.args in side_lost a.t.now a.list a.m c.loop-v.v _ _ (omega arith) c.if-x-eq0.true c.arm_span-x.ensures
+pub returns-in_err-x : goal.returns-in_err-x
+returns-in_err-x c = rw c.from_residual-in_err-x.ensures (side_lost c.args.t.now c.args.list c.args.m c.loop-v.v (omega arith) c.in_err-x.ensures)
 
 pub loop-v-preserved : goal.loop-v-preserved
-loop-v-preserved c =
-    let a = c.args in let l = c.loop-v in let z : 0 < c.arm_span-x.result.low = omega (arith, c.if-x-eq0.false) in (
-      omega arith,
-      omega arith,
-      c.wider-best.ensures.some l.invariant.2 z,
-      side_more a.t.now a.list l.v l.best.low l.best.high
-          c.arm_span-x.result.low c.arm_span-x.result.high c.wider-best.result.low c.wider-best.result.high (omega arith)
-          l.invariant.3 z c.arm_span-x.ensures c.wider-best.ensures,
-    )
+loop-v-preserved c = side_more c.args.t.now c.args.list c.loop-v.v _ _ _ (omega arith) c.loop-v.invariant c.in_ok-x.ensures c.wider-best.ensures
 
 pub returns : goal.returns
-returns c = let a = c.args in let l = c.loop-v in side_all a.t.now a.list a.m l.v l.best.low l.best.high (omega arith) l.invariant.2 l.invariant.3
+returns c = side_all c.args.t.now c.args.list c.args.m c.loop-v.v c.loop-v.best (omega (arith, c.requires.some)) c.loop-v.invariant

@@ -6,8 +6,5 @@ use Rattle.cost_words.proofs.sums.sum_or_lost.Goals as goal
 pub returns-then-s-lt2294967296 : goal.returns-then-s-lt2294967296
 returns-then-s-lt2294967296 c = let a = c.args in sum_lost a.a a.b (λ p q. omega arith)
 
-pub returns-then-s-gt6294967296 : goal.returns-then-s-gt6294967296
-returns-then-s-gt6294967296 c = let a = c.args in sum_lost a.a a.b (λ p q. omega arith)
-
 pub returns : goal.returns
-returns c = let a = c.args in sum_stands a.a a.b _ (omega arith) (omega arith)
+returns c = let a = c.args in sum_stands a.a a.b _ (omega arith)
