@@ -7,8 +7,8 @@ use native.Mathlib.Omega.{arith}
 use lib.IntN.{ℤ}
 use Rattle.theory.specs.Functions.{Agree}
 use Rattle.theory.specs.Costs.{Cost}
-use Rattle.settings.specs.declared.refusals.Outcome.{Outcome}
-use Rattle.settings.specs.declared.refusals.Outcome.TheVariants.{Taken}
+use Rattle.settings.specs.Refusals.{Outcome}
+use Rattle.settings.specs.Refusals.{Taken}
 use Rattle.promises.specs.Deed.{Deed, Meets}
 use Rattle.promises.specs.Table.{puts, state_of, table}
 use Rattle.promises.specs.CostDeeds as D

@@ -13,8 +13,8 @@ use Rattle.theory.proofs.Ranges.{features_decided}
 use Rattle.theory.proofs.Rules.{numbers}
 use Rattle.settings.specs.Refusals.{Ends}
 use Rattle.settings.specs.declared.refusals.Refusal.TheVariants.{Damaged, BadPlace, BadArgument}
-use Rattle.settings.specs.declared.refusals.Outcome.{Outcome}
-use Rattle.settings.specs.declared.refusals.Outcome.TheVariants.{Taken}
+use Rattle.settings.specs.Refusals.{Outcome}
+use Rattle.settings.specs.Refusals.{Taken}
 use Rattle.table_words.proofs.Tab.{tab_ext, occurs_tab}
 use Rattle.rule_operators.specs.Forgetting.{Left}
 use Rattle.rule_operators.proofs.Forgetting.{forgotten_left, forgotten_largest, forgotten_swap}

@@ -6,7 +6,7 @@ use native.Mathlib.Omega.{arith}
 use lib.IntN.{ℤ, ◌+ℤ◌, ◌-ℤ◌}
 use Rattle.theory.specs.Functions.{Agree, Amount}
 use Rattle.theory.specs.Costs.{costs, Cost, amount}
-use Rattle.settings.specs.declared.refusals.Outcome.TheVariants.{Taken}
+use Rattle.settings.specs.Refusals.{Taken}
 use Rattle.promises.specs.CostOperations as O
 use Rattle.theory_costs.proofs.Relative.{offs}
 use Rattle.promises.specs.State.{on}

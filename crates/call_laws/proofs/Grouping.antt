@@ -11,8 +11,8 @@ use Rattle.theory.specs.Costs.{Cost, amount}
 use Rattle.theory.proofs.Ranges.{zeros_valid}
 use Rattle.settings.specs.Refusals.{Ends}
 use Rattle.settings.specs.declared.refusals.Refusal.TheVariants.{Range}
-use Rattle.settings.specs.declared.refusals.Outcome.{Outcome}
-use Rattle.settings.specs.declared.refusals.Outcome.TheVariants.{Taken, Refused}
+use Rattle.settings.specs.Refusals.{Outcome}
+use Rattle.settings.specs.Refusals.{Taken, Refused}
 use Rattle.promises.specs.Words.{sizes}
 use Rattle.promises.specs.Integers.{Fit}
 use Rattle.promises.specs.CostOperations.{constant, sum}

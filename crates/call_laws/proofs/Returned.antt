@@ -2,7 +2,7 @@
 use mathlib.Core.Path.{sym, subst}
 use mathlib.Core.List.{[]}
 use Rattle.settings.specs.Refusals.{outcome_number}
-use Rattle.settings.specs.declared.refusals.Outcome.{Outcome}
+use Rattle.settings.specs.Refusals.{Outcome}
 use Rattle.settings.proofs.Endings.{one_number}
 use Rattle.promises.specs.ForC.{heard, Hears, tell_ending}
 

@@ -9,8 +9,8 @@ use lib.Seq.{get_or-set_same, get_or-set_other}
 use Rattle.theory.specs.Kind.{Kind}
 use Rattle.theory.specs.Settings.{Valid}
 use Rattle.theory.specs.Functions.{Agree, Amount, Fun, zero_fun}
-use Rattle.settings.specs.declared.refusals.Outcome.{Outcome}
-use Rattle.settings.specs.declared.refusals.Outcome.TheVariants.{Taken}
+use Rattle.settings.specs.Refusals.{Outcome}
+use Rattle.settings.specs.Refusals.{Taken}
 use Rattle.promises.specs.Words.{sizes}
 use Rattle.promises.specs.State.{put, Places}
 use Rattle.promises.specs.Deed.{Answer, Deed, Meets}

@@ -1,8 +1,8 @@
 -- FORMULAS OF COSTS, and the places of a cost table for which taken calls have worked them out. Assumes nothing.
 use Rattle.std.specs.Prelude.{◌≡◌, List, ℕ, ℤ}
 use Rattle.theory.specs.Costs.{Cost}
-use Rattle.settings.specs.declared.refusals.Outcome.{Outcome}
-use Rattle.settings.specs.declared.refusals.Outcome.TheVariants.{Taken}
+use Rattle.settings.specs.Refusals.{Outcome}
+use Rattle.settings.specs.Refusals.{Taken}
 use Rattle.promises.specs.CostOperations as O
 use Rattle.promises.specs.Deed.{Meets}
 use Rattle.promises.specs.CostDeeds as D

@@ -1,6 +1,7 @@
 -- A RESULT ALWAYS EXISTS: on any functions every call has one, so the run on functions goes on with any calls. Assumes nothing.
 use mathlib.Core.Path.{◌≡◌, refl, sym, ap, subst, ◌∙◌}
 use mathlib.Core.Bool.{Bool, true, false}
+use Rattle.std.specs.Prelude.{Option as Maybe, Some, None, Result, Ok, Err}
 use mathlib.Core.Logic.{◌⊎◌, inl, inr, ⊎_elim}
 use mathlib.Core.Option.{Option, some, none}
 use mathlib.Core.List.{List, ◌++◌}
@@ -9,7 +10,7 @@ use native.Mathlib.Decide.{ℕ_discrete, dec_lt, dec_le}
 use lib.IntN.{ℤ, pos, ◌+ℤ◌, ◌-ℤ◌}
 use lib.ListN.{length, get_or, drop}
 use Rattle.theory.specs.Kind.{Kind}
-use Rattle.theory.specs.Settings.{Valid, zeros}
+use Rattle.theory.specs.Settings.{Valid}
 use Rattle.theory.specs.Functions.{Amount, zero_fun}
 use Rattle.theory.specs.Deciding.{list_discrete}
 use Rattle.theory.specs.Comparing.{agree_decided}
@@ -18,18 +19,18 @@ use Rattle.theory.specs.First.{FirstFrom, NoneFrom}
 use Rattle.theory.specs.Tally.{tally}
 use Rattle.theory.specs.Questions.{asked}
 use Rattle.theory.specs.Asked.{Asked}
-use Rattle.theory.specs.Rules.{Rule, says}
-use Rattle.theory.specs.Costs.{Cost, amount}
+use Rattle.theory.specs.Rules.{rules, Rule, says}
+use Rattle.theory.specs.Costs.{costs, Cost, amount}
 use Rattle.theory.proofs.Asked.{asked_counts}
 use Rattle.theory.proofs.Counting.{tally_counts}
 use Rattle.theory.proofs.First.{first_or_none}
 use Rattle.theory.proofs.Ranges.{valid_decided}
 use Rattle.settings.specs.Tells.{Tells}
 use Rattle.settings.specs.Step.{setting_of, values_of, next_of, Gives}
-use Rattle.settings.specs.Refusals.{Cases, Ends, ◌when◌else◌, taken}
+use Rattle.settings.specs.Refusals.{Cases, Ends, ending_of, ◌when◌else◌, taken}
 use Rattle.settings.specs.declared.refusals.Refusal.{Refusal}
-use Rattle.settings.specs.declared.refusals.Outcome.{Outcome}
-use Rattle.settings.specs.declared.refusals.Outcome.TheVariants.{Taken, Refused}
+use Rattle.settings.specs.Refusals.{Outcome}
+use Rattle.settings.specs.Refusals.{Taken, Refused}
 use Rattle.settings.specs.declared.steps.Setting.{Setting}
 use Rattle.settings.proofs.Endings.{not_taken}
 use Rattle.promises.specs.declared.Found.{Found}
@@ -46,7 +47,7 @@ use Rattle.promises.specs.TableDeeds.{compared, tallied, open_table, constant, c
 use Rattle.promises.specs.RuleDeeds as RD
 use Rattle.promises.specs.RuleDeeds.{ruled}
 use Rattle.promises.specs.CostDeeds.{costed, join}
-use Rattle.promises.specs.BothDeeds.{both}
+use Rattle.promises.specs.BothDeeds.{both, found}
 use Rattle.promises.specs.SheetDeeds.{filed, number_in}
 use Rattle.table_calls.proofs.Like.{clear, rest}
 use Rattle.theory_costs.specs.Spots as Spots
@@ -57,7 +58,6 @@ use Rattle.demands.specs.Does.{Does}
 use Rattle.demands.specs.RuleCalls as R
 use Rattle.demands.specs.CostCalls as C
 use Rattle.demands.specs.BothCalls as B
-use Rattle.demands.specs.ByteDeeds.{stepped}
 use Rattle.demands.specs.ByteCalls as Y
 use Rattle.demands.proofs.Firm.{sure, not_decided}
 use Rattle.demands.proofs.Searching.{or_decided, and_decided, first_from_decided, places_decided, outnumber_decided, priced_decided, reaches_decided, leaves_decided, openable_decided, inside_decided, rows_decided}
@@ -87,10 +87,10 @@ module _ {L : Loan} where
   exists {d} a z = let q = ends_so (d.cases z) (a.sure_of z) in go q.0 q.1
     where
       go : (o : Outcome) → Ends (d.cases z) o → (r : d.Result) × Does d z r
-      go Taken e =
+      go (Ok u) e =
           let g = a.given z e in
           (g.0, record { ends = subst (Ends (d.cases z)) (sym g.1) e; gives = λ t. g.2; refused = λ x t. not_taken (sym t ∙ g.1) })
-      go (Refused x) e = (
+      go (Err x) e = (
         d.refusal x,
         record {
           ends = subst (Ends (d.cases z)) (sym (a.refuses x)) e;
@@ -103,10 +103,18 @@ module _ {L : Loan} where
   brief : {l : L.Plain → Cases} {e : L.Plain → L.Effect} → ((z : L.Plain) → Sure (l z)) → Always (plain {L = L} l e)
   brief s = record { sure_of = s; given = λ z e. (Taken, refl, tt); refuses = λ x. refl }
 
--- every ending and every value has its result
+-- every ending has its result, and every value where it is taken
 record Full {A : Type 0} (R : Answer A) : Type 0 where
   ended : (o : Outcome) (a : A) → R.ending (R.made o a) ≡ o
-  valued : (o : Outcome) (a : A) → R.value (R.made o a) ≡ a
+  valued : (a : A) → R.value (R.made Taken a) ≡ a
+
+rule_looks : (o : Outcome) (a : Amount rules × ℕ) → ruled.looked.ending (ruled.looked.made o a) ≡ o
+rule_looks (Ok u) a = refl
+rule_looks (Err x) a = refl
+
+cost_looks : (o : Outcome) (a : Amount costs × ℕ) → costed.looked.ending (costed.looked.made o a) ≡ o
+cost_looks (Ok u) a = refl
+cost_looks (Err x) a = refl
 
 -- ---- the calls that every table has
 told_decided : {P : Type 0} → Dec P → (b : Bool) × Tells b P
@@ -129,7 +137,7 @@ module _ {K : Kind} (T : Tabled K) where
         sure_of = λ z. (not_decided (places_decided T.places _), λ k. (not_decided (valid_decided z.list s), λ i. tt));
         given = λ z e.
             let a : Amount K × ℕ = (on z p s, asked z.list (on z p) s) in
-            let v = f.valued Taken a in
+            let v = f.valued a in
             (T.looked.made Taken a, f.ended Taken a, (λ i. (v i).0, subst (λ (b : Amount K × ℕ). Asked z.list (on z p) s b.1) (sym v) (asked_counts z.list (on z p) s)));
         refuses = λ y. f.ended (Refused y) (zero_fun s, 0);
       }
@@ -178,7 +186,7 @@ rule_has (R.restrict_call p q f x) = brief (λ z. (not_decided (places_decided 3
 rule_has (R.forget_call p q f) = brief (λ z. (not_decided (places_decided 32 _), λ n. (dec_le (length z.list) f, λ k. (outnumber_decided z _, λ i. tt))))
 rule_has (R.read_call p s) =
     brief (λ z. (not_decided (places_decided 32 _), λ n. (newer_decided s, λ k. (not_decided (good_decided s), λ i. (not_decided (list_discrete ℕ_discrete (sheet_sizes s) z.list), λ j. (outnumber_decided z _, λ h. tt))))))
-rule_has (R.look_up_call p s) = look_up_has ruled (record { ended = λ o n. refl; valued = λ o n. refl }) p s
+rule_has (R.look_up_call p s) = look_up_has ruled (record { ended = rule_looks; valued = λ n. refl }) p s
 rule_has (R.same_call p q) = same_has ruled p q
 rule_has R.tally_call = tally_has ruled
 rule_has (R.count_call p x) =
@@ -211,9 +219,13 @@ cost_has (C.subtract_call p a b) = join_has ◌-ℤ◌ p a b
 cost_has (C.smaller_call p a b) = join_has smaller_of p a b
 cost_has (C.larger_call p a b) = join_has larger_of p a b
 cost_has (C.scale_call p a c) = brief (λ z. (not_decided (places_decided 16 _), λ n. (not_decided (fit_decided cost_most c), λ k. (leaves_decided z.list _, λ i. (outnumber_decided z _, λ j. tt)))))
-cost_has (C.look_up_call p s) = look_up_has costed (record { ended = λ o x. refl; valued = λ o x. refl }) p s
+cost_has (C.look_up_call p s) = look_up_has costed (record { ended = cost_looks; valued = λ x. refl }) p s
 cost_has (C.same_call p q) = same_has costed p q
 cost_has C.tally_call = tally_has costed
+
+-- a taken lowest
+abbrev Given : List ℕ → Cost → Rule → Type 0
+Given S f g = (r : Result Found Refusal) × (ending_of r ≡ Taken) × ((u : List ℕ) × ((found.value r).1 ≡ setting_of u) × Lowest S f g (found.value r).0 u)
 
 -- one place or list of each table is none
 both_decided : (l m : List ℕ) → Dec ((Places 32 l × Places 16 m) → ⊥)
@@ -232,20 +244,20 @@ both_has (B.lowest_call a q) =
       refuses = λ y. refl;
     }
   where
-    spot : (S : List ℕ) (f : Cost) (g : Rule) → (NoneMarked S g → ⊥) → (r : Found) × (r.outcome ≡ Taken) × ((u : List ℕ) × (r.setting ≡ setting_of u) × Lowest S f g r.cost u)
+    spot : (S : List ℕ) (f : Cost) (g : Rule) → (NoneMarked S g → ⊥) → Given S f g
     spot S f g n = go (Spots.lowest S f g) (lowest_right S f g)
       where
-        go : (x : Option Spots.Spot) → Says S f g x → (r : Found) × (r.outcome ≡ Taken) × ((u : List ℕ) × (r.setting ≡ setting_of u) × Lowest S f g r.cost u)
+        go : (x : Option Spots.Spot) → Says S f g x → Given S f g
         go none m = absurd (n m)
-        go (some x) l = (record { outcome = Taken; cost = x.cost; setting = setting_of x.setting }, refl, (x.setting, refl, l))
+        go (some x) l = (Ok (record { cost = x.cost; setting = setting_of x.setting }), refl, (x.setting, refl, l))
 
 byte_has : (c : Y.Call) → Always (Y.deed c)
 byte_has (Y.step_call S s) =
-    record { sure_of = λ z. (not_decided (inside_decided S s), λ n. tt); given = λ z e. let a = last_or (next_of S (values_of s)) in (stepped.made Taken a.0, refl, a.1); refuses = λ y. refl }
+    record { sure_of = λ z. (not_decided (inside_decided S s), λ n. tt); given = λ z e. let a = last_or (next_of S (values_of s)) in (Ok a.0, refl, a.1); refuses = λ y. refl }
   where
-    last_or : (t : Option (List ℕ)) → (a : Bool × Setting) × Gives S t (stepped.made Taken a)
-    last_or (some t) = ((false, setting_of t), (refl, refl))
-    last_or none = ((true, setting_of (zeros S)), (refl, refl))
+    last_or : (t : Option (List ℕ)) → (a : Maybe Setting) × Gives S t a
+    last_or (some t) = (Some (setting_of t), refl)
+    last_or none = (None, refl)
 byte_has (Y.look_up_call s t) =
     record {
       sure_of = λ z. (newer_decided s, λ n. (not_decided (good_decided s), λ k. (not_decided (valid_decided (sheet_sizes s) t), λ i. tt)));

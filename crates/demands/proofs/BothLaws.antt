@@ -21,7 +21,7 @@ use Rattle.promises.specs.Lowest.{Lowest, NoneMarked}
 use Rattle.promises.specs.State.{State, on, room_cases}
 use Rattle.promises.specs.RuleDeeds.{ruled}
 use Rattle.promises.specs.CostDeeds.{costed, range_cases}
-use Rattle.promises.specs.BothDeeds.{both_front, choose, less_than, lowest}
+use Rattle.promises.specs.BothDeeds.{both_front, found, choose, less_than, lowest}
 use Rattle.table_calls.proofs.Like.{Like, alike, more, keep, clear, rest}
 use Rattle.theory_costs.proofs.Lowest.{lowest_unique}
 use Rattle.demands.specs.Agrees.{Agrees}
@@ -32,7 +32,7 @@ use Rattle.demands.proofs.Firm.{neg, sure, rests, leaves, none_marked}
 use Rattle.demands.proofs.Matching.{room_like, as_framed}
 use Rattle.demands.proofs.Effects.{Effects, kept, replaced, on_two}
 use Rattle.demands.proofs.Frame.{Frame, and_frame}
-use Rattle.demands.proofs.Lawful.{Lawful}
+use Rattle.demands.proofs.Lawful.{Lawful, answer_one}
 use Rattle.demands.proofs.Lifting.{first_lawful, second_lawful}
 use Rattle.demands.proofs.RuleLaws as R
 use Rattle.demands.proofs.CostLaws as C
@@ -121,7 +121,7 @@ lowest_lawful i q =
       gives_like = λ x y a e r g.
           (g.0, g.1, lowest_like a.1.lists (a.1.functions.each i) (rules_agree a.0 a.1 (sure (list_discrete ℕ_discrete x.0.list x.1.list) (clear (rest e))) q) g.2);
       one = λ x r k a b g h. let u = lowest_unique g.2 h.2 in
-          λ j. record { outcome = (a ∙ sym b) j; cost = u.0 j; setting = (g.1 ∙ ap setting_of u.1 ∙ sym h.1) j };
+          answer_one found r k (a ∙ sym b) (λ j. (u.0 j, (g.1 ∙ ap setting_of u.1 ∙ sym h.1) j));
     }
 
 -- EVERY CALL is lawful

@@ -1,20 +1,21 @@
 -- The laws of the calls on bytes alone, and that the stepper meets its deed. Assumes nothing.
-use mathlib.Core.Path.{◌≡◌, refl, sym, subst, ◌∙◌}
+use mathlib.Core.Path.{◌≡◌, refl, sym, ◌∙◌}
 use mathlib.Core.Option.{Option, some, none}
+use Rattle.std.specs.Prelude.{Option as Maybe, Result, Ok, Err}
+use Rattle.settings.specs.declared.refusals.Refusal.{Refusal}
 use mathlib.Core.List.{List}
 use Prim.Native.Nat.{ℕ}
 use native.Mathlib.Omega.{arith}
 use Rattle.theory.proofs.Asked.{asked_one}
 use Rattle.settings.specs.Step.{values_of, next_of, Gives, Steps}
-use Rattle.settings.specs.declared.refusals.Outcome.TheVariants.{Taken}
 use Rattle.settings.specs.declared.steps.Setting.{Setting}
-use Rattle.settings.specs.declared.steps.Stepped.{Stepped}
 use Rattle.settings.proofs.Endings.{pass}
 use Rattle.promises.specs.Sheet.{sheet_sizes, sheet_rule}
 use Rattle.promises.specs.Deed.{Meets}
 use Rattle.promises.specs.RuleDeeds.{looked}
 use Rattle.promises.specs.SheetDeeds.{look_up_in, filled, look_up_all_in}
 use Rattle.table_calls.proofs.Like.{like_refl}
+use Rattle.table_calls.proofs.Meeting.{refuses, takes}
 use Rattle.demands.specs.ByteDeeds.{stepped, step_on}
 use Rattle.demands.specs.ByteCalls.{Call, step_call, look_up_call, look_up_all_call, deed}
 use Rattle.demands.proofs.Firm.{neg, newer}
@@ -22,9 +23,9 @@ use Rattle.demands.proofs.Effects.{on_none}
 use Rattle.demands.proofs.Lawful.{Lawful, answer_one}
 
 -- what a taken step gives is one thing
-gives_one : (S : List ℕ) (w : Option (List ℕ)) (r q : Stepped) → Gives S w r → Gives S w q → (r.last ≡ q.last) × (r.setting ≡ q.setting)
-gives_one S (some t) r q a b = (a.0 ∙ sym b.0, a.1 ∙ sym b.1)
-gives_one S none r q a b = (a.0 ∙ sym b.0, a.1 ∙ sym b.1)
+gives_one : (S : List ℕ) (w : Option (List ℕ)) (r q : Maybe Setting) → Gives S w r → Gives S w q → r ≡ q
+gives_one S (some t) r q a b = a ∙ sym b
+gives_one S none r q a b = a ∙ sym b
 
 step_lawful : (S : List ℕ) (s : Setting) → Lawful on_none (step_on S s)
 step_lawful S s =
@@ -34,21 +35,13 @@ step_lawful S s =
       cases_like = λ z y a. like_refl ((step_on S s).cases tt);
       writes_like = λ z y a e. tt;
       gives_like = λ z y a e r g. g;
-      one = λ z r q a b g h.
-          let u = gives_one S (next_of S (values_of s)) (stepped.made Taken (stepped.value r)) (stepped.made Taken (stepped.value q)) g h in
-          answer_one stepped r q (a ∙ sym b) (λ i. (u.0 i, u.1 i));
+      one = λ z r q a b g h. answer_one stepped r q (a ∙ sym b) (gives_one S (next_of S (values_of s)) (stepped.value r) (stepped.value q) g h);
     }
 
 -- THEOREM: the stepper's promise is that of its deed
-pub step_meets : (S : List ℕ) (s : Setting) (r : Stepped) → Steps S s r → Meets (step_on S s) tt tt r
-step_meets S s r a =
-    record {
-      ends = pass (λ n. n tt) a.ends;
-      leaves = λ e. tt;
-      gives = λ e. subst (Gives S (next_of S (values_of s))) (λ i. record { outcome = e i; last = r.last; setting = r.setting }) (a.gives e);
-      kept = λ x e. refl;
-      refused = λ x e i. record { outcome = e i; last = (a.refused x e).0 i; setting = (a.refused x e).1 i };
-    }
+pub step_meets : (S : List ℕ) (s : Setting) (r : Result (Maybe Setting) Refusal) → Steps S s r → Meets (step_on S s) tt tt r
+step_meets S s (Ok t) a = takes refl (pass (λ n. n tt) a.ends) tt a.gives
+step_meets S s (Err x) a = refuses refl refl (pass (λ n. n tt) a.ends)
 
 look_up_lawful : (s t : List ℕ) → Lawful on_none (look_up_in s t)
 look_up_lawful s t =
@@ -59,7 +52,7 @@ look_up_lawful s t =
       writes_like = λ z y a e. tt;
       gives_like = λ z y a e r g. g;
       one = λ z r q a b g h.
-          let n = asked_one (sheet_sizes s) (sheet_rule s) t r.asked q.asked g.1 h.1 in
+          let n = asked_one (sheet_sizes s) (sheet_rule s) t (looked.value r).1 (looked.value q).1 g.1 h.1 in
           answer_one looked r q (a ∙ sym b) (λ i. ((g.0 ∙ sym h.0) i, n i));
     }
 

@@ -5,8 +5,9 @@ use native.Mathlib.Omega.{arith}
 use Rattle.settings.specs.Refusals.{Cases, Ends, ◌when◌else◌, taken, Above, Ordered}
 use Rattle.settings.specs.declared.refusals.Refusal.{Refusal}
 use Rattle.settings.specs.declared.refusals.Refusal.TheVariants.{Damaged}
-use Rattle.settings.specs.declared.refusals.Outcome.{Outcome}
-use Rattle.settings.specs.declared.refusals.Outcome.TheVariants.{Taken, Refused}
+use Rattle.settings.specs.Refusals.{Outcome}
+use Rattle.std.specs.Prelude.{Ok, Err}
+use Rattle.settings.specs.Refusals.{Taken, Refused}
 use Rattle.settings.proofs.Endings.{ends_unique}
 use Rattle.promises.specs.Loan.{Loan}
 use Rattle.promises.specs.Deed.{Deed, refusals, Meets}
@@ -65,9 +66,9 @@ module _ {L : Loan} {G : Ground L} {E : Effects G} (F : Frame E) {d : Deed L} (l
     step_holds = go (d.ending r) refl
       where
         go : (o : Outcome) → d.ending r ≡ o → Holds G w' (left_by G o (d.writes z) z)
-        go Taken e = F.changed w w' z (d.writes (L.says w)) (d.writes z) h
+        go (Ok u) e = F.changed w w' z (d.writes (L.says w)) (d.writes z) h
             (F.same_whole d.needs (L.says w) (d.writes (L.says w)) (d.writes z) (l.writes_like (L.says w) z told (met e))) (m.leaves e)
-        go (Refused x) e = subst (λ (u : L.Words). Holds G u z) (sym (m.kept x e)) h
+        go (Err x) e = subst (λ (u : L.Words). Holds G u z) (sym (m.kept x e)) h
 
   -- two outcomes on the same words are one
   pub meets_one : {w a b : L.Words} {r q : d.Result} → Meets d w a r → Meets d w b q → (r ≡ q) × (a ≡ b)

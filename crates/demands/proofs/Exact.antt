@@ -5,8 +5,8 @@ use Prim.Native.Nat.{ℕ, ◌<◌}
 use native.Mathlib.Omega.{arith}
 use Rattle.settings.specs.Refusals.{number_of, outcome_number, Cases, taken, ◌when◌else◌, Ends, Applies, Above, Ordered}
 use Rattle.settings.specs.declared.refusals.Refusal.{Refusal}
-use Rattle.settings.specs.declared.refusals.Outcome.{Outcome}
-use Rattle.settings.specs.declared.refusals.Outcome.TheVariants.{Taken, Refused}
+use Rattle.settings.specs.Refusals.{Outcome}
+use Rattle.settings.specs.Refusals.{Taken, Refused}
 use Rattle.settings.proofs.Endings.{not_taken, not_refused, outcome_decided}
 use Rattle.demands.specs.Exact.{LowerNone, Exact}
 use Rattle.demands.proofs.Firm.{Firm}

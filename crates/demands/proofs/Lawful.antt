@@ -5,7 +5,7 @@ use Prim.Native.Nat.{ℕ}
 use Rattle.theory.specs.Kind.{Kind}
 use Rattle.theory.specs.Functions.{Fun}
 use Rattle.settings.specs.Refusals.{Cases, Ends, Above}
-use Rattle.settings.specs.declared.refusals.Outcome.TheVariants.{Taken}
+use Rattle.settings.specs.Refusals.{Taken}
 use Rattle.promises.specs.State.{State, state}
 use Rattle.promises.specs.Loan.{Loan}
 use Rattle.promises.specs.Table.{Ask, sound_table, Effect, Tabled, table}

@@ -11,8 +11,8 @@ use Rattle.theory.specs.Functions.{Agree, Amount, Fun, zero_fun}
 use Rattle.theory.specs.Rules.{rules}
 use Rattle.theory.specs.Costs.{costs}
 use Rattle.settings.specs.declared.refusals.Refusal.TheVariants.{Damaged, BadOpening}
-use Rattle.settings.specs.declared.refusals.Outcome.{Outcome}
-use Rattle.settings.specs.declared.refusals.Outcome.TheVariants.{Taken}
+use Rattle.settings.specs.Refusals.{Outcome}
+use Rattle.settings.specs.Refusals.{Taken}
 use Rattle.table_words.specs.Table.{Table}
 use Rattle.table_words.proofs.Tab.{length_tab, get_or_tab}
 use Rattle.promises.specs.Words.{sizes, bound}

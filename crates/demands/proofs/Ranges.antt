@@ -5,8 +5,8 @@ use Prim.Native.Nat.{ℕ, zero, suc}
 use native.Mathlib.Omega.{arith}
 use lib.IntN.{ℤ}
 use Rattle.settings.specs.declared.refusals.Refusal.TheVariants.{Damaged, BadPlace, Range}
-use Rattle.settings.specs.declared.refusals.Outcome.{Outcome}
-use Rattle.settings.specs.declared.refusals.Outcome.TheVariants.{Refused}
+use Rattle.settings.specs.Refusals.{Outcome}
+use Rattle.settings.specs.Refusals.{Refused}
 use Rattle.promises.specs.Words.{sizes}
 use Rattle.promises.specs.Integers.{Fit}
 use Rattle.promises.specs.CostOperations.{chosen_of, chosen}

@@ -20,7 +20,7 @@ use Rattle.theory.proofs.Ranges.{features_pos}
 use Rattle.theory.proofs.Tables.{table_wf, table_mean, room}
 use Rattle.settings.specs.Refusals.{Cases, ◌when◌else◌}
 use Rattle.settings.specs.declared.refusals.Refusal.TheVariants.{Damaged, BadPlace, NoRoom}
-use Rattle.settings.specs.declared.refusals.Outcome.{Outcome}
+use Rattle.settings.specs.Refusals.{Outcome}
 use Rattle.table_words.specs.Table.{Table}
 use Rattle.promises.specs.Words.{sizes}
 use Rattle.promises.specs.Deed.{Answer, refusals, Meets}

@@ -6,7 +6,7 @@ use Prim.Native.Nat.{ℕ}
 use lib.Dec.{T, eqb, eqb→eq, eqb_refl}
 use Rattle.settings.specs.Refusals.{number_of, Cases, taken, ◌when◌else◌, Applies}
 use Rattle.settings.specs.declared.refusals.Refusal.{Refusal}
-use Rattle.settings.specs.declared.refusals.Outcome.TheVariants.{Refused}
+use Rattle.settings.specs.Refusals.{Refused}
 use Rattle.settings.proofs.Endings.{one_number}
 
 -- P or R, or R alone

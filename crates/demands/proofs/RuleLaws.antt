@@ -21,8 +21,8 @@ use Rattle.settings.specs.declared.refusals.Refusal.TheVariants.{BadPlace, Newer
 use Rattle.table_words.proofs.Tab.{tab_ext}
 use Rattle.promises.specs.Operators.{pair_of, case_of, forgotten_of}
 use Rattle.promises.specs.State.{state}
-use Rattle.promises.specs.RuleDeeds.{looked, ruled, literal, case_rule, case, applied, apply, restrict, without, forget, count_with, next_with}
-use Rattle.promises.specs.SheetDeeds.{SheetFor, read_sheet, write_sheet}
+use Rattle.promises.specs.RuleDeeds.{looked, spelled, counted, met, ruled, literal, case_rule, case, applied, apply, restrict, without, forget, count_with, next_with}
+use Rattle.promises.specs.SheetDeeds.{SheetFor, filed, read_sheet, write_sheet}
 use Rattle.table_calls.proofs.Like.{alike, more, keep, clear, rest}
 use Rattle.rule_calls.proofs.Edge.{drawn}
 use Rattle.sheets.proofs.Edge.{one_sheet}
@@ -34,7 +34,7 @@ use Rattle.demands.proofs.Matching.{room_like, matches_sym}
 use Rattle.demands.proofs.Effects.{Effects, kept, replaced, on_table}
 use Rattle.demands.proofs.Frame.{Frame}
 use Rattle.demands.proofs.Table.{table_frame}
-use Rattle.demands.proofs.Lawful.{Lawful, steady_lawful, brief_lawful}
+use Rattle.demands.proofs.Lawful.{Lawful, answer_one, steady_lawful, brief_lawful}
 use Rattle.demands.proofs.TableLaws.{opening_lawful, constant_lawful, copy_lawful, look_up_lawful, same_lawful, tally_lawful}
 
 -- ---- the table
@@ -137,7 +137,7 @@ literal_lawful p f x =
       cases_like = λ cap m. keep BadPlace (λ n. keep BadArgument (λ k. room_like m (λ s v. refl)));
       writes_like = λ cap m e. replaced p (λ s v. refl);
       gives_like = λ cap m e r g. g;
-      one = λ z r q a b g h. λ i. record { outcome = (a ∙ sym b) i; size = (g ∙ sym h) i };
+      one = λ z r q a b g h. answer_one spelled r q (a ∙ sym b) (g ∙ sym h);
     })
 
 count_lawful : (p x : ℕ) → Lawful effects (count_with p x)
@@ -149,7 +149,7 @@ count_lawful p x =
       cases_like = λ cap m. keep BadPlace (λ n. keep BadArgument (λ k. alike));
       writes_like = λ cap m e. kept;
       gives_like = λ cap {S} {gs} {hs} m e r g. g ∙ count_agree S (get_or gs p zero_fun) (get_or hs p zero_fun) x (m.each p);
-      one = λ z r q a b g h. λ i. record { outcome = (a ∙ sym b) i; count = (g ∙ sym h) i };
+      one = λ z r q a b g h. answer_one counted r q (a ∙ sym b) (g ∙ sym h);
     })
 
 next_lawful : (p x : ℕ) (s : List ℕ) → Lawful effects (next_with p x s)
@@ -161,7 +161,7 @@ next_lawful p x s =
       cases_like = λ cap m. keep BadPlace (λ n. keep BadArgument (λ k. more None (none_agree (m.each p)) (none_agree ((matches_sym m).each p)) (λ i. alike)));
       writes_like = λ cap m e. kept;
       gives_like = λ cap m e r g. (g.0, g.1, first_agree (m.each p) g.2);
-      one = λ z r q a b g h. λ i. record { outcome = (a ∙ sym b) i; setting = (g.1 ∙ ap setting_of (first_unique g.2 h.2) ∙ sym h.1) i };
+      one = λ z r q a b g h. answer_one met r q (a ∙ sym b) (g.1 ∙ ap setting_of (first_unique g.2 h.2) ∙ sym h.1);
     })
 
 -- a sheet for a rule is one for every rule that agrees
@@ -179,7 +179,7 @@ write_lawful p out =
       gives_like = λ cap m e r g. (g.0, for_like (m.each p) g.1, g.2, g.3);
       one = λ z r q a b g h.
           let e = one_sheet g.1 h.1 in
-          λ i. (record { outcome = (a ∙ sym b) i; length = (g.2 ∙ ap length e ∙ sym h.2) i }, (g.3 ∙ ap (λ (s : List ℕ). s ++ drop (length s) out) e ∙ sym h.3) i);
+          answer_one filed r q (a ∙ sym b) (λ i. ((g.2 ∙ ap length e ∙ sym h.2) i, (g.3 ∙ ap (λ (s : List ℕ). s ++ drop (length s) out) e ∙ sym h.3) i));
     })
 
 -- EVERY CALL is lawful

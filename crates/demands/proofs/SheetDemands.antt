@@ -10,10 +10,10 @@ use Rattle.theory.specs.Deciding.{list_discrete}
 use Rattle.theory.specs.Functions.{Agree}
 use Rattle.theory.specs.Rules.{Rule}
 use Rattle.settings.specs.Refusals.{Ends}
-use Rattle.settings.specs.declared.refusals.Outcome.{Outcome}
-use Rattle.settings.specs.declared.refusals.Outcome.TheVariants.{Taken}
+use Rattle.settings.specs.Refusals.{Outcome}
+use Rattle.settings.specs.Refusals.{Taken}
 use Rattle.promises.specs.declared.Looked.{Looked}
-use Rattle.promises.specs.declared.Wrote.{Wrote}
+use Rattle.std.specs.Prelude.{Ok}
 use Rattle.promises.specs.Words.{sizes}
 use Rattle.promises.specs.Sheet.{sheet_sizes, sheet_rule, GoodSheet}
 use Rattle.promises.specs.State.{on}
@@ -35,11 +35,11 @@ take_front [] x = refl
 take_front (a ∷ s) x = ap (λ (l : List ℕ). a ∷ l) (take_front s x)
 
 -- what write wrote is the sheet of the place
-wrote_sheet : {p : ℕ} {w w' out : List ℕ} {r : Wrote × List ℕ} → Meets (write_sheet p out) w w' r → r.0.outcome ≡ Taken →
-    SheetFor (sizes w) (on (state_of ruled w) p) (length out) (take r.0.length r.1)
-wrote_sheet {p} {w} {out = out} {r = r} a e =
-    let g = a.gives e in
-    let front : take r.0.length r.1 ≡ g.0 = ap (λ (n : ℕ). take n r.1) g.2 ∙ ap (take (length g.0)) g.3 ∙ take_front g.0 (drop (length g.0) out) in
+wrote_sheet : {p n : ℕ} {w w' out out' : List ℕ} → Meets (write_sheet p out) w w' (Ok n, out') →
+    SheetFor (sizes w) (on (state_of ruled w) p) (length out) (take n out')
+wrote_sheet {p} {n} {w} {out = out} {out' = out'} a =
+    let g = a.gives refl in
+    let front : take n out' ≡ g.0 = ap (λ (m : ℕ). take m out') g.2 ∙ ap (take (length g.0)) g.3 ∙ take_front g.0 (drop (length g.0) out) in
     subst (SheetFor (sizes w) (on (state_of ruled w) p) (length out)) (sym front) g.1
 
 -- what read took is the sheet of the rule that the place has afterwards
@@ -62,17 +62,17 @@ took_sheet {p} {s} {w} {w'} a e =
 good_sheet : {s : List ℕ} → ((GoodSheet s → ⊥) → ⊥) → SheetFor (sheet_sizes s) (sheet_rule s) (length s) s
 good_sheet {s} g = record { good = sure (good_decided s) g; list = refl; rule = λ u v. refl; room = omega arith }
 
-looked_sheet : {s t : List ℕ} {r : Looked} → Meets (look_up_in s t) tt tt r → r.outcome ≡ Taken → SheetFor (sheet_sizes s) (sheet_rule s) (length s) s
-looked_sheet {s} {t} a e = good_sheet (clear (rest (rest (subst (Ends (refusals (look_up_in s t) tt)) e a.ends))))
+looked_sheet : {s t : List ℕ} {v : Looked} → Meets (look_up_in s t) tt tt (Ok v) → SheetFor (sheet_sizes s) (sheet_rule s) (length s) s
+looked_sheet a = good_sheet (clear (rest (rest a.ends)))
 
 all_looked_sheet : {s t out : List ℕ} {r : Outcome × List ℕ} → Meets (look_up_all_in s t out) tt tt r → r.0 ≡ Taken → SheetFor (sheet_sizes s) (sheet_rule s) (length s) s
 all_looked_sheet {s} {t} {out} a e = good_sheet (clear (rest (rest (subst (Ends (refusals (look_up_all_in s t out) tt)) e a.ends))))
 
 -- THEOREM: what passed a call is the sheet of its rule
 pub passed_sheet : {S : List ℕ} {g : Rule} {s : List ℕ} → Passed S g s → SheetFor S g (length s) s
-passed_sheet (written a e) = let x = wrote_sheet a e in record { good = x.good; list = x.list; rule = x.rule; room = omega arith }
+passed_sheet (written a) = let x = wrote_sheet a in record { good = x.good; list = x.list; rule = x.rule; room = omega arith }
 passed_sheet (taken_in a e) = took_sheet a e
-passed_sheet (looked_up a e) = looked_sheet a e
+passed_sheet (looked_up a) = looked_sheet a
 passed_sheet (all_looked_up a e) = all_looked_sheet a e
 
 -- THEOREM: two of one list have equal bytes exactly if their rules agree

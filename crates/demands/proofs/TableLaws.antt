@@ -82,8 +82,8 @@ module _ {K : Kind} (T : Tabled K) where
         firm = λ z. (neg, tt);
         cases_like = λ cap m. keep BadPlace (λ k. alike);
         writes_like = λ cap m e. kept;
-        gives_like = λ cap m e r g. retell r.same (λ a s v. sym (m.each p s v) ∙ a s v ∙ m.each q s v) (λ a s v. m.each p s v ∙ a s v ∙ sym (m.each q s v)) g;
-        one = λ z r k a b g h. answer_one compared r k (a ∙ sym b) (tells_decided _ r.same k.same g h);
+        gives_like = λ cap m e r g. retell (compared.value r) (λ a s v. sym (m.each p s v) ∙ a s v ∙ m.each q s v) (λ a s v. m.each p s v ∙ a s v ∙ sym (m.each q s v)) g;
+        one = λ z r k a b g h. answer_one compared r k (a ∙ sym b) (tells_decided _ (compared.value r) (compared.value k) g h);
       })
 
   pub tally_lawful : Lawful (on_table T) (tally_all T)
@@ -95,5 +95,5 @@ module _ {K : Kind} (T : Tabled K) where
         cases_like = λ cap m. alike;
         writes_like = λ cap m e. kept;
         gives_like = λ cap m e r g. counts_like m g;
-        one = λ z r q a b g h. answer_one tallied r q (a ∙ sym b) (counts_unique z.list z.places r.count q.count g h);
+        one = λ z r q a b g h. answer_one tallied r q (a ∙ sym b) (counts_unique z.list z.places (tallied.value r) (tallied.value q) g h);
       })

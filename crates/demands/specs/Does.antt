@@ -1,9 +1,9 @@
 -- A call done on plain functions; and a call on one of two loans. Assumes nothing.
-use Rattle.std.specs.Prelude.{◌≡◌}
+use Rattle.std.specs.Prelude.{◌≡◌, Ok, Err}
 use Rattle.settings.specs.Refusals.{Ends}
 use Rattle.settings.specs.declared.refusals.Refusal.{Refusal}
-use Rattle.settings.specs.declared.refusals.Outcome.{Outcome}
-use Rattle.settings.specs.declared.refusals.Outcome.TheVariants.{Taken, Refused}
+use Rattle.settings.specs.Refusals.{Outcome}
+use Rattle.settings.specs.Refusals.{Taken, Refused}
 use Rattle.promises.specs.Loan.{Loan, ◌and◌}
 use Rattle.promises.specs.Deed.{Deed}
 use Rattle.demands.specs.Ground.{Ground}
@@ -18,8 +18,8 @@ module _ {L : Loan} where
   module _ (G : Ground L) where
     -- a call that ended as o leaves the functions with its effect; refused, as they were
     abbrev pub left_by : Outcome → L.Effect → L.Plain → L.Plain
-    left_by Taken e z = G.left e z
-    left_by (Refused x) e z = z
+    left_by (Ok u) e z = G.left e z
+    left_by (Err x) e z = z
 
     abbrev pub afterwards : (d : Deed L) → L.Plain → d.Result → L.Plain
     afterwards d z r = left_by (d.ending r) (d.writes z) z

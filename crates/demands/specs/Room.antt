@@ -5,8 +5,8 @@ use Rattle.theory.specs.Rules.{rules}
 use Rattle.theory.specs.Costs.{costs}
 use Rattle.settings.specs.Refusals.{Cases}
 use Rattle.settings.specs.declared.refusals.Refusal.TheVariants.{NoRoom}
-use Rattle.settings.specs.declared.refusals.Outcome.{Outcome}
-use Rattle.settings.specs.declared.refusals.Outcome.TheVariants.{Refused}
+use Rattle.settings.specs.Refusals.{Outcome}
+use Rattle.settings.specs.Refusals.{Refused}
 use Rattle.promises.specs.State.{State, Outnumber}
 use Rattle.promises.specs.Table.{Effect, keeps, puts, opens}
 use Rattle.promises.specs.BothDeeds.{both}
