@@ -1,4 +1,5 @@
 pub mod Gathering
+pub mod Compared
 pub mod Framing
 pub mod Chaining
 pub mod Sitting

@@ -7,7 +7,7 @@ ghost use Rattle.promises.specs.Words.{features, count, feature};
 ghost use Rattle.promises.specs.Sound.{Header, Sits};
 
 use crate::sits;
-use table_words::{NODES, count_word, head_word, record_word, size_word, way_word, wide};
+use table_words::{NODES, count_word, head_word, record_word, size_word, way_word, wide, width};
 
 // A walk that met a node out of its turn; more than any count of nodes.
 const LOST: usize = 8192;
@@ -17,14 +17,11 @@ pub fn lower(t: &[u32], first: u32, i: usize) -> bool
     requires { (Header (kind_of first) t.now) × (i < count t.now) × (feature t.now i < features t.now) }
     ensures { Tells result (Lower first t.now i) }
 {
-    let k = wide(record_word(t, i, 0));
-    let s = wide(size_word(t, k));
-    let mut v: usize = 0;
-    while v < s {
+    let k = record_word(t, i, 0) as usize;
+    for v in 0..width(t, i) {
         if !sits(t, first, i, k + 1, way_word(t, first, i, v)) {
             return false;
         }
-        v += 1;
     }
     true
 }
@@ -34,13 +31,11 @@ pub fn roots_ok(t: &[u32], first: u32, n: usize) -> bool
     requires { (Header (kind_of first) t.now) × (n ≤ 32) }
     ensures { Tells result (Rooted first n t.now) }
 {
-    let m = wide(count_word(t));
-    let mut p: usize = 0;
-    while p < n {
+    let m = count_word(t) as usize;
+    for p in 0..n {
         if !sits(t, first, m, 0, head_word(t, 32 + p)) {
             return false;
         }
-        p += 1;
     }
     true
 }

@@ -21,11 +21,9 @@ pub fn zeros(t: &[u32], a: usize, b: usize) -> bool
     requires { b ≤ length t.now }
     ensures { Tells result (Zeros t.now a b) }
 {
-    let mut bits: u32 = 0;
-    let mut j = a;
-    while j < b {
+    let mut bits = 0;
+    for j in a..b {
         bits |= t[j];
-        j += 1;
     }
     bits == 0
 }
@@ -35,19 +33,8 @@ pub fn sizes_ok(t: &[u32]) -> bool
     requires { (19 ≤ length t.now) × (features t.now ≤ 16) }
     ensures { Tells result (Sizes t.now) }
 {
-    let n = wide(features_word(t));
-    let mut k: usize = 0;
-    while k < n {
-        let s = size_word(t, k);
-        if s < 2 {
-            return false;
-        }
-        if 8 < s {
-            return false;
-        }
-        k += 1;
-    }
-    true
+    let end = 3 + features_word(t) as usize;
+    t[3..end].iter().all(|s| 2 <= *s && *s <= 8)
 }
 
 // Whether the header's numbers are those of a table of this kind.
@@ -57,51 +44,31 @@ pub fn front_ok(t: &[u32], kind: u32) -> bool
     if t.len() < RECORDS {
         return false;
     }
-    if head_word(t, 0) != kind {
-        return false;
-    }
-    let cap = wide(capacity_word(t));
-    if cap < 1 {
-        return false;
-    }
-    if NODES < cap {
-        return false;
-    }
-    if t.len() < RECORDS + 32 * cap {
-        return false;
-    }
-    let n = wide(features_word(t));
-    if n < 1 {
-        return false;
-    }
-    if 16 < n {
-        return false;
-    }
-    wide(count_word(t)) <= cap
+    let cap = capacity_word(t) as usize;
+    let n = features_word(t);
+    head_word(t, 0) == kind
+        && 1 <= cap
+        && cap <= NODES
+        && RECORDS + 32 * cap <= t.len()
+        && 1 <= n
+        && n <= 16
+        && count_word(t) as usize <= cap
 }
 
 // Whether the header, and the words that no root, chain or node uses, are those of a table of this kind. It reads any slice.
 pub fn header_ok(t: &[u32], kind: u32) -> bool
     ensures { Tells result (Header kind t.now) }
 {
-    if !front_ok(t, kind) {
-        return false;
-    }
-    if !sizes_ok(t) {
-        return false;
-    }
-    if !zeros(t, 3 + wide(features_word(t)), 19) {
-        return false;
-    }
-    if !zeros(t, 20, 32) {
-        return false;
-    }
-    if !zeros(t, 64, CHAINS) {
-        return false;
-    }
-    let m = wide(count_word(t));
-    let cap = wide(capacity_word(t));
-    zeros(t, RECORDS + 16 * m, RECORDS + 32 * cap)
+    front_ok(t, kind)
+        && sizes_ok(t)
+        && zeros(t, 3 + features_word(t) as usize, 19)
+        && zeros(t, 20, 32)
+        && zeros(t, 64, CHAINS)
+        && zeros(
+            t,
+            RECORDS + 16 * count_word(t) as usize,
+            RECORDS + 32 * capacity_word(t) as usize,
+        )
 }
 
 // Whether the word b ends, or says a node below m of feature k or higher; words from `first` on say nodes.
@@ -112,11 +79,8 @@ pub fn sits(t: &[u32], first: u32, m: usize, k: usize, b: u32) -> bool
     if b < first {
         return true;
     }
-    let j = wide(b - first);
-    if m <= j {
-        return false;
-    }
-    k <= wide(record_word(t, j, 0))
+    let j = (b - first) as usize;
+    j < m && k <= record_word(t, j, 0) as usize
 }
 
 // Whether nodes i and j have the same feature and body.
@@ -124,17 +88,9 @@ pub fn same(t: &[u32], i: usize, j: usize) -> bool
     requires { (Framed t.now) × (i < count t.now) × (j < count t.now) }
     ensures { Tells result (Same t.now i j) }
 {
-    if record_word(t, i, 0) != record_word(t, j, 0) {
-        return false;
-    }
-    let mut v: usize = 0;
-    while v < 12 {
-        if record_word(t, i, 1 + v) != record_word(t, j, 1 + v) {
-            return false;
-        }
-        v += 1;
-    }
-    true
+    let a = RECORDS + 16 * i;
+    let b = RECORDS + 16 * j;
+    t[a..a + 13] == t[b..b + 13]
 }
 
 // Whether node i has no twin before it: only nodes of its chain can be one.
@@ -142,13 +98,13 @@ pub fn alone(t: &[u32], i: usize) -> bool
     requires { (Framed t.now) × (i < count t.now) × (Linked t.now (i + 1)) }
     ensures { Tells result (Alone t.now i) }
 {
-    let mut c = wide(record_word(t, i, 13));
+    let mut c = record_word(t, i, 13) as usize;
     while 0 < c {
         let j = c - 1;
         if same(t, i, j) {
             return false;
         }
-        c = wide(record_word(t, j, 13));
+        c = record_word(t, j, 13) as usize;
     }
     true
 }
@@ -158,13 +114,7 @@ pub fn heads_ok(t: &[u32], last: &[u32]) -> bool
     requires { (8192 ≤ length t.now) × (length last.now ≡ 4096) }
     ensures { Tells result (Headed t.now last.now) }
 {
-    let mut bits: u32 = 0;
-    let mut h: usize = 0;
-    while h < 4096 {
-        bits |= bucket_word(t, h) ^ last[h];
-        h += 1;
-    }
-    bits == 0
+    &t[CHAINS..RECORDS] == last
 }
 
 // Whether the chains are those of the nodes, and no node has a twin.
@@ -172,19 +122,13 @@ pub fn chains_ok(t: &[u32]) -> bool
     requires { Framed t.now }
     ensures { Tells result (Chained t.now) }
 {
-    let n = wide(count_word(t));
     let mut last = [0u32; 4096];
-    let mut i: usize = 0;
-    while i < n {
-        let h = hash_at(t, i);
-        if record_word(t, i, 13) != last[h] {
+    for i in 0..count_word(t) {
+        let h = hash_at(t, i as usize);
+        if record_word(t, i as usize, 13) != last[h] || !alone(t, i as usize) {
             return false;
         }
-        if !alone(t, i) {
-            return false;
-        }
-        last[h] = narrow(i + 1);
-        i += 1;
+        last[h] = i + 1;
     }
     heads_ok(t, &last)
 }

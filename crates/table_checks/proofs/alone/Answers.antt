@@ -2,11 +2,10 @@
 use Rattle.std.proofs.Common.{arith}
 use Rattle.table_checks.proofs.Chaining.{sought_first, sought_next}
 use Rattle.settings.proofs.Answers.{sure, sure_not}
-use mathlib.Core.Path.{◌∙◌}
 use Rattle.table_checks.proofs.alone.Goals as goal
 
 pub loop-c-init : goal.loop-c-init
-loop-c-init c = sought_first _ _ _ c.requires.2 (c.wide-c.ensures.0 ∙ c.record_word.ensures)
+loop-c-init c = sought_first _ _ _ c.requires.2 (c.record_word-c.ensures)
 
 pub same-requires : goal.same-requires
 same-requires c = let p = c.requires in let w = c.loop-c.invariant.within in (p.0, p.1, omega arith)
@@ -17,12 +16,12 @@ returns-then-same c = let w = c.loop-c.invariant.within in λ z. z.alone _ (omeg
 pub loop-c-smaller : goal.loop-c-smaller
 loop-c-smaller c =
     (sought_next _ _ _ _ c.requires.2 c.loop-c-test.true c.loop-c.invariant
-    (sure_not c.if-same.false c.same.ensures) (c.wide-c-in-loop-c.ensures.0 ∙ c.record_word-in-loop-c.ensures)).1
+    (sure_not c.if-same.false c.same.ensures) (c.record_word-c-in-loop-c.ensures)).1
 
 pub loop-c-preserved : goal.loop-c-preserved
 loop-c-preserved c =
     (sought_next _ _ _ _ c.requires.2 c.loop-c-test.true c.loop-c.invariant
-    (sure_not c.if-same.false c.same.ensures) (c.wide-c-in-loop-c.ensures.0 ∙ c.record_word-in-loop-c.ensures)).0
+    (sure_not c.if-same.false c.same.ensures) (c.record_word-c-in-loop-c.ensures)).0
 
 pub returns : goal.returns
 returns c = record { alone = λ j h. c.loop-c.invariant.none j (omega arith) h }

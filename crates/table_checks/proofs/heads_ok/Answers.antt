@@ -1,21 +1,6 @@
--- `table_checks::heads_ok` meets its contract: the bits by which the chain heads passed differ from the list, put together, are 0 exactly if none differs. Assumes nothing.
-use Rattle.std.proofs.Common.{get_or, arith, ℕ, ap}
-use Rattle.table_checks.proofs.Gathering.{Gathered, gathered_none, gathered_more, headed_all}
-use lib.Bits.{bit_xor}
-use mathlib.Core.Path.{subst}
-use Rattle.promises.specs.Words.{bucket}
+-- `table_checks::heads_ok` meets its contract: the chain heads are the list. Assumes nothing.
+use Rattle.table_checks.proofs.Compared.{headed_tells}
 use Rattle.table_checks.proofs.heads_ok.Goals as goal
 
-pub loop-h-init : goal.loop-h-init
-loop-h-init c = (omega arith, gathered_none _ 0)
-
-pub loop-h-preserved : goal.loop-h-preserved
-loop-h-preserved c =
-    let l = c.loop-h in let a = c.args in
-    (omega arith, gathered_more _ 0 l.h l.bits _ (ap (λ (x : ℕ). bit_xor x (get_or a.last.now l.h 0)) c.bucket_word.ensures) l.invariant.1)
-
 pub returns : goal.returns
-returns c =
-    let l = c.loop-h in let a = c.args in
-    headed_all a.t.now a.last.now l.bits
-    (subst (λ (n : ℕ). Gathered (λ x. bit_xor (bucket a.t.now x) (get_or a.last.now x 0)) 0 n l.bits) (omega (arith, l.invariant.0)) l.invariant.1)
+returns c = headed_tells c.args.t.now c.args.last.now c.eq.result c.requires.0 c.requires.1 c.eq.ensures
