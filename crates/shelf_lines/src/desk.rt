@@ -1,58 +1,78 @@
 // What is lent to the calls.
-ghost use Rattle.std.specs.Counts.{IsPrefixLen};
+// How many words a buffer has.
+pub const WORDS: usize = 16384;
 
-use settings::Outcome;
-
-// The first words of the rule and the cost buffer are lent, and scratch words that each hold the fill before a call; a
-// setting is printed with as many values as the last accepted feature list of its table has.
-#[derive(Clone, Copy)]
-pub struct Desk {
-    pub rules: usize,
-    pub costs: usize,
-    pub scratch: usize,
-    pub fill: u32,
-    pub features: usize,
-    pub cost_features: usize,
+// Words, of which the first are lent: so many, or all where there are no more.
+#[derive(Drop)]
+pub struct Buffer {
+    pub words: [u32; WORDS],
+    pub lent: usize,
 }
 
-// How many of the words are lent: so many, or all where there are no more.
-pub fn lent(words: &[u32], most: usize) -> usize
-    ensures { IsPrefixLen result words.now }
-{
-    if most < words.len() {
-        return most;
+impl Buffer {
+    // Zeros, of which so many are lent.
+    fn of_zeros(lent: usize) -> Buffer {
+        Buffer {
+            words: [0; WORDS],
+            lent,
+        }
     }
-    words.len()
+
+    // The lent words.
+    pub fn lent(&mut self) -> &mut [u32] {
+        let count = self.lent.min(WORDS);
+        &mut self.words[..count]
+    }
+}
+
+// The buffer of a table, and how many features the list has that it was last opened with.
+#[derive(Drop)]
+pub struct Table {
+    pub buffer: Buffer,
+    pub features: usize,
+}
+
+// Scratch, and the word that each word of it holds before a call.
+#[derive(Drop)]
+pub struct Scratch {
+    pub buffer: Buffer,
+    pub fill: u32,
+}
+
+impl Scratch {
+    // The words that a call is lent.
+    pub fn filled(&mut self) -> &mut [u32] {
+        let fill = self.fill;
+        let words = self.buffer.lent();
+        words.fill(fill);
+        words
+    }
+}
+
+// Two tables and scratch.
+#[derive(Drop)]
+pub struct Desk {
+    pub rules: Table,
+    pub costs: Table,
+    pub scratch: Scratch,
 }
 
 impl Desk {
     // The desk before the first line.
     pub fn new() -> Desk {
         Desk {
-            rules: 16384,
-            costs: 16384,
-            scratch: 4096,
-            fill: 0,
-            features: 0,
-            cost_features: 0,
+            rules: Table {
+                buffer: Buffer::of_zeros(WORDS),
+                features: 0,
+            },
+            costs: Table {
+                buffer: Buffer::of_zeros(WORDS),
+                features: 0,
+            },
+            scratch: Scratch {
+                buffer: Buffer::of_zeros(4096),
+                fill: 0,
+            },
         }
-    }
-
-    // The desk once the rule table is opened over so many features, where that was taken.
-    pub fn opened(mut self, outcome: Outcome, features: usize) -> Desk {
-        let Outcome::Taken = outcome else {
-            return self;
-        };
-        self.features = features;
-        self
-    }
-
-    // The same of the cost table.
-    pub fn cost_opened(mut self, outcome: Outcome, features: usize) -> Desk {
-        let Outcome::Taken = outcome else {
-            return self;
-        };
-        self.cost_features = features;
-        self
     }
 }

@@ -1,73 +1,44 @@
 // The commands on neither table: scratch, lend, clend, which change what is lent, and the stepper's.
-use crate::desk::Desk;
-use crate::names::{Entry, OWN, entry_in};
-use crate::numbers::as_word;
-use crate::saying::{say, say_flag, say_unknown, say_values};
-use crate::words::{bytes_after, bytes_listed, first_word, size_at};
-use settings::{Outcome, Setting};
-use std::io;
+use crate::desk::{Desk, WORDS};
+use crate::faults::Fault;
+use crate::numbers::{at_most, word};
+use crate::saying::Values;
+use crate::words::{parts, values};
+use settings::{Setting, refusal_number};
 
-const LEND: usize = 1;
-
-const CLEND: usize = 2;
-
-pub fn own_entry(name: &[u8]) -> Entry {
-    entry_in(OWN, name, b"scratch lend clend step", b"sll*")
+// `step S0,S1,.. V0 V1 ..`
+fn step(rt: &impl Print, sizes: &str, setting: &[&str]) -> Result<(), Fault> {
+    let mut parts_room = [""; 64];
+    let sizes = parts(sizes, ',', &mut parts_room)?;
+    let mut sizes_room = [0u8; 64];
+    let sizes = values(sizes, &mut sizes_room)?;
+    let mut setting_room = [0u8; 64];
+    let from = Setting::of(values(setting, &mut setting_room)?);
+    let count = from.count;
+    match from.next(sizes) {
+        Ok(Some(setting)) => print!(rt; "0 0{}", Values { setting, count })?,
+        Ok(None) => {
+            let setting = Setting::zero(count);
+            print!(rt; "0 1{}", Values { setting, count })?
+        }
+        Err(refusal) => print!(rt; "{} 0", refusal_number(refusal))?,
+    }
+    Ok(())
 }
 
-// The step from the setting of the values, over the sizes.
-fn stepped(rt: &impl Print, sizes: &[u8], values: &[u8]) -> io::Result<()> {
-    let step = Setting::of(values).next(sizes);
-    let outcome = step.outcome;
-    say(rt, outcome)?;
-    say_flag(rt, step.last)?;
-    let setting = step.setting;
-    say_values(rt, setting, setting.count)
-}
-
-// `step S0,S1,.. V0 V1 ..`, of which the text is what follows the name.
-fn step(rt: &impl Print, text: &[u8]) -> io::Result<()> {
-    let end = first_word(text);
-    let mut sizes = [0u8; 64];
-    let listed = bytes_listed(&text[..end], b',', &mut sizes);
-    let mut values = [0u8; 64];
-    let after = bytes_after(listed.known, text, end, &mut values);
-    if !after.known {
-        return say_unknown(rt);
+// The command that the words are, where it is one of these.
+pub fn own_command(rt: &impl Print, words: &[&str], desk: &mut Desk) -> Result<(), Fault> {
+    match words {
+        ["scratch", length, fill] => {
+            let length = at_most(length, WORDS)?;
+            desk.scratch.fill = word(fill)?;
+            desk.scratch.buffer.lent = length;
+        }
+        ["lend", length] => desk.rules.buffer.lent = at_most(length, WORDS)?,
+        ["clend", length] => desk.costs.buffer.lent = at_most(length, WORDS)?,
+        ["step", sizes, setting @ ..] => return step(rt, sizes, setting),
+        _ => return Err(Fault::Unknown),
     }
-    let n = listed.count;
-    let m = after.count;
-    stepped(rt, &sizes[..n], &values[..m])
-}
-
-// `scratch LENGTH WORD`, `lend LENGTH` or `clend LENGTH`: what is lent from now on.
-fn arranged(code: usize, length: usize, word: usize, desk: Desk) -> Desk {
-    let mut next = desk;
-    if code == LEND {
-        next.rules = length;
-        return next;
-    }
-    if code == CLEND {
-        next.costs = length;
-        return next;
-    }
-    next.scratch = length;
-    next.fill = as_word(word);
-    next
-}
-
-// The command of this code, with the text or the numbers that follow its name.
-pub fn own_command(
-    rt: &impl Print,
-    code: usize,
-    text: &[u8],
-    n: &[u64],
-    desk: Desk,
-) -> io::Result<Desk> {
-    if code <= CLEND {
-        say(rt, Outcome::Taken)?;
-        return Ok(arranged(code, size_at(n, 0), size_at(n, 1), desk));
-    }
-    step(rt, text)?;
-    Ok(desk)
+    print!(rt; "0")?;
+    Ok(())
 }
