@@ -1,4 +1,5 @@
 -- The laws of the literal: its bits are the branches of one node, its size is the number of its values. Assumes nothing.
+use Rattle.std.specs.Prelude.{Option}
 use mathlib.Core.Path.{◌≡◌, refl, sym, ap, ap₂, subst, ◌∙◌}
 use mathlib.Core.Logic.{⊎_elim}
 use mathlib.Core.List.{List}
@@ -21,18 +22,12 @@ use Rattle.table_words.proofs.Tab.{split, length_tab, get_or_tab}
 use Rattle.rule_words.specs.Words.{branches}
 use Rattle.rule_words.proofs.Reading.{decode_phrase, length_nodes}
 use Rattle.rule_nodes.specs.Nodes.{layout, Holds, Listed, Makes, Result, built, Filling}
-use Rattle.rule_nodes.specs.declared.Answer.{Answer}
 use Rattle.rule_nodes.proofs.Filling.{gives_eq, built_skip, built_there, fill_listed, fill_make}
 use Rattle.rule_nodes.proofs.Reading.{lawful}
-use Rattle.settings.specs.declared.refusals.Refusal.{Refusal}
-use Rattle.settings.specs.declared.refusals.Outcome.{Outcome}
-use Rattle.settings.specs.declared.refusals.Outcome.TheVariants.{Taken, Refused}
-use Rattle.promises.specs.declared.Spelled.{Spelled}
 use Rattle.promises.specs.Words.{features, size, sizes}
 use Rattle.promises.specs.RuleWords.{decode, rule_node_list as nodes}
 use Rattle.promises.specs.Operators.{bit_of, literal_of, set_size}
-use Rattle.promises.specs.RuleDeeds.{spelled}
-use Rattle.rule_operations.specs.Literal.{BitList, Sized}
+use Rattle.rule_operations.specs.Literal.{BitList}
 
 -- ---- bits
 bit_small : (x v : ℕ) → bit_of x v < 65536
@@ -109,14 +104,6 @@ module _ (w : List ℕ) (f x : ℕ) (l : List ℕ) (ok : Holds w) (hf : f < feat
   literal_listed = fill_listed w f (literal_of 0 x) ok hf w l filled
 
   -- and its answer is the literal
-  pub literal_made : (t : List ℕ) (a : Answer) → Makes w t f l a → Result w t 0 (literal_of f x) a
+  pub literal_made : (t : List ℕ) (a : Option ℕ) → Makes w t f l a → Result w t 0 (literal_of f x) a
   literal_made t a m =
       gives_eq (down w x 0 f ok (omega arith) ∙ ap (λ (k : ℕ). built w k (literal_of 0 x)) (zero-add f)) (fill_make w f (literal_of 0 x) ok hf w t l a filled m)
-
--- ---- the answer that goes with an ending: the size of the set, or 0
-module _ {o : Outcome} {x : ℕ} {r : Spelled} (z : Sized o x r) where
-  pub sized_taken : (n : ℕ) → x < 2 ^ n → o ≡ Taken → r.size ≡ set_size n x
-  sized_taken n h k = z.taken k ∙ ones_size n x h
-
-  pub sized_refused : (y : Refusal) → o ≡ Refused y → r ≡ spelled.made (Refused y) 0
-  sized_refused y k = λ i. record { outcome = (z.outcome ∙ k) i; size = z.refused y k i }

@@ -7,8 +7,8 @@ use lib.ListN.{length, get_or}
 use Rattle.settings.specs.Refusals.{Ends, ◌when◌else◌, taken}
 use Rattle.settings.specs.declared.refusals.Refusal.{Refusal}
 use Rattle.settings.specs.declared.refusals.Refusal.TheVariants.{Damaged, BadPlace}
-use Rattle.settings.specs.declared.refusals.Outcome.{Outcome}
-use Rattle.settings.specs.declared.refusals.Outcome.TheVariants.{Taken, Refused}
+use Rattle.settings.specs.Refusals.{Outcome}
+use Rattle.settings.specs.Refusals.{Taken, Refused}
 use Rattle.settings.proofs.Endings.{not_taken}
 use Rattle.promises.specs.State.{Places, front}
 use Rattle.table_calls.specs.Door.{Enters}

@@ -7,8 +7,8 @@ use Rattle.theory.specs.Functions.{Agree}
 use Rattle.theory.specs.Rules.{Rule}
 use Rattle.settings.specs.Refusals.{Ends}
 use Rattle.settings.specs.declared.refusals.Refusal.{Refusal}
-use Rattle.settings.specs.declared.refusals.Outcome.{Outcome}
-use Rattle.settings.specs.declared.refusals.Outcome.TheVariants.{Taken, Refused}
+use Rattle.settings.specs.Refusals.{Outcome}
+use Rattle.settings.specs.Refusals.{Taken, Refused}
 use Rattle.promises.specs.Words.{sizes}
 use Rattle.promises.specs.State.{room_cases}
 use Rattle.promises.specs.Deed.{Deed, refusals, Meets}

@@ -5,7 +5,7 @@ ghost use Rattle.promises.specs.RuleDeeds as D;
 use crate::joining::put_joint;
 use rule_calls::door;
 use rule_words::root_word;
-use settings::{Outcome, Refusal};
+use settings::Refusal;
 
 // The rule of the place becomes the operator's number of those of two places.
 pub fn apply(
@@ -15,18 +15,12 @@ pub fn apply(
     operator: u32,
     a: usize,
     b: usize,
-) -> Outcome
+) -> Result<(), Refusal>
     ensures { Meets (D.apply place operator a b) t.old t.new result }
 {
-    let o = door(t, &[place, a, b]);
-    if let Outcome::Refused(x) = o {
-        return Outcome::Refused(x);
-    }
-    if operator < 1 {
-        return Outcome::Refused(Refusal::BadArgument);
-    }
-    if 5 < operator {
-        return Outcome::Refused(Refusal::BadArgument);
+    door(t, &[place, a, b])?;
+    if operator < 1 || 5 < operator {
+        return Err(Refusal::BadArgument);
     }
     let mut ops = [0u32; 9];
     ops[0] = root_word(t, a);

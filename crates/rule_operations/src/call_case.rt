@@ -11,22 +11,7 @@ use crate::joining::put_joint;
 use rule_calls::door;
 use rule_count::{gives, reaches};
 use rule_words::root_word;
-use settings::{Outcome, Refusal};
-use table_words::wide;
-
-// Whether each of the list is a place.
-fn are_places(branches: &[u32]) -> bool
-    ensures { Tells result (Places 32 branches.now) }
-{
-    let mut j: usize = 0;
-    while j < branches.len() {
-        if 32 <= branches[j] {
-            return false;
-        }
-        j += 1;
-    }
-    true
-}
+use settings::Refusal;
 
 // What is handed on for branch j: its root word; or, where the selector gives j at no setting, 0, with which the walk meets no more combinations.
 fn handed(t: &[u32], selector: usize, j: usize, branch: u32) -> u32
@@ -34,9 +19,10 @@ fn handed(t: &[u32], selector: usize, j: usize, branch: u32) -> u32
     ensures { Handed t.now selector j branch result }
 {
     if gives(t, selector, j as u32) {
-        return root_word(t, wide(branch));
+        root_word(t, branch as usize)
+    } else {
+        0
     }
-    0
 }
 
 // The root word of the selector and what is handed on for the branches, in a row.
@@ -46,10 +32,8 @@ fn lined(t: &[u32], selector: usize, branches: &[u32]) -> [u32; 9]
 {
     let mut ops = [0u32; 9];
     ops[0] = root_word(t, selector);
-    let mut j: usize = 0;
-    while j < branches.len() {
-        ops[1 + j] = handed(t, selector, j, branches[j]);
-        j += 1;
+    for (j, branch) in branches.iter().enumerate() {
+        ops[1 + j] = handed(t, selector, j, *branch);
     }
     ops
 }
@@ -61,25 +45,19 @@ pub fn case(
     place: usize,
     selector: usize,
     branches: &[u32],
-) -> Outcome
+) -> Result<(), Refusal>
     ensures { Meets (D.case place selector branches.now) t.old t.new result }
 {
-    let o = door(t, &[place, selector]);
-    if let Outcome::Refused(x) = o {
-        return Outcome::Refused(x);
-    }
-    if !are_places(branches) {
-        return Outcome::Refused(Refusal::BadPlace);
+    door(t, &[place, selector])?;
+    if !branches.iter().all(|branch| *branch < 32) {
+        return Err(Refusal::BadPlace);
     }
     let m = branches.len();
-    if m < 1 {
-        return Outcome::Refused(Refusal::BadArgument);
-    }
-    if 8 < m {
-        return Outcome::Refused(Refusal::BadArgument);
+    if m < 1 || 8 < m {
+        return Err(Refusal::BadArgument);
     }
     if reaches(t, selector, m as u32) {
-        return Outcome::Refused(Refusal::BadSelector);
+        return Err(Refusal::BadSelector);
     }
     let ops = lined(t, selector, branches);
     put_joint(t, scratch, place, 6, 16, m + 1, ops)

@@ -5,8 +5,8 @@ ghost use Rattle.promises.specs.RuleDeeds as D;
 use crate::joining::put_joint;
 use rule_calls::door;
 use rule_words::root_word;
-use settings::{Outcome, Refusal};
-use table_words::{features_word, size_word, wide};
+use settings::Refusal;
+use table_words::{features_word, size_word};
 
 // The rule of the place becomes another with a feature removed: 0, the one other number over its values, or 65,535 where two differ.
 pub fn forget(
@@ -15,17 +15,14 @@ pub fn forget(
     place: usize,
     from: usize,
     feature: usize,
-) -> Outcome
+) -> Result<(), Refusal>
     ensures { Meets (D.forget place from feature) t.old t.new result }
 {
-    let o = door(t, &[place, from]);
-    if let Outcome::Refused(x) = o {
-        return Outcome::Refused(x);
+    door(t, &[place, from])?;
+    if features_word(t) as usize <= feature {
+        return Err(Refusal::BadArgument);
     }
-    if wide(features_word(t)) <= feature {
-        return Outcome::Refused(Refusal::BadArgument);
-    }
-    let m = wide(size_word(t, feature));
+    let m = size_word(t, feature) as usize;
     let b = root_word(t, from);
     let ops = [b; 9];
     put_joint(t, scratch, place, 7, feature, m, ops)

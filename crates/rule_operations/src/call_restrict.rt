@@ -12,33 +12,39 @@ use rule_calls::door;
 use rule_restrict::held;
 use rule_settling::settle;
 use rule_words::root_word;
-use settings::{Outcome, Refusal};
-use table_words::{count_word, features_word, size_word, wide};
+use settings::Refusal;
+use table_words::{count_word, features_word, size_word};
 
 // The restricted rule becomes the rule of the place.
-fn put_restricted(t: &mut [u32], place: usize, from: usize, feature: usize, value: usize) -> Outcome
+fn put_restricted(
+    t: &mut [u32],
+    place: usize,
+    from: usize,
+    feature: usize,
+    value: usize,
+) -> Result<(), Refusal>
     requires { (RuleSound t.old) × (place < 32) × (from < 32) × (feature < features t.old) × (value < size t.old feature) }
     ensures { Puts place (restricted feature value (rule_of t.old from)) t.old t.new result }
 {
-    let used = wide(count_word(t));
+    let used = count_word(t) as usize;
     let b = root_word(t, from);
     let r = held(t, b, feature, value);
     settle(t, place, used, r)
 }
 
 // The rule of the place becomes another with the feature held at the value.
-pub fn restrict(t: &mut [u32], place: usize, from: usize, feature: usize, value: usize) -> Outcome
+pub fn restrict(
+    t: &mut [u32],
+    place: usize,
+    from: usize,
+    feature: usize,
+    value: usize,
+) -> Result<(), Refusal>
     ensures { Meets (D.restrict place from feature value) t.old t.new result }
 {
-    let o = door(t, &[place, from]);
-    if let Outcome::Refused(x) = o {
-        return Outcome::Refused(x);
-    }
-    if wide(features_word(t)) <= feature {
-        return Outcome::Refused(Refusal::BadArgument);
-    }
-    if wide(size_word(t, feature)) <= value {
-        return Outcome::Refused(Refusal::BadArgument);
+    door(t, &[place, from])?;
+    if features_word(t) as usize <= feature || size_word(t, feature) as usize <= value {
+        return Err(Refusal::BadArgument);
     }
     put_restricted(t, place, from, feature, value)
 }

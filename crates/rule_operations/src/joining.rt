@@ -6,8 +6,8 @@ ghost use Rattle.rule_settling.specs.Settling.{Puts};
 
 use rule_engine::join;
 use rule_settling::settle;
-use settings::Outcome;
-use table_words::{count_word, wide};
+use settings::Refusal;
+use table_words::count_word;
 
 // The joint rule of the first n operands becomes the rule of the place.
 pub fn put_joint(
@@ -18,11 +18,11 @@ pub fn put_joint(
     f: usize,
     n: usize,
     ops: [u32; 9],
-) -> Outcome
+) -> Result<(), Refusal>
     requires { (RuleSound t.old) × (place < 32) × (Operands t.old f n 0 ops) }
     ensures { Puts place (joint t.old o f n 0 ops) t.old t.new result }
 {
-    let used = wide(count_word(t));
+    let used = count_word(t) as usize;
     let r = join(t, scratch, o, f, n, &ops);
     settle(t, place, used, r)
 }
