@@ -11,18 +11,16 @@ use Rattle.theory.proofs.WellFormed.{ok_ext}
 use Rattle.table_words.specs.Words.{listed}
 use Rattle.table_words.proofs.Words.{kept_sizes}
 use Rattle.table_memory.specs.Memory.{Remembers, Recalls}
-use Rattle.table_memory.specs.declared.Memo.{Memo}
-use Rattle.table_memory.specs.declared.Memo.TheVariants.{Known}
 use Rattle.table_memory.proofs.Building.{mean_said}
 use Rattle.table_memory.proofs.Remembering as M
 use Rattle.rule_lending.specs.Lending.{lent}
 use Rattle.rule_lending.proofs.Lending.{key_one}
 use Rattle.cost_nodes.specs.Nodes.{Holds, Good, Result}
-use Rattle.cost_nodes.specs.declared.Answer.{Answer}
-use Rattle.cost_nodes.specs.declared.Answer.TheVariants.{Is, NoRoom}
+use Rattle.std.specs.Prelude.{Option, Some}
+use Rattle.cost_words.specs.declared.Arm.{Arm}
 use Rattle.cost_nodes.proofs.Filling.{result_ext, result_mean, mean_result}
 use Rattle.both_choose.specs.Choice.{choice, Choices}
-use Rattle.both_choose.specs.Memory.{Recalled, tag_of, Says, Noted, Still}
+use Rattle.both_choose.specs.Memory.{Recalled, tag_of, Says}
 use Rattle.both_choose.proofs.Choices.{choice_ext}
 use Rattle.promises.specs.Integers.{int}
 use Rattle.promises.specs.CostSound.{bare}
@@ -40,11 +38,11 @@ module _ (v w t : List ℕ) (k b x y d z e : ℕ) (ok : Holds w) (q : sizes t �
       }
 
 -- what `build` gave may be remembered
-result_recalled : (v w t : List ℕ) (k b x y d z e : ℕ) → Choices v w k b x y (int d) → Result w t k (choice (lent v k b) (nodes w) k (target x) (target y) (int d)) (Is z e)
-    → Recalled v t k b x y d z e
-result_recalled v w t k b x y d z e p r =
-    grown v w t k b x y d z e p.holds (kept_sizes w t r.grown.kept p.holds.laid.laid.few) (result_ext w t k _ (Is z e) p.holds r) p.first p.second
-    (result_mean w t k _ z e p.holds r)
+result_recalled : (v w t : List ℕ) (k b x y d : ℕ) (a : Arm) → Choices v w k b x y (int d)
+    → Result w t k (choice (lent v k b) (nodes w) k (target x) (target y) (int d)) (Some a) → Recalled v t k b x y d a.to a.adds
+result_recalled v w t k b x y d a p r =
+    grown v w t k b x y d a.to a.adds p.holds (kept_sizes w t r.grown.kept p.holds.laid.laid.few) (result_ext w t k _ (Some a) p.holds r) p.first p.second
+    (result_mean w t k _ a p.holds r)
 
 -- ---- the memory
 -- a tag tells its feature and its branch
@@ -65,19 +63,14 @@ says_more v w t ok q m key z e c = record {
 }
 
 -- a hit is the result
-pub hit : (v w : List ℕ) (k b : ℕ) (s key : List ℕ) (z e : ℕ) (r : Memo) → Choices v w k b (listed key 1) (listed key 2) (int (listed key 3)) → k < 16 → listed key 0 ≡ tag_of k b → length key ≡ 4
-    → Remembers 4 (Says v w) s → Recalls s key r → r ≡ Known z e
-    → Result w w k (choice (lent v k b) (nodes w) k (target (listed key 1)) (target (listed key 2)) (int (listed key 3))) (Is z e)
+pub hit : (v w : List ℕ) (k b : ℕ) (s key : List ℕ) (z e : ℕ) (r : Option (ℕ × ℕ)) → Choices v w k b (listed key 1) (listed key 2) (int (listed key 3)) → k < 16 → listed key 0 ≡ tag_of k b
+    → length key ≡ 4 → Remembers 4 (Says v w) s → Recalls s key r → r ≡ Some (z, e)
+    → Result w w k (choice (lent v k b) (nodes w) k (target (listed key 1)) (target (listed key 2)) (int (listed key 3))) (Some (record { to = z; adds = e }))
 hit v w k b s key z e r p h g l m c q =
     let f : Says v w key z e = M.hit key l s z e r m c q (omega (arith, g)) in
-    mean_result w k _ z e p.holds (f.recalled k b h g).mean
+    mean_result w k _ (record { to = z; adds = e }) p.holds (f.recalled k b h g).mean
 
 -- a result may be remembered
-pub result_says : (v w t : List ℕ) (k b : ℕ) (key : List ℕ) (z e : ℕ) → Choices v w k b (listed key 1) (listed key 2) (int (listed key 3)) → k < 16 → listed key 0 ≡ tag_of k b
-    → Result w t k (choice (lent v k b) (nodes w) k (target (listed key 1)) (target (listed key 2)) (int (listed key 3))) (Is z e) → Says v t key z e
-result_says v w t k b key z e p h g r = says_tag v t k b key z e h g (result_recalled v w t k b (listed key 1) (listed key 2) (listed key 3) z e p r)
-
--- what a call left
-pub still_there : (v w s : List ℕ) (a : Answer) → Noted v w s → Still v w s a
-still_there v w s (Is z e) m = m
-still_there v w s NoRoom m = tt
+pub result_says : (v w t : List ℕ) (k b : ℕ) (key : List ℕ) (a : Arm) → Choices v w k b (listed key 1) (listed key 2) (int (listed key 3)) → k < 16 → listed key 0 ≡ tag_of k b
+    → Result w t k (choice (lent v k b) (nodes w) k (target (listed key 1)) (target (listed key 2)) (int (listed key 3))) (Some a) → Says v t key a.to a.adds
+result_says v w t k b key a p h g r = says_tag v t k b key a.to a.adds h g (result_recalled v w t k b (listed key 1) (listed key 2) (listed key 3) a p r)

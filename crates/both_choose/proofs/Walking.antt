@@ -34,9 +34,10 @@ use Rattle.table_notes.proofs.Plain.{plain_of}
 use Rattle.rule_lending.specs.Lending.{Lent, lent, Goes, Tops, Number, Says}
 use Rattle.rule_lending.proofs.Lending.{number_left, says_means}
 use Rattle.cost_words.proofs.Packing.{int_zero}
-use Rattle.cost_nodes.specs.Nodes.{Good, top, Place, built, Result, Filling}
-use Rattle.cost_nodes.specs.declared.Answer.{Answer}
-use Rattle.cost_nodes.specs.declared.Answer.TheVariants.{Is, NoRoom}
+use Rattle.cost_notes.proofs.Reading.{plain_head}
+use Rattle.cost_nodes.specs.Nodes.{Good, Holds, top, Place, built, Result, Filling}
+use Rattle.std.specs.Prelude.{Option, None, Some}
+use Rattle.cost_words.specs.declared.Arm.{Arm}
 use Rattle.cost_nodes.proofs.Reading.{lawful, pos_from, sizes_from}
 use Rattle.cost_nodes.proofs.Stepping.{good_small, top_good, top_most, skipped}
 use Rattle.cost_nodes.proofs.Filling.{filling_ext, filling_narrow}
@@ -103,18 +104,14 @@ module _ (v w : List ℕ) (b x y m : ℕ) (d : ℤ) (l : Lowest v w b x y m) whe
     pub choices_skip : Choices v w m b x y d
     choices_skip = passed.0
 
-    pub choice_skip : (t : List ℕ) (a : Answer) → Result w t m (C m) a → Result w t k (C k) a
+    pub choice_skip : (t : List ℕ) (a : Option Arm) → Result w t m (C m) a → Result w t k (C k) a
     choice_skip t a r = F.gives_eq lawful passed.1 r
 
--- ---- where the rule has ended
-pub end_second : (n x y d : ℕ) → n ≡ 0 → Is y d ≡ end_of n x y d
-end_second n x y d e = sym (ap (λ (m : ℕ). end_of m x y d) e)
-
-pub end_first : (n x y d : ℕ) → (n ≡ 0 → ⊥) → Is x 2147483648 ≡ end_of n x y d
-end_first zero x y d h = absurd (h refl)
-end_first (suc n) x y d h = refl
-
 -- ---- two targets
+-- the size of a feature is read off the table with its notes
+pub size_is : (w : List ℕ) (k : ℕ) → Holds (plain w) → k < features (plain w) → size (plain w) k ≡ size w k
+size_is w k h l = plain_head w (3 + k) (omega (arith, h.laid.laid.few))
+
 module _ (v w : List ℕ) (k b x y : ℕ) (d : ℤ) (p : Choices v w k b x y d) where
   abbrev R : Cost
   R = choice (lent v k b) (nodes w) k (target x) (target y) d
@@ -126,11 +123,11 @@ module _ (v w : List ℕ) (k b x y : ℕ) (d : ℤ) (p : Choices v w k b x y d) 
   second_place = record { holds = p.holds; good = p.second; up_to = p.up_to }
 
   -- the rule has ended
-  pub choice_ends : (m e : ℕ) → Says b m → int e ≡ d → (a : Answer) → a ≡ end_of m x y e → Result w w k R a
+  pub choice_ends : (m e : ℕ) → Says b m → int e ≡ d → (a : Arm) → a ≡ end_of m x y e → Result w w k R (Some a)
   unfolding builtOf
-  choice_ends m e h q a r = subst (λ (o : Answer). Result w w k R o) (sym r) (go m (says_means h v k))
+  choice_ends m e h q a r = subst (λ (o : Arm). Result w w k R (Some o)) (sym r) (go m (says_means h v k))
     where
-      go : (n : ℕ) → ((s : List ℕ) → lent v k b s ≡ says n) → Result w w k R (end_of n x y e)
+      go : (n : ℕ) → ((s : List ℕ) → lent v k b s ≡ says n) → Result w w k R (Some (end_of n x y e))
       go zero f =
           F.result_there lawful w k (branch y e) R p.holds
           (choice_second (lent v k b) (nodes w) k (target x) (target y) d (sizes w) (drop k (sizes w)) refl (pos_from w k p.holds) p.holds.wf f p.second
@@ -203,11 +200,11 @@ module _ (v w : List ℕ) (k b x y : ℕ) (d : ℤ) (p : Choices v w k b x y d) 
       })
 
   -- in a table that holds more
-  pub choices_ext : (t : List ℕ) (u : ℕ) (xs ys : List ℕ) → Filling w t k (choice (lent v k b) (nodes w) k (target x) (target y) d) u xs ys → k < features w → u ≤ size w k → Choices v t k b x y d
-  choices_ext t u xs ys f hk l =
+  pub choices_ext : (t : List ℕ) (u : ℕ) (bs : List Arm) → Filling w t k (choice (lent v k b) (nodes w) k (target x) (target y) d) u bs → k < features w → u ≤ size w k → Choices v t k b x y d
+  choices_ext t u bs f hk l =
       let g : Cost = choice (lent v k b) (nodes w) k (target x) (target y) d in
       let kp = f.filled.grown.kept in
-      let e : Ext (nodes w) (nodes t) = filling_ext w k g p.holds hk t u xs ys f in
+      let e : Ext (nodes w) (nodes t) = filling_ext w k g p.holds hk t u bs f in
       let z : sizes t ≡ sizes w = kept_sizes w t kp p.holds.laid.laid.few in
       record {
         holds = f.filled.grown.well;
@@ -217,7 +214,7 @@ module _ (v w : List ℕ) (k b x y : ℕ) (d : ℤ) (p : Choices v w k b x y d) 
         first = ok_ext (nodes w) (nodes t) k (bare (target x)) e p.first;
         second = ok_ext (nodes w) (nodes t) k (bare (target y)) e p.second;
         placed = rw z (placed_ext (nodes w) k (sizes w) p.holds.wf (nodes t) e (drop k (sizes w)) (target x) (target y) d p.first p.second p.placed);
-        narrow = filling_narrow w k g p.holds hk t u xs ys f l choice_near p.narrow;
+        narrow = filling_narrow w k g p.holds hk t u bs f l choice_near p.narrow;
       }
 
 -- ---- two branches
@@ -246,23 +243,23 @@ module _ (v w : List ℕ) (k b x a y c : ℕ) (d : ℤ) (p : Branches v w k b x 
   built_raised = build_lift (sizes w) k (drop k (sizes w)) refl (pos_from w k p.rest.holds) (int a) T (nodes w) p.rest.holds.wf
 
   -- what the targets' choice answered
-  module _ (t : List ℕ) (g : ℕ) (e : int g ≡ onward d (int a) (int c)) (o : Answer) (r : Result w t k (choice (lent v k b) (nodes w) k (target x) (target y) (int g)) o) where
-    answered : (o' : Answer) → o ≡ o' → Result w t k T o'
-    answered o' q =
-        subst (λ (u : Answer). Result w t k T u) q (subst (λ (z : ℤ). Result w t k (choice (lent v k b) (nodes w) k (target x) (target y) z) o) e r)
+  module _ (t : List ℕ) (g : ℕ) (e : int g ≡ onward d (int a) (int c)) where
+    answered : (o : Option Arm) → Result w t k (choice (lent v k b) (nodes w) k (target x) (target y) (int g)) o → Result w t k T o
+    answered o r = subst (λ (z : ℤ). Result w t k (choice (lent v k b) (nodes w) k (target x) (target y) z) o) e r
 
     -- the sum has a word
-    pub sum_fits : (z h : ℕ) → o ≡ Is z h → Fit add_most (int a +ℤ int h)
-    sum_fits z h q =
-        subst (Fit add_most) (ap (λ (u : Built costs). u.0.adds) built_raised ∙ ap (λ (u : Branch costs). int a +ℤ u.adds) (sym (answered (Is z h) q).answers.0)) p.whole
+    pub sum_fits : (h : Arm) → Result w t k (choice (lent v k b) (nodes w) k (target x) (target y) (int g)) (Some h) → Fit add_most (int a +ℤ int h.adds)
+    sum_fits h r =
+        subst (Fit add_most) (ap (λ (u : Built costs). u.0.adds) built_raised ∙ ap (λ (u : Branch costs). int a +ℤ u.adds) (sym (answered (Some h) r).answers.0)) p.whole
 
-    pub choice_raised : (z h f : ℕ) → o ≡ Is z h → int f ≡ int a +ℤ int h → Result w t k B (Is z f)
-    choice_raised z h f q l =
-        let u = answered (Is z h) q in
-        F.gives_eq lawful built_raised (record { grown = u.grown; answers = ((λ i. record { adds = l i; to = target z }) ∙ ap (up (int a)) u.answers.0, u.answers.1) })
+    pub choice_raised : (h : Arm) (f : ℕ) → Result w t k (choice (lent v k b) (nodes w) k (target x) (target y) (int g)) (Some h) → int f ≡ int a +ℤ int h.adds →
+        Result w t k B (Some (record { to = h.to; adds = f }))
+    choice_raised h f r l =
+        let u = answered (Some h) r in
+        F.gives_eq lawful built_raised (record { grown = u.grown; answers = ((λ i. record { adds = l i; to = target h.to }) ∙ ap (up (int a)) u.answers.0, u.answers.1) })
 
-    pub choice_stopped : o ≡ NoRoom → Result w t k B NoRoom
-    choice_stopped q = let u = answered NoRoom q in F.gives_eq lawful built_raised (record { grown = u.grown; answers = u.answers })
+    pub choice_stopped : Result w t k (choice (lent v k b) (nodes w) k (target x) (target y) (int g)) None → Result w t k B None
+    choice_stopped r = let u = answered None r in F.gives_eq lawful built_raised (record { grown = u.grown; answers = u.answers })
 
 -- ---- at the start
 no_more : (d c : ℤ) → d ≡ pos 0 → d +ℤ c ≡ c
@@ -305,7 +302,7 @@ module _ (v w : List ℕ) (b x a y c : ℕ) (p : Choosable v w b (branch x a) (b
             (wide (X (zeros (sizes w))).off ((chosen_within p.first.within p.second.within (lent v 0 b)).fits (zeros (sizes w)) (zeros_valid (sizes w) ps))));
       }
 
-  pub choice_start : (d : ℤ) → d ≡ pos 0 → (t : List ℕ) (r : Answer) → Result w t 0 (choice_of (lent v 0 b) (nodes w) 0 (branch x a) (branch y c) d) r → Result w t 0 X r
+  pub choice_start : (d : ℤ) → d ≡ pos 0 → (t : List ℕ) (r : Option Arm) → Result w t 0 (choice_of (lent v 0 b) (nodes w) 0 (branch x a) (branch y c) d) r → Result w t 0 X r
   choice_start d e t r q = F.gives_eq lawful (built_start d e) q
 
 -- from rest the walk starts with the words without notes, which are those of the table ..
@@ -313,7 +310,7 @@ pub choosable_plain : (v w t : List ℕ) (b : ℕ) (x y : Branch costs) → Choo
 choosable_plain v w t b x y p e = subst (λ (u : List ℕ). Choosable v u b x y) (sym (e ∙ plain_of w p.first.rest.empty)) p
 
 -- .. and its result, with the far records 0 again, is that of the table
-pub choice_cleared : (v w t' t u : List ℕ) (b : ℕ) (x y : Branch costs) (r : Answer) → Resting w → plain t' ≡ plain w → u ≡ plain t
+pub choice_cleared : (v w t' t u : List ℕ) (b : ℕ) (x y : Branch costs) (r : Option Arm) → Resting w → plain t' ≡ plain w → u ≡ plain t
     → Result (plain t') (plain t) 0 (chosen (lent v 0 b) (meaning (nodes (plain t')) x) (meaning (nodes (plain t')) y)) r →
     Result w u 0 (chosen (lent v 0 b) (meaning (nodes w) x) (meaning (nodes w) y)) r
 choice_cleared v w t' t u b x y r z q e g =

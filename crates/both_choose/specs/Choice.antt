@@ -9,8 +9,7 @@ use Rattle.theory_costs.specs.Relative.{apart_from, onward}
 use Rattle.rule_lending.specs.Lending.{Lent, lent}
 use Rattle.cost_notes.specs.Operand.{Operand}
 use Rattle.cost_nodes.specs.Nodes.{Holds, Good, built, top}
-use Rattle.cost_nodes.specs.declared.Answer.{Answer}
-use Rattle.cost_nodes.specs.declared.Answer.TheVariants.{Is}
+use Rattle.cost_words.specs.declared.Arm.{Arm}
 use Rattle.promises.specs.Integers.{Fit, int}
 use Rattle.promises.specs.CostOperations.{chosen_of}
 use Rattle.promises.specs.Range.{add_most, cost_most}
@@ -37,9 +36,9 @@ unfoldable pub choice_of : Rule → List (Node costs) → ℕ → Branch costs �
 choice_of g N k b c d = λ s. lift b.adds (choice g N k b.to c.to (onward d b.adds c.adds) s)
 
 -- the words of the choice where the rule has ended with a number: the first target, or where it is 0 the second with d on it
-abbrev pub end_of : ℕ → ℕ → ℕ → ℕ → Answer
-end_of zero x y d = Is y d
-end_of (suc n) x y d = Is x 2147483648
+abbrev pub end_of : ℕ → ℕ → ℕ → ℕ → Arm
+end_of zero x y d = record { to = y; adds = d }
+end_of (suc n) x y d = record { to = x; adds = 2147483648 }
 
 -- a branch word b of the rule table v and two target words of the cost table w, where features k and up are left
 pub record Choices (v w : List ℕ) (k b x y : ℕ) (d : ℤ) : Type 0 where

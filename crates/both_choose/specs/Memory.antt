@@ -1,12 +1,10 @@
 -- Contract between layers: what is remembered of CHOOSE: under the tag of a feature and a branch of the rule, two targets and their difference, the result's words. Assumes nothing.
-use Rattle.std.specs.Prelude.{Bool, true, false, ◌≡◌, List, ℕ, ◌+◌, ◌*◌, ◌<◌, drop}
+use Rattle.std.specs.Prelude.{Option, None, Some, ◌≡◌, List, ℕ, ◌+◌, ◌*◌, ◌<◌, drop}
 use Rattle.theory.specs.WellFormed.{Mean}
 use Rattle.table_words.specs.Words.{listed}
 use Rattle.table_memory.specs.Memory as M
 use Rattle.rule_lending.specs.Lending.{lent, key_of}
 use Rattle.cost_nodes.specs.Nodes.{Good}
-use Rattle.cost_nodes.specs.declared.Answer.{Answer}
-use Rattle.cost_nodes.specs.declared.Answer.TheVariants.{Is, NoRoom}
 use Rattle.both_choose.specs.Choice.{choice}
 use Rattle.promises.specs.Integers.{int}
 use Rattle.promises.specs.Words.{sizes}
@@ -31,10 +29,6 @@ abbrev pub Noted : List ℕ → List ℕ → List ℕ → Type 0
 Noted v w s = M.Noted 4 (Says v) w s
 
 -- as it is after a call that had room
-abbrev pub Still : List ℕ → List ℕ → List ℕ → Answer → Type 0
-Still v w s (Is z e) = Noted v w s
-Still v w s NoRoom = Unit {0}
-
-abbrev pub StillIf : List ℕ → List ℕ → List ℕ → Bool → Type 0
-StillIf v w s true = Noted v w s
-StillIf v w s false = Unit {0}
+abbrev pub Still : {A : Type 0} → List ℕ → List ℕ → List ℕ → Option A → Type 0
+Still v w s (Some a) = Noted v w s
+Still v w s None = Unit {0}

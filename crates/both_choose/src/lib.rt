@@ -6,35 +6,27 @@ ghost use Rattle.theory.specs.Diagrams.{meaning};
 ghost use Rattle.table_records.specs.Laid.{Laid};
 ghost use Rattle.table_notes.specs.Plain.{plain};
 ghost use Rattle.rule_lending.specs.Lending.{lent, Lends, key_of, keys};
-ghost use Rattle.cost_nodes.specs.Nodes.{Result, Empty, Fills};
+ghost use Rattle.cost_nodes.specs.Nodes.{Result, Fills};
 ghost use Rattle.both_choose.specs.Choice.{Choosable, choice, choice_of, end_of, Choices, Branches, Lowest};
-ghost use Rattle.both_choose.specs.Memory.{tag_of, Noted, Still, StillIf};
+ghost use Rattle.both_choose.specs.Memory.{tag_of, Noted, Still};
 ghost use Rattle.promises.specs.Integers.{int};
 ghost use Rattle.promises.specs.CostOperations.{chosen};
 ghost use Rattle.promises.specs.Words.{features, count};
 ghost use Rattle.promises.specs.CostWords.{target, cost_branch as branch, cost_node_list as nodes};
 
-use cost_nodes::{Answer, Arm};
+use cost_nodes::Arm;
 use cost_notes::{CHOOSE, arm_in, lowest, make_in, recall_in, remember_in};
 use cost_words::{ZERO, difference_word, sum_word};
 use rule_lending::{branch_at, is_number, key_of, number_of, top_at};
-use table_memory::Memo;
 use table_notes::{begin, clear, clear_far, clear_window};
-use table_words::{capacity_word, narrow, size_word, wide};
-
-// The smaller of two features.
-fn lower(a: usize, b: usize) -> usize
-    ensures { (result ≤ a) × (result ≤ b) }
-{
-    if a < b { a } else { b }
-}
+use table_words::{capacity_word, size_word};
 
 // The lowest feature that the rule's branch or one of two targets tests.
 fn lowest_of(r: &[u32], t: &[u32], b: u32, x: u32, y: u32) -> usize
     requires { (Lends r.now b) × (Laid (plain t.now)) × (x ≤ count (plain t.now)) × (y ≤ count (plain t.now)) }
     ensures { Lowest r.now (plain t.now) b x y result }
 {
-    lower(top_at(r, b), lowest(t, x, y))
+    top_at(r, b).min(lowest(t, x, y))
 }
 
 // The tag that the results for feature k and the rule's branch b are remembered under.
@@ -42,20 +34,22 @@ fn tag_of(k: usize, b: u32) -> u32
     requires { (k < 16) × (key_of b < keys) }
     ensures { result ≡ tag_of k b }
 {
-    narrow(k + 1) + 32 * key_of(b)
+    (k + 1) as u32 + 32 * key_of(b)
 }
 
 // Where the rule has ended with the number n: the first target, or where n is 0 the second with d on it.
-fn ended(n: u32, x: u32, y: u32, d: u32) -> Answer
+fn ended(n: u32, x: u32, y: u32, d: u32) -> Arm
     ensures { result ≡ end_of n x y d }
 {
     if n == 0 {
-        return Answer::Is(y, d);
+        Arm { to: y, adds: d }
+    } else {
+        Arm { to: x, adds: ZERO }
     }
-    Answer::Is(x, ZERO)
 }
 
-// The choice of two targets from feature k on, where the second has d more on it: one node's result. Where the rule has ended it is there already.
+// The choice of two targets from feature k on, where the second has d more on it: one node's result, None where there is no room. Where the rule has ended it
+// is there already.
 #[cycle(branch_result_fill_branches_rest_result)]
 fn rest_result(
     r: &[u32],
@@ -66,39 +60,29 @@ fn rest_result(
     x: u32,
     y: u32,
     d: u32,
-) -> Answer
+) -> Option<Arm>
     requires { (Choices r.now (plain t.old) k b x y (int d)) × (Noted r.now t.old s.old) }
     ensures { (Result (plain t.old) (plain t.new) k
         (choice (lent r.now k b) (nodes (plain t.old)) k (target x) (target y) (int d)) result) × (Still r.now t.new s.new result) }
 {
     if is_number(b) {
-        return ended(number_of(b), x, y, d);
+        return Some(ended(number_of(b), x, y, d));
     }
     let m = lowest_of(r, t, b, x, y);
     if k < m {
-        let Answer::Is(z, e) = rest_result(r, t, s, m, b, x, y, d) else {
-            return Answer::NoRoom;
-        };
-        return Answer::Is(z, e);
+        return rest_result(r, t, s, m, b, x, y, d);
     }
     let tag = tag_of(k, b);
-    let memo = recall_in(t, s, CHOOSE, tag, x, y, d);
-    if let Memo::Known(z, e) = memo {
-        return Answer::Is(z, e);
+    if let Some((to, adds)) = recall_in(t, s, CHOOSE, tag, x, y, d) {
+        return Some(Arm { to, adds });
     }
-    let mut goes = [0u32; 8];
-    let mut adds = [0u32; 8];
-    if fill_branches(r, t, s, k, b, x, y, d, &mut goes, &mut adds) {
-        let Answer::Is(z, e) = make_in(t, k, &goes, &adds) else {
-            return Answer::NoRoom;
-        };
-        remember_in(t, s, CHOOSE, tag, x, y, d, z, e);
-        return Answer::Is(z, e);
-    }
-    Answer::NoRoom
+    let arms = fill_branches(r, t, s, k, b, x, y, d)?;
+    let a = make_in(t, k, &arms)?;
+    remember_in(t, s, CHOOSE, tag, x, y, d, a.to, a.adds);
+    Some(a)
 }
 
-// Lays its branches into two empty lists: the results for the values of feature k in turn. False where there was no room for them.
+// Its branches: the results for the values of feature k in turn, or None where there was no room for them.
 #[cycle(branch_result_fill_branches_rest_result)]
 fn fill_branches(
     r: &[u32],
@@ -109,28 +93,20 @@ fn fill_branches(
     x: u32,
     y: u32,
     d: u32,
-    goes: &mut [u32; 8],
-    adds: &mut [u32; 8],
-) -> bool
-    requires { (Choices r.now (plain t.old) k b x y (int d)) × (Noted r.now t.old s.old) × (k < features (plain t.old)) × (Empty goes.old) × (Empty adds.old) }
+) -> Option<[Arm; 8]>
+    requires { (Choices r.now (plain t.old) k b x y (int d)) × (Noted r.now t.old s.old) × (k < features (plain t.old)) }
     ensures { (Fills (plain t.old) (plain t.new) k
-        (choice (lent r.now k b) (nodes (plain t.old)) k (target x) (target y) (int d)) result goes.new adds.new)
-        × (StillIf r.now t.new s.new result) }
+        (choice (lent r.now k b) (nodes (plain t.old)) k (target x) (target y) (int d)) result)
+        × (Still r.now t.new s.new result) }
 {
-    let n = wide(size_word(t, k));
-    let mut v: usize = 0;
-    while v < n {
+    let mut arms = [Arm { to: 0, adds: 0 }; 8];
+    for v in 0..size_word(t, k) as usize {
         let c = branch_at(r, k, b, v);
         let p = arm_in(t, k, x, v);
         let q = arm_in(t, k, y, v);
-        let Answer::Is(z, e) = branch_result(r, t, s, k + 1, c, p, q, d) else {
-            return false;
-        };
-        goes[v] = z;
-        adds[v] = e;
-        v += 1;
+        arms[v] = branch_result(r, t, s, k + 1, c, p, q, d)?;
     }
-    true
+    Some(arms)
 }
 
 // The choice of two branches from feature k on: that of their targets, with what the first adds put before it.
@@ -144,47 +120,45 @@ fn branch_result(
     p: Arm,
     q: Arm,
     d: u32,
-) -> Answer
+) -> Option<Arm>
     requires { (Branches r.now (plain t.old) k b p.to p.adds q.to q.adds (int d)) × (Noted r.now t.old s.old) }
     ensures { (Result (plain t.old) (plain t.new) k
         (choice_of (lent r.now k b) (nodes (plain t.old)) k (branch p.to p.adds) (branch q.to q.adds) (int d)) result)
         × (Still r.now t.new s.new result) }
 {
     let g = difference_word(sum_word(d, q.adds), p.adds);
-    let Answer::Is(z, e) = rest_result(r, t, s, k, b, p.to, q.to, g) else {
-        return Answer::NoRoom;
-    };
-    Answer::Is(z, sum_word(p.adds, e))
+    let rest = rest_result(r, t, s, k, b, p.to, q.to, g)?;
+    Some(Arm {
+        to: rest.to,
+        adds: sum_word(p.adds, rest.adds),
+    })
 }
 
 // The chosen cost of two branches by the rule of the branch b, built after the table's nodes, with remembered results in s or in the far records,
-// which are 0 again.
-fn choose_in(r: &[u32], t: &mut [u32], s: &mut [u32], b: u32, x: Arm, y: Arm) -> Answer
+// which are 0 again; None where there is no room.
+fn choose_in(r: &[u32], t: &mut [u32], s: &mut [u32], b: u32, x: Arm, y: Arm) -> Option<Arm>
     requires { Choosable r.now t.old b (branch x.to x.adds) (branch y.to y.adds) }
     ensures { Result t.old t.new 0
         (chosen (lent r.now 0 b) (meaning (nodes t.old) (branch x.to x.adds)) (meaning (nodes t.old) (branch y.to y.adds))) result }
 {
     let lent = begin(t, s.len());
     clear(&mut s[0..lent]);
-    let Answer::Is(z, e) = branch_result(r, t, &mut s[0..lent], 0, b, x, y, ZERO) else {
+    let Some(a) = branch_result(r, t, &mut s[0..lent], 0, b, x, y, ZERO) else {
         clear_far(t);
-        return Answer::NoRoom;
+        return None;
     };
     clear_window(t);
-    Answer::Is(z, e)
+    Some(a)
 }
 
 // The same; where the scratch and the far records are short, own words stand in for the scratch.
-pub fn choose_costs(r: &[u32], t: &mut [u32], s: &mut [u32], b: u32, x: Arm, y: Arm) -> Answer
+pub fn choose_costs(r: &[u32], t: &mut [u32], s: &mut [u32], b: u32, x: Arm, y: Arm) -> Option<Arm>
     requires { Choosable r.now t.old b (branch x.to x.adds) (branch y.to y.adds) }
     ensures { Result t.old t.new 0
         (chosen (lent r.now 0 b) (meaning (nodes t.old) (branch x.to x.adds)) (meaning (nodes t.old) (branch y.to y.adds))) result }
 {
-    if capacity_word(t) < 384 {
-        if s.len() < 6144 {
-            let mut own = [0u32; 6144];
-            return choose_in(r, t, &mut own, b, x, y);
-        }
+    if capacity_word(t) < 384 && s.len() < 6144 {
+        return choose_in(r, t, &mut [0; 6144], b, x, y);
     }
     choose_in(r, t, s, b, x, y)
 }

@@ -1,13 +1,13 @@
 -- `both_choose::rest_result`, `fill_branches` and `branch_result` meet their contracts: the remaining features fall; the first v branches are filled, and the memory is right for
 -- the table so far. Assumes nothing.
-use Rattle.std.proofs.Common.{length, ◌+◌, ◌-◌, ◌*◌, ◌≤◌, ◌≡◌}
+use Rattle.std.proofs.Common.{◌+◌, ◌-◌, ◌*◌}
 use Rattle.both_choose.specs.Memory.{Noted}
 use Rattle.both_choose.specs.Choice.{choice}
 use Rattle.cost_nodes.specs.Nodes.{Filling}
 use Rattle.table_notes.specs.Plain.{plain}
 use Rattle.rule_lending.specs.Lending.{lent}
 use Rattle.promises.specs.CostWords.{target, cost_node_list as nodes}
-use Rattle.promises.specs.Words.{features, size}
+use Rattle.promises.specs.Words.{features}
 use Rattle.promises.specs.Integers.{int}
 use Rattle.both_choose.proofs.+branch_result_fill_branches_rest_result.Given as goal
 
@@ -22,8 +22,4 @@ decreases-branch_result l = 3 * (features (plain l.t.now) - l.k) + 1
 
 abbrev pub invariant-fill_branches-loop-v : goal.invariant-fill_branches-loop-v
 invariant-fill_branches-loop-v l =
-    (l.n ≡ size (plain l.initial.t) l.k) × (l.v ≤ l.n) × Filling (plain l.initial.t) (plain l.t) l.k
-    (choice (lent l.r l.k l.b) (nodes (plain l.initial.t)) l.k (target l.x) (target l.y) (int l.d)) l.v l.goes l.adds × Noted l.r l.t l.s × (length l.t ≡ length l.initial.t) × (length l.s ≡ length l.initial.s)
-
-abbrev pub decreases-fill_branches-loop-v : goal.decreases-fill_branches-loop-v
-decreases-fill_branches-loop-v l = l.n - l.v
+    Filling (plain l.initial.t) (plain l.t) l.k (choice (lent l.r l.k l.b) (nodes (plain l.initial.t)) l.k (target l.x) (target l.y) (int l.d)) l.v l.arms × Noted l.r l.t l.s

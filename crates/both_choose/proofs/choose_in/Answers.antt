@@ -1,6 +1,5 @@
 -- `both_choose::choose_in` meets its contract: at the beginning nothing is remembered, and with no difference the choice is that of the two costs. Assumes nothing.
 use Rattle.std.proofs.Common.{arith, ◌-◌}
-use Rattle.both_choose.specs.Memory.{Still}
 use Rattle.both_choose.proofs.Walking.{start, choice_start, choosable_plain, choice_cleared}
 use Rattle.table_memory.proofs.Remembering.{noted_none}
 use Rattle.cost_words.proofs.Packing.{int_zero}
@@ -29,13 +28,10 @@ returns-in_default c =
     c.requires.first.rest n.same c.clear_far.ensures
     (choice_start _ _ _ _ _ _ _ (choosable_plain c.args.r.now c.args.t.now _ c.args.b _ _ c.requires n.same) _ int_zero _ w.result w.ensures.0))
 
-pub clear_window-requires : goal.clear_window-requires
-clear_window-requires c = (subst (Still _ _ _) c.in-Is.is c.branch_result.ensures.1).room
-
 pub returns : goal.returns
 returns c =
     let w = c.branch_result in let n = c.begin-lent.ensures in
-    subst (Result _ _ 0 _) c.in-Is.is
+    subst (Result _ _ 0 _) c.in-Some.is
     (choice_cleared c.args.r.now c.args.t.now _ _ _ c.args.b (branch c.args.x.to c.args.x.adds) (branch c.args.y.to c.args.y.adds) w.result
     c.requires.first.rest n.same c.clear_window.ensures
     (choice_start _ _ _ _ _ _ _ (choosable_plain c.args.r.now c.args.t.now _ c.args.b _ _ c.requires n.same) _ int_zero _ w.result w.ensures.0))

@@ -4,4 +4,4 @@ use Rattle.both_choose.proofs.Walking.{lowest_is}
 use Rattle.both_choose.proofs.lowest_of.Goals as goal
 
 pub returns : goal.returns
-returns c = let l = c.lowest.ensures in lowest_is _ _ _ _ _ _ c.top_at.result c.top_at.ensures (omega arith) (omega (arith, l.0)) (omega (arith, l.1))
+returns c = let l = c.lowest.ensures in lowest_is _ _ _ _ _ _ c.top_at.result c.top_at.ensures (omega (arith, c.min.ensures)) (omega (arith, c.min.ensures, l.0)) (omega (arith, c.min.ensures, l.1))
