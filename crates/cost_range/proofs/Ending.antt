@@ -1,6 +1,7 @@
 -- The ends of a cost: of costs that agree, over a feature that it does not look at, value by value, with an offset. Assumes nothing.
+use Rattle.std.specs.Prelude.{Option, Some, None}
 use mathlib.Core.Bool.{Bool, true, false}
-use mathlib.Core.Path.{◌≡◌, refl, sym, ap, subst, ◌∙◌}
+use mathlib.Core.Path.{◌≡◌, sym, ap, subst, ◌∙◌}
 use mathlib.Core.List.{List, ◌∷◌}
 use Prim.Native.Nat.{ℕ, zero, suc, ◌+◌, ◌<◌}
 use native.Mathlib.Numerals.{add-one}
@@ -18,26 +19,25 @@ use Rattle.theory_costs.proofs.Relative.{offs}
 use Rattle.theory_costs.proofs.Spreads.{within_agree, spread_agree, spread_held, spread_lower}
 use Rattle.cost_words.specs.Sums.{Stands}
 use Rattle.cost_words.proofs.Summing.{way}
-use Rattle.cost_range.specs.Ends.{Spans, Reaches, Furthest, Folded}
-use Rattle.cost_range.specs.declared.Ends.{Ends}
-use Rattle.cost_range.specs.declared.Ends.TheVariants.{Are, Lost}
+use Rattle.cost_range.specs.Ends.{Spans, Reaches, Furthest, Folded, Folds}
+use Rattle.cost_words.specs.declared.sides.Span.{Span}
 use Rattle.promises.specs.CostSound.{across, extreme, side_of}
 use Rattle.promises.specs.Integers.{Fit, int}
 use Rattle.promises.specs.CostOperations.{smaller_of, larger_of}
 use Rattle.promises.specs.Range.{Within, add_most}
 
 -- ---- an answer by its case
-pub ends_are : {ns : List ℕ} {f : Cost} {l h : ℕ} (r : Ends) → r ≡ Are l h → Reaches ns f r → Spans ns f l h
+pub ends_are : {ns : List ℕ} {f : Cost} {a : Span} (r : Option Span) → r ≡ Some a → Reaches ns f r → Spans ns f a.low a.high
 ends_are {ns} {f} r e q = subst (Reaches ns f) e q
 
-pub ends_lost : {ns : List ℕ} {f : Cost} (r : Ends) → r ≡ Lost → Reaches ns f r → Reaches ns f Lost
+pub ends_lost : {ns : List ℕ} {f : Cost} (r : Option Span) → r ≡ None → Reaches ns f r → Reaches ns f None
 ends_lost {ns} {f} r e q = subst (Reaches ns f) e q
 
 -- ---- costs that agree
-pub reaches_agree : (ns : List ℕ) (f g : Cost) → Agree ns f g → (r : Ends) → Reaches ns g r → Reaches ns f r
-reaches_agree ns f g e (Are l h) q =
+pub reaches_agree : (ns : List ℕ) (f g : Cost) → Agree ns f g → (r : Option Span) → Reaches ns g r → Reaches ns f r
+reaches_agree ns f g e (Some a) q =
     record { lowest = q.lowest ∙ sym (extreme_agree smaller_of ns f g e); highest = q.highest ∙ sym (extreme_agree larger_of ns f g e) }
-reaches_agree ns f g e Lost q = λ p w. q (spread_agree (λ s x. sym (e s x)) p) (within_agree (λ s x. sym (e s x)) w)
+reaches_agree ns f g e None q = λ p w. q (spread_agree (λ s x. sym (e s x)) p) (within_agree (λ s x. sym (e s x)) w)
 
 -- ---- one feature
 module _ (n : ℕ) (ns : List ℕ) (f : Cost) where
@@ -45,14 +45,14 @@ module _ (n : ℕ) (ns : List ℕ) (f : Cost) where
   within_held v h w = record { fits = λ s x. w.fits (v ∷ s) (h, x) }
 
   -- what is lost at a value is lost
-  pub lost_held : (v : ℕ) → v < n → Reaches ns (held v f) Lost → Reaches (n ∷ ns) f Lost
+  pub lost_held : (v : ℕ) → v < n → Reaches ns (held v f) None → Reaches (n ∷ ns) f None
   lost_held v h q = λ p w. q (spread_held f v h p) (within_held v h w)
 
   -- a feature that the cost does not look at
-  pub reaches_wait : (g : Cost) → 0 < n → ((v : ℕ) → v < n → Agree ns (held v f) g) → (r : Ends) → Reaches ns g r → Reaches (n ∷ ns) f r
-  reaches_wait g h e (Are l u) q =
+  pub reaches_wait : (g : Cost) → 0 < n → ((v : ℕ) → v < n → Agree ns (held v f) g) → (r : Option Span) → Reaches ns g r → Reaches (n ∷ ns) f r
+  reaches_wait g h e (Some a) q =
       record { lowest = q.lowest ∙ sym (extreme_wait low n ns h f g e); highest = q.highest ∙ sym (extreme_wait high n ns h f g e) }
-  reaches_wait g h e Lost q = lost_held 0 h (reaches_agree ns (held 0 f) g (e 0 h) Lost q)
+  reaches_wait g h e None q = lost_held 0 h (reaches_agree ns (held 0 f) g (e 0 h) None q)
 
   -- all values are passed
   pub folded_all : (l u : ℕ) → 0 < n → Folded false ns f n l → Folded true ns f n u → Spans (n ∷ ns) f l u
@@ -60,21 +60,36 @@ module _ (n : ℕ) (ns : List ℕ) (f : Cost) where
       record { lowest = a.folded h ∙ sym (extreme_cons smaller_of n ns f); highest = b.folded h ∙ sym (extreme_cons larger_of n ns f) }
 
 module _ (up : Bool) (ns : List ℕ) (f : Cost) where
-  pub folded_none : (a : ℕ) → Folded up ns f 0 a
-  folded_none a = record { folded = λ h. absurd (omega arith) }
-
   abbrev each : ℕ → ℤ
   each u = extreme (side_of up) ns (held u f)
 
-  -- one value more
-  pub folded_more : (v a b r : ℕ) → Folded up ns f v a → int b ≡ extreme (side_of up) ns (held v f) → Furthest up v a b r → Folded up ns f (v + 1) r
-  folded_more zero a b r p e q = record { folded = λ h. ap int (q.first refl) ∙ e ∙ sym (across_one (side_of up) each) }
-  folded_more (suc v) a b r p e q =
+  -- the first value, and one more
+  folded_one : (b : ℕ) → int b ≡ extreme (side_of up) ns (held 0 f) → Folded up ns f 1 b
+  folded_one b e = record { folded = λ h. e ∙ sym (across_one (side_of up) each) }
+
+  folded_more : (v a b r : ℕ) → 0 < v → Folded up ns f v a → int b ≡ extreme (side_of up) ns (held v f) → int r ≡ side_of up (int a) (int b) → Folded up ns f (v + 1) r
+  folded_more zero a b r h p e q = absurd (omega arith)
+  folded_more (suc v) a b r h p e q =
       record {
         folded =
-            λ h. q.more (omega arith) ∙ (λ i. side_of up (p.folded (omega arith) i) (e i))
+            λ h. q ∙ (λ i. side_of up (p.folded (omega arith) i) (e i))
             ∙ sym (ap (across (side_of up) each) (add-one (suc v)) ∙ across_more (side_of up) each v);
       }
+
+-- one value more on both sides
+pub folds_more : (ns : List ℕ) (f : Cost) (v : ℕ) (a : Option Span) (b r : Span) → Folds ns f v a → Spans ns (held v f) b.low b.high → Furthest a b r → Folds ns f (v + 1) (Some r)
+folds_more ns f v (Some a) b r p q h = (
+  omega arith,
+  folded_more false ns f v a.low b.low r.low p.0 p.1 q.lowest (h.wider false),
+  folded_more true ns f v a.high b.high r.high p.0 p.2 q.highest (h.wider true),
+)
+folds_more ns f v None b r p q h =
+    let g : Folds ns f 1 (Some b) = (
+      omega arith,
+      folded_one false ns f b.low (subst (λ (u : ℕ). int b.low ≡ extreme (side_of false) ns (held u f)) p q.lowest),
+      folded_one true ns f b.high (subst (λ (u : ℕ). int b.high ≡ extreme (side_of true) ns (held u f)) p q.highest),
+    ) in
+    rw (h, p) g
 
 -- ---- an offset: f has c on g, which is 0 where all features are 0
 module _ (ns : List ℕ) (ps : Pos ns) (c : ℤ) (g f : Cost) (z : (g (zeros ns)).off ≡ pos 0) (e : Agree ns f (λ s. lift c (g s))) where
@@ -88,11 +103,11 @@ module _ (ns : List ℕ) (ps : Pos ns) (c : ℤ) (g f : Cost) (z : (g (zeros ns)
       }
 
   -- the offset is lost
-  pub base_lost : (r : ℕ) → r ≡ 0 → Stands c r → Reaches ns f Lost
-  base_lost r h q = λ p w. q.lost h (subst (Fit add_most) (offs (e (zeros ns) (zeros_valid ns ps)) ∙ ap (λ (y : ℤ). c +ℤ y) z ∙ +ℤ_idr c) (w.fits (zeros ns) (zeros_valid ns ps)))
+  pub base_lost : Stands c None → Reaches ns f None
+  base_lost q = λ p w. q (subst (Fit add_most) (offs (e (zeros ns) (zeros_valid ns ps)) ∙ ap (λ (y : ℤ). c +ℤ y) z ∙ +ℤ_idr c) (w.fits (zeros ns) (zeros_valid ns ps)))
 
   -- what is below it is lost
-  pub rest_lost : Reaches ns g Lost → Reaches ns f Lost
+  pub rest_lost : Reaches ns g None → Reaches ns f None
   rest_lost q = λ p w. q (spread_under p) (within_under p)
 
   module _ (up : Bool) (b l : ℕ) (eb : int b ≡ c) (el : int l ≡ extreme (side_of up) ns g) where
@@ -100,9 +115,9 @@ module _ (ns : List ℕ) (ps : Pos ns) (c : ℤ) (g f : Cost) (z : (g (zeros ns)
     end_sum = (λ i. eb i +ℤ el i) ∙ sym (extreme_agree (side_of up) ns f (λ s. lift c (g s)) e ∙ extreme_lift (way up) ns ps c g)
 
     -- their sum is lost, ..
-    pub end_lost : (r : ℕ) → r ≡ 0 → Stands (int b +ℤ int l) r → Reaches ns f Lost
-    end_lost r h q = λ p w. q.lost h (subst (Fit add_most) (sym end_sum) (extreme_fits (way up) ns ps f w))
+    pub end_lost : Stands (int b +ℤ int l) None → Reaches ns f None
+    end_lost q = λ p w. q (subst (Fit add_most) (sym end_sum) (extreme_fits (way up) ns ps f w))
 
     -- .. or has a word
-    pub end_stands : (r : ℕ) → 0 < r → Stands (int b +ℤ int l) r → int r ≡ extreme (side_of up) ns f
-    end_stands r h q = q.stands h ∙ end_sum
+    pub end_stands : (r : ℕ) → Stands (int b +ℤ int l) (Some r) → int r ≡ extreme (side_of up) ns f
+    end_stands r q = q ∙ end_sum

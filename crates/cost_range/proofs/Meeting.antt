@@ -1,8 +1,9 @@
 -- Two costs by their ends: no amount of both together lies further out than their ends meet, and where one of two targets is the end, one lies there. Assumes nothing.
+use Rattle.std.specs.Prelude.{Option, Some, None}
 use mathlib.Core.Bool.{Bool, true, false, not}
 use mathlib.Core.Path.{◌≡◌, refl, sym, ap, ap₂, subst, ◌∙◌}
 use mathlib.Core.List.{List}
-use Prim.Native.Nat.{ℕ, ◌<◌}
+use Prim.Native.Nat.{ℕ}
 use native.Mathlib.Nat.{le_refl}
 use native.Mathlib.Omega.{arith}
 use lib.IntN.{ℤ, pos, ◌+ℤ◌, ◌-ℤ◌, +ℤ_idl, +ℤ_idr}
@@ -24,8 +25,7 @@ use Rattle.cost_words.proofs.Summing.{OrderOf, way}
 use Rattle.cost_nodes.specs.Nodes.{Good}
 use Rattle.cost_nodes.proofs.Reading.{pos_from, holds_passed}
 use Rattle.cost_range.specs.Ends.{tie_of, facing, Spans, Reaches, Inside, meeting, Meeting, Pair, of_targets}
-use Rattle.cost_range.specs.declared.Ends.{Ends}
-use Rattle.cost_range.specs.declared.Ends.TheVariants.{Are, Lost}
+use Rattle.cost_words.specs.declared.sides.Span.{Span}
 use Rattle.promises.specs.CostSound.{extreme, from, kept, side_of}
 use Rattle.promises.specs.Integers.{Fit, int}
 use Rattle.promises.specs.CostOperations.{joined}
@@ -52,16 +52,17 @@ tie_zero true a = minus_zero a
 tie_zero false a = +ℤ_idr a
 
 -- ---- words of what the ends give
-module _ (minus up : Bool) (l h x y c d r : ℕ) (ec : c ≡ end_of up l h) where
+module _ (minus up : Bool) (l h x y c d : ℕ) (r : Option ℕ) (ec : c ≡ end_of up l h) where
   pub met_minus : minus ≡ true → d ≡ end_of (not up) x y → Stands (tie_of true (int c) (int d)) r → Stands (meeting minus up l h x y) r
   met_minus e ed s = rw e (subst (λ (z : ℤ). Stands z r) (ap₂ (λ (p q : ℕ). int p -ℤ int q) ec ed) s)
 
   pub met_plus : minus ≡ false → d ≡ end_of up x y → Stands (tie_of false (int c) (int d)) r → Stands (meeting minus up l h x y) r
   met_plus e ed s = rw e (subst (λ (z : ℤ). Stands z r) (ap₂ (λ (p q : ℕ). int p +ℤ int q) ec ed) s)
 
-pub met_both : (minus : Bool) (l h x y u v : ℕ) → 0 < u → 0 < v → Stands (meeting minus false l h x y) u → Stands (meeting minus true l h x y) v → Meeting minus l h x y (Are u v)
-met_both minus l h x y u v zu zv su sv true = sv.stands zv
-met_both minus l h x y u v zu zv su sv false = su.stands zu
+pub met_both : (minus : Bool) (l h x y u v : ℕ) → Stands (meeting minus false l h x y) (Some u) → Stands (meeting minus true l h x y) (Some v)
+    → Meeting minus l h x y (Some (record { low = u; high = v }))
+met_both minus l h x y u v su sv true = sv
+met_both minus l h x y u v su sv false = su
 
 -- ---- any two costs
 -- an end's word, as a side's extreme
@@ -79,16 +80,16 @@ module _ (minus : Bool) (ns : List ℕ) (f g : Cost) (l h x y : ℕ) (p : (up : 
       (subst (λ (z : ℤ). OrderOf (facing minus up) z (g s).off) (sym (q (facing minus up))) (extreme_beats (way (facing minus up)) ns g s v))
 
   -- so where the ends meet in range, all amounts lie there
-  pub met_within : (e : Ends) → Meeting minus l h x y e → Inside e → Within cost_most ns (joined (tie_of minus) f g)
-  met_within Lost m i = absurd i
-  met_within (Are u w) m i =
+  pub met_within : (e : Option Span) → Meeting minus l h x y e → Inside e → Within cost_most ns (joined (tie_of minus) f g)
+  met_within None m i = absurd i
+  met_within (Some c) m i =
       record {
         fits = λ s v.
-            let a : int u ≤ℤ (joined (tie_of minus) f g s).off = subst (λ (z : ℤ). z ≤ℤ (joined (tie_of minus) f g s).off) (sym (m false)) (met_beats false s v) in
-            let b : (joined (tie_of minus) f g s).off ≤ℤ int w = subst (λ (z : ℤ). (joined (tie_of minus) f g s).off ≤ℤ z) (sym (m true)) (met_beats true s v) in
+            let a : int c.low ≤ℤ (joined (tie_of minus) f g s).off = subst (λ (z : ℤ). z ≤ℤ (joined (tie_of minus) f g s).off) (sym (m false)) (met_beats false s v) in
+            let b : (joined (tie_of minus) f g s).off ≤ℤ int c.high = subst (λ (z : ℤ). (joined (tie_of minus) f g s).off ≤ℤ z) (sym (m true)) (met_beats true s v) in
             record {
-              top = rise_near (joined (tie_of minus) f g s).off (omega (arith, le_ℕ b, int_ℕ w, i.1));
-              bottom = fall_near (joined (tie_of minus) f g s).off (omega (arith, le_ℕ a, int_ℕ u, i.0));
+              top = rise_near (joined (tie_of minus) f g s).off (omega (arith, le_ℕ b, int_ℕ c.high, i.1));
+              bottom = fall_near (joined (tie_of minus) f g s).off (omega (arith, le_ℕ a, int_ℕ c.low, i.0));
             };
       }
 
@@ -140,12 +141,12 @@ module _ (w : List ℕ) (k x y : ℕ) (p : Pair w k x y) where
           takes = ap₂ (λ (c d : ℤ). tie_of minus c d) (a.keeps up ∙ ended_kept x e up ∙ sym (ended_from x e t.setting)) (keeps_side y m n p.second b (facing minus up) ∙ t.takes);
         }
 
-    met_exact : ((up : Bool) → Taken ns (of_targets minus w k x y) (meeting minus up l h m n)) → (e : Ends) → ((up : Bool) → Fit add_most (meeting minus up l h m n))
+    met_exact : ((up : Bool) → Taken ns (of_targets minus w k x y) (meeting minus up l h m n)) → (e : Option Span) → ((up : Bool) → Fit add_most (meeting minus up l h m n))
         → Meeting minus l h m n e → Reaches ns (of_targets minus w k x y) e
-    met_exact t Lost f q = absurd (q f)
-    met_exact t (Are u v) f q = record { lowest = side false; highest = side true }
+    met_exact t None f q = absurd (q f)
+    met_exact t (Some c) f q = record { lowest = side false; highest = side true }
       where
-        side : (up : Bool) → int (end_of up u v) ≡ extreme (side_of up) ns (of_targets minus w k x y)
+        side : (up : Bool) → int (end_of up c.low c.high) ≡ extreme (side_of up) ns (of_targets minus w k x y)
         side up = q up ∙ extreme_is (way up) ns (pos_from w k p.holds) (of_targets minus w k x y) (meeting minus up l h m n) (beats up) (t up)
 
     -- 0 and what fits
@@ -164,8 +165,8 @@ module _ (w : List ℕ) (k x y : ℕ) (p : Pair w k x y) where
         zero_tie false z f = subst (Fit add_most) (sym (+ℤ_idl z)) f
 
     -- THE WALK STOPS: the ends meet at some setting
-    pub second_ended : y ≡ 0 → (e : Ends) → Meeting minus l h m n e → Reaches ns (of_targets minus w k x y) e
+    pub second_ended : y ≡ 0 → (e : Option Span) → Meeting minus l h m n e → Reaches ns (of_targets minus w k x y) e
     second_ended z e q = met_exact (second_taken z) e (second_fits z) q
 
-    pub first_ended : x ≡ 0 → (e : Ends) → Meeting minus l h m n e → Reaches ns (of_targets minus w k x y) e
+    pub first_ended : x ≡ 0 → (e : Option Span) → Meeting minus l h m n e → Reaches ns (of_targets minus w k x y) e
     first_ended z e q = met_exact (first_taken z) e (first_fits z) q

@@ -1,4 +1,5 @@
 -- The walk on a table that is the same without notes: one result more, a step; and the whole walk at rest. Assumes nothing.
+use Rattle.std.specs.Prelude.{Option}
 use mathlib.Core.Bool.{Bool}
 use mathlib.Core.Path.{◌≡◌, ap, subst, ◌∙◌}
 use mathlib.Core.List.{List}
@@ -13,7 +14,7 @@ use Rattle.table_memory.specs.Memory.{Stored}
 use Rattle.table_memory.proofs.Remembering.{noted_stored}
 use Rattle.cost_nodes.specs.Nodes.{Place}
 use Rattle.cost_range.specs.Ends.{Reaches, Pair, of_targets, of_branches, Right, Noted}
-use Rattle.cost_range.specs.declared.Ends.{Ends}
+use Rattle.cost_words.specs.declared.sides.Span.{Span}
 use Rattle.cost_range.proofs.Walking.{first_place, second_place, pair_step, branches_at}
 use Rattle.promises.specs.Words.{features, size, sizes}
 use Rattle.promises.specs.CostWords.{target, cost_branch as branch, cost_node_list as nodes}
@@ -44,7 +45,7 @@ module _ {w u : List ℕ} (e : u ≡ w) (k x y : ℕ) (p : Pair w k x y) (hk : k
     pub step_over : Pair u (k + 1) xa yb
     step_over = rw e (pair_step w k x y p v xa a yb b hk first_arm second_arm)
 
-    pub branches_over : (minus : Bool) (r : Ends) → Reaches (drop (k + 1) (sizes u)) (of_branches minus u (k + 1) xa a yb b) r → Reaches (drop (k + 1) (sizes w)) (held v (of_targets minus w k x y)) r
+    pub branches_over : (minus : Bool) (r : Option Span) → Reaches (drop (k + 1) (sizes u)) (of_branches minus u (k + 1) xa a yb b) r → Reaches (drop (k + 1) (sizes w)) (held v (of_targets minus w k x y)) r
     branches_over minus r q =
         branches_at w k x y p minus v xa a yb b first_arm second_arm r
         (subst (λ (z : List ℕ). Reaches (drop (k + 1) (sizes z)) (of_branches minus z (k + 1) xa a yb b) r) e q)
@@ -61,5 +62,5 @@ module _ (t t' : List ℕ) (r : Resting t) (q : plain t' ≡ plain t) where
   pub rest_again : (u v : List ℕ) → plain u ≡ plain t' → v ≡ plain u → v ≡ t
   rest_again u v e f = f ∙ e ∙ at_rest
 
-  pub rest_reaches : (minus : Bool) (x a y b : ℕ) (o : Ends) → Reaches (drop 0 (sizes (plain t'))) (of_branches minus (plain t') 0 x a y b) o → Reaches (sizes t) (of_branches minus t 0 x a y b) o
+  pub rest_reaches : (minus : Bool) (x a y b : ℕ) (o : Option Span) → Reaches (drop 0 (sizes (plain t'))) (of_branches minus (plain t') 0 x a y b) o → Reaches (sizes t) (of_branches minus t 0 x a y b) o
   rest_reaches minus x a y b o z = subst (λ (w : List ℕ). Reaches (sizes w) (of_branches minus w 0 x a y b) o) at_rest z

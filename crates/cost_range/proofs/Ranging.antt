@@ -1,10 +1,13 @@
 -- RANGE from the ends of a cost; scaled costs; what each operation asks and tells. Assumes nothing.
+use Rattle.std.specs.Prelude.{Option, Some, None}
 use mathlib.Core.Bool.{Bool}
 use mathlib.Core.Path.{◌≡◌, sym, ap, subst, ◌∙◌}
 use mathlib.Core.List.{List}
-use Prim.Native.Nat.{ℕ, ◌+◌, ◌-◌, ◌*◌, ◌≤◌, ◌<◌}
+use Prim.Native.Nat.{ℕ, ◌+◌, ◌-◌, ◌*◌, ◌≤◌}
 use native.Mathlib.Nat.{add-mul, mul-add, mul-le-mul_left, mul-le-mul_right}
 use native.Mathlib.Omega.{arith}
+use mathlib.Core.Logic.{⊎_elim}
+use Rattle.table_words.proofs.Tab.{split}
 use lib.Dec.{leb}
 use lib.IntN.{ℤ, pos, negsuc, ◌+ℤ◌, ◌*ℤ◌}
 use Rattle.theory.specs.Costs.{Cost, costs}
@@ -29,8 +32,7 @@ use Rattle.cost_engine.specs.declared.operators.Operator.TheVariants.{Scale}
 use Rattle.cost_engine.proofs.Operating.{below, above}
 use Rattle.cost_range.specs.Ends.{Spans, Reaches, Inside, Pair}
 use Rattle.cost_range.specs.Operable.{Factored, Operable}
-use Rattle.cost_range.specs.declared.Ends.{Ends}
-use Rattle.cost_range.specs.declared.Ends.TheVariants.{Are, Lost}
+use Rattle.cost_words.specs.declared.sides.Span.{Span}
 use Rattle.promises.specs.CostSound.{extreme, kept, side_of}
 use Rattle.promises.specs.Integers.{rise, fall, Fit, int}
 use Rattle.promises.specs.CostOperations.{scaled}
@@ -40,20 +42,20 @@ use Rattle.promises.specs.CostWords.{target, cost_branch as branch, cost_node_li
 
 -- ---- a cost in range has its ends there, and no other has
 module _ (ns : List ℕ) (ps : Pos ns) (f : Cost) where
-  inside_within : (e : Ends) → Reaches ns f e → Inside e → Within cost_most ns f
-  inside_within Lost q i = absurd i
-  inside_within (Are l h) q i =
+  inside_within : (e : Option Span) → Reaches ns f e → Inside e → Within cost_most ns f
+  inside_within None q i = absurd i
+  inside_within (Some c) q i =
       (within_exactly cost_most ns ps f).1
-      (rw (← q.lowest) (fall_near (int l) (omega (arith, int_ℕ l, i.0))), rw (← q.highest) (rise_near (int h) (omega (arith, int_ℕ h, i.1))))
+      (rw (← q.lowest) (fall_near (int c.low) (omega (arith, int_ℕ c.low, i.0))), rw (← q.highest) (rise_near (int c.high) (omega (arith, int_ℕ c.high, i.1))))
 
-  within_inside : (e : Ends) → Reaches ns f e → Within cost_most ns f → Inside e
-  within_inside Lost q w = q (within_spread w) (record { fits = λ s x. fit_more cost_most add_most (f s).off (omega arith) (w.fits s x) })
-  within_inside (Are l h) q w =
-      let a : fall (int l) ≤ cost_most = rw q.lowest ((within_exactly cost_most ns ps f).0 w).0 in
-      let b : rise (int h) ≤ cost_most = rw q.highest ((within_exactly cost_most ns ps f).0 w).1 in
-      (omega (arith, int_ℕ l), omega (arith, int_ℕ h))
+  within_inside : (e : Option Span) → Reaches ns f e → Within cost_most ns f → Inside e
+  within_inside None q w = q (within_spread w) (record { fits = λ s x. fit_more cost_most add_most (f s).off (omega arith) (w.fits s x) })
+  within_inside (Some c) q w =
+      let a : fall (int c.low) ≤ cost_most = rw q.lowest ((within_exactly cost_most ns ps f).0 w).0 in
+      let b : rise (int c.high) ≤ cost_most = rw q.highest ((within_exactly cost_most ns ps f).0 w).1 in
+      (omega (arith, int_ℕ c.low), omega (arith, int_ℕ c.high))
 
-  pub ends_tell : (e : Ends) → Reaches ns f e → (r : Bool) → Tells r (Inside e) → Tells r (Within cost_most ns f)
+  pub ends_tell : (e : Option Span) → Reaches ns f e → (r : Bool) → Tells r (Inside e) → Tells r (Within cost_most ns f)
   ends_tell e q r t = retell r (inside_within e q) (within_inside e q) t
 
   module _ (l h : ℕ) (q : Spans ns f l h) where
@@ -93,11 +95,14 @@ fit_far B (pos n) f = omega (arith, f.top)
 fit_far B (negsuc n) f = omega (arith, f.bottom)
 
 -- the distance of a word's integer from 0
-pub far_low : (a r : ℕ) → Fit cost_most (int a) → a < 2147483648 → r ≡ 2147483648 - a → (r ≡ rise (int a) + fall (int a)) × (r ≤ cost_most)
-far_low a r f h e = let b = below a h in (omega (arith, b.rises, b.falls), omega (arith, b.falls, f.bottom))
+pub far_word : (a : ℕ) → rise (int a) + fall (int a) ≡ a - 2147483648 + (2147483648 - a)
+far_word a = ⊎_elim
+    (λ h. let b = below a h in omega (arith, b.rises, b.falls))
+    (λ h. let b = above a h in omega (arith, b.rises, b.falls))
+    (split a 2147483648)
 
-pub far_high : (a r : ℕ) → Fit cost_most (int a) → 2147483648 ≤ a → r ≡ a - 2147483648 → (r ≡ rise (int a) + fall (int a)) × (r ≤ cost_most)
-far_high a r f h e = let b = above a h in (omega (arith, b.rises, b.falls), omega (arith, b.rises, f.top))
+pub far_most : (a : ℕ) → Fit cost_most (int a) → a - 2147483648 + (2147483648 - a) ≤ cost_most
+far_most a f = omega (arith, far_word a, fit_far cost_most (int a) f)
 
 far_product : (x y : ℤ) → (rise x + fall x) * (rise y + fall y) ≡ rise (x *ℤ y) + fall (x *ℤ y)
 far_product x y =

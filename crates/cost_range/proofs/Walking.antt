@@ -1,4 +1,5 @@
 -- The walk over pairs of targets of a table: down to the feature that is tested, one value on, two branches, the whole. Assumes nothing.
+use Rattle.std.specs.Prelude.{Option, Some, None}
 use mathlib.Core.Bool.{Bool, true, false}
 use mathlib.Core.Path.{◌≡◌, sym, ap, ap₂, subst, ◌∙◌}
 use mathlib.Core.List.{List}
@@ -20,9 +21,8 @@ use Rattle.cost_words.specs.Sums.{Stands}
 use Rattle.cost_nodes.specs.Nodes.{Holds, top, Place}
 use Rattle.cost_nodes.proofs.Stepping.{good_small, good_top, top_good, top_below, place_next}
 use Rattle.cost_nodes.proofs.Reading.{pos_from, sizes_from}
-use Rattle.cost_range.specs.Ends.{tie_of, Spans, Reaches, Pair, of_targets, of_branches, Folded, Right}
-use Rattle.cost_range.specs.declared.Ends.{Ends}
-use Rattle.cost_range.specs.declared.Ends.TheVariants.{Are, Lost}
+use Rattle.cost_range.specs.Ends.{tie_of, Spans, Reaches, Pair, of_targets, of_branches, Folds, Right}
+use Rattle.cost_words.specs.declared.sides.Span.{Span}
 use Rattle.cost_range.proofs.Ending.{reaches_agree, reaches_wait, lost_held, folded_all}
 use Rattle.cost_range.proofs.Ending as E
 use Rattle.promises.specs.Integers.{int}
@@ -70,19 +70,19 @@ module _ (w : List ℕ) (k x y : ℕ) (p : Pair w k x y) where
   module _ (minus : Bool) where
     -- ---- one feature of which the pair looks at none or at one
     module _ (hk : k < features w) where
-      pub all_folded : (v l h : ℕ) → v ≡ size w k → Folded false (drop (k + 1) (sizes w)) (of_targets minus w k x y) v l → Folded true (drop (k + 1) (sizes w)) (of_targets minus w k x y) v h →
-          Reaches (drop k (sizes w)) (of_targets minus w k x y) (Are l h)
-      all_folded v l h e a b =
-          subst (λ (ns : List ℕ). Spans ns (of_targets minus w k x y) l h) (sym (sizes_from w k hk))
-          (folded_all (size w k) (drop (suc k) (sizes w)) (of_targets minus w k x y) l h (omega (arith, p.holds.laid.laid.large k hk)) (rw (add-one, e) at a) (rw (add-one, e) at b))
+      pub all_folded : (v : ℕ) (a : Option Span) → v ≡ size w k → Folds (drop (k + 1) (sizes w)) (of_targets minus w k x y) v a → Reaches (drop k (sizes w)) (of_targets minus w k x y) a
+      all_folded v (Some a) e f =
+          subst (λ (ns : List ℕ). Spans ns (of_targets minus w k x y) a.low a.high) (sym (sizes_from w k hk))
+          (folded_all (size w k) (drop (suc k) (sizes w)) (of_targets minus w k x y) a.low a.high (omega (arith, p.holds.laid.laid.large k hk)) (rw (add-one, e) at f.1) (rw (add-one, e) at f.2))
+      all_folded v None e f = absurd (omega (arith, p.holds.laid.laid.large k hk))
 
-      pub one_lost : (v : ℕ) → v < size w k → Reaches (drop (k + 1) (sizes w)) (held v (of_targets minus w k x y)) Lost → Reaches (drop k (sizes w)) (of_targets minus w k x y) Lost
+      pub one_lost : (v : ℕ) → v < size w k → Reaches (drop (k + 1) (sizes w)) (held v (of_targets minus w k x y)) None → Reaches (drop k (sizes w)) (of_targets minus w k x y) None
       one_lost v h q =
-          subst (λ (ns : List ℕ). Reaches ns (of_targets minus w k x y) Lost) (sym (sizes_from w k hk))
+          subst (λ (ns : List ℕ). Reaches ns (of_targets minus w k x y) None) (sym (sizes_from w k hk))
           (lost_held (size w k) (drop (suc k) (sizes w)) (of_targets minus w k x y) v h (rw add-one at q))
 
     -- what value v leaves is what its two branches give
-    pub branches_at : (v xa a yb b : ℕ) → branch xa a ≡ branch_at (nodes w) k (target x) v → branch yb b ≡ branch_at (nodes w) k (target y) v → (r : Ends) →
+    pub branches_at : (v xa a yb b : ℕ) → branch xa a ≡ branch_at (nodes w) k (target x) v → branch yb b ≡ branch_at (nodes w) k (target y) v → (r : Option Span) →
         Reaches (drop (k + 1) (sizes w)) (of_branches minus w (k + 1) xa a yb b) r → Reaches (drop (k + 1) (sizes w)) (held v (of_targets minus w k x y)) r
     branches_at v xa a yb b ea eb r q =
         reaches_agree (drop (k + 1) (sizes w)) (held v (of_targets minus w k x y)) (of_branches minus w (k + 1) xa a yb b) agree r q
@@ -98,7 +98,7 @@ module _ (w : List ℕ) (k x y : ℕ) (p : Pair w k x y) where
 
 -- ---- down to the lowest feature that one of the two tests
 module _ (w : List ℕ) (minus : Bool) (x y j : ℕ) (ok : Holds w) (sx : x ≤ count w) (sy : y ≤ count w) (hx : j ≤ top w x) (hy : j ≤ top w y) (hj : j ≤ features w) where
-  jump : (d k : ℕ) → k + d ≡ j → (r : Ends) → Reaches (drop j (sizes w)) (of_targets minus w j x y) r → Reaches (drop k (sizes w)) (of_targets minus w k x y) r
+  jump : (d k : ℕ) → k + d ≡ j → (r : Option Span) → Reaches (drop j (sizes w)) (of_targets minus w j x y) r → Reaches (drop k (sizes w)) (of_targets minus w k x y) r
   jump zero k e r q = let f : j ≡ k = omega arith in subst (λ (i : ℕ). Reaches (drop i (sizes w)) (of_targets minus w i x y) r) f q
   jump (suc d) k e r q =
       subst (λ (ns : List ℕ). Reaches ns (of_targets minus w k x y) r) (sym (sizes_from w k (omega arith)))
@@ -106,7 +106,7 @@ module _ (w : List ℕ) (minus : Bool) (x y j : ℕ) (ok : Holds w) (sx : x ≤ 
       (λ v l s h. pair_wait (tie_of minus) (tie_splits minus) (nodes w) k (target x) (target y) (top_good w (suc k) x sx (omega arith)) (top_good w (suc k) y sy (omega arith)) v s) r
       (jump d (suc k) (omega arith) r q))
 
-pub reaches_jump : (w : List ℕ) (k x y : ℕ) → Pair w k x y → (minus : Bool) (j : ℕ) → j ≤ top w x → j ≤ top w y → k ≤ j → j < features w → (r : Ends) →
+pub reaches_jump : (w : List ℕ) (k x y : ℕ) → Pair w k x y → (minus : Bool) (j : ℕ) → j ≤ top w x → j ≤ top w y → k ≤ j → j < features w → (r : Option Span) →
     Reaches (drop j (sizes w)) (of_targets minus w j x y) r → Reaches (drop k (sizes w)) (of_targets minus w k x y) r
 reaches_jump w k x y p minus j hx hy l h r q =
     jump w minus x y j p.holds (good_small w k x p.first) (good_small w k y p.second) hx hy (omega arith) (j - k) k (omega arith) r q
@@ -134,25 +134,25 @@ module _ (w : List ℕ) (k x a y b : ℕ) (p : Pair w k x y) (minus : Bool) wher
   raised s h = joined_split (tie_of minus) (tie_splits minus) (nodes w) k (branch x a) (branch y b) s
 
   -- what both add is lost, or the rest is
-  pub base_lost : (r : ℕ) → r ≡ 0 → Stands C r → Reaches ns whole Lost
-  base_lost r h q = E.base_lost ns (pos_from w k p.holds) C below whole below_none raised r h q
+  pub base_lost : Stands C None → Reaches ns whole None
+  base_lost q = E.base_lost ns (pos_from w k p.holds) C below whole below_none raised q
 
-  pub rest_lost : Reaches ns below Lost → Reaches ns whole Lost
+  pub rest_lost : Reaches ns below None → Reaches ns whole None
   rest_lost q = E.rest_lost ns (pos_from w k p.holds) C below whole below_none raised q
 
   -- the sum of both, on each side
-  module _ (c l h : ℕ) (sc : Stands C c) (zc : 0 < c) (q : Spans ns below l h) where
-    pub low_lost : (r : ℕ) → r ≡ 0 → Stands (int c +ℤ int l) r → Reaches ns whole Lost
-    low_lost r z s = E.end_lost ns (pos_from w k p.holds) C below whole below_none raised false c l (sc.stands zc) q.lowest r z s
+  module _ (c : ℕ) (e : Span) (sc : Stands C (Some c)) (q : Spans ns below e.low e.high) where
+    pub low_lost : Stands (int c +ℤ int e.low) None → Reaches ns whole None
+    low_lost s = E.end_lost ns (pos_from w k p.holds) C below whole below_none raised false c e.low sc q.lowest s
 
-    pub high_lost : (r : ℕ) → r ≡ 0 → Stands (int c +ℤ int h) r → Reaches ns whole Lost
-    high_lost r z s = E.end_lost ns (pos_from w k p.holds) C below whole below_none raised true c h (sc.stands zc) q.highest r z s
+    pub high_lost : Stands (int c +ℤ int e.high) None → Reaches ns whole None
+    high_lost s = E.end_lost ns (pos_from w k p.holds) C below whole below_none raised true c e.high sc q.highest s
 
-    pub both_stand : (u v : ℕ) → 0 < u → 0 < v → Stands (int c +ℤ int l) u → Stands (int c +ℤ int h) v → Reaches ns whole (Are u v)
-    both_stand u v hu hv su sv =
+    pub both_stand : (u v : ℕ) → Stands (int c +ℤ int e.low) (Some u) → Stands (int c +ℤ int e.high) (Some v) → Reaches ns whole (Some (record { low = u; high = v }))
+    both_stand u v su sv =
         record {
-          lowest = E.end_stands ns (pos_from w k p.holds) C below whole below_none raised false c l (sc.stands zc) q.lowest u hu su;
-          highest = E.end_stands ns (pos_from w k p.holds) C below whole below_none raised true c h (sc.stands zc) q.highest v hv sv;
+          lowest = E.end_stands ns (pos_from w k p.holds) C below whole below_none raised false c e.low sc q.lowest u su;
+          highest = E.end_stands ns (pos_from w k p.holds) C below whole below_none raised true c e.high sc q.highest v sv;
         }
 
 -- ---- the memory: an entry says the ends of one pair

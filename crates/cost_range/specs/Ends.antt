@@ -1,5 +1,5 @@
 -- Contract between layers: the lowest and the highest amount of a sum or a difference of two costs, as a walk over pairs of targets finds them. Assumes nothing.
-use Rattle.std.specs.Prelude.{Bool, true, false, not, ◌≡◌, List, ℕ, ◌+◌, ◌≤◌, ◌<◌, ℤ, ◌+ℤ◌, ◌-ℤ◌, drop}
+use Rattle.std.specs.Prelude.{Bool, true, false, not, ◌≡◌, List, ℕ, ◌+◌, ◌≤◌, ◌<◌, ℤ, ◌+ℤ◌, ◌-ℤ◌, drop, Option, Some, None}
 use Rattle.theory.specs.Costs.{Cost}
 use Rattle.theory.specs.Diagrams.{value}
 use Rattle.theory.specs.Functions.{held}
@@ -8,10 +8,9 @@ use Rattle.theory_costs.specs.Narrow.{Narrow, Spread}
 use Rattle.theory_costs.specs.Relative.{pair_from}
 use Rattle.table_words.specs.Words.{listed}
 use Rattle.table_memory.specs.Memory as M
-use Rattle.cost_words.specs.Sides.{end_of}
+use Rattle.cost_words.specs.Sides.{end_of, Wider}
+use Rattle.cost_words.specs.declared.sides.Span.{Span}
 use Rattle.cost_nodes.specs.Nodes.{Holds, Good}
-use Rattle.cost_range.specs.declared.Ends.{Ends}
-use Rattle.cost_range.specs.declared.Ends.TheVariants.{Are, Lost}
 use Rattle.promises.specs.CostSound.{across, extreme, side_of}
 use Rattle.promises.specs.Integers.{Fit, int}
 use Rattle.promises.specs.CostOperations.{joined}
@@ -35,25 +34,25 @@ pub record Spans (ns : List ℕ) (f : Cost) (l h : ℕ) : Type 0 where
   pub lowest : int l ≡ lowest_of ns f
   pub highest : int h ≡ highest_of ns f
 
--- lost: two amounts lie more than 2,000,000,000 apart, or one lies that far from 0
-abbrev pub Reaches : List ℕ → Cost → Ends → Type 0
-Reaches ns f (Are l h) = Spans ns f l h
-Reaches ns f Lost = Spread add_most ns f → Within add_most ns f → ⊥
+-- None: two amounts lie more than 2,000,000,000 apart, or one lies that far from 0
+abbrev pub Reaches : List ℕ → Cost → Option Span → Type 0
+Reaches ns f (Some a) = Spans ns f a.low a.high
+Reaches ns f None = Spread add_most ns f → Within add_most ns f → ⊥
 
 -- where both ends lie in the range of costs
-abbrev pub Inside : Ends → Type 0
-Inside (Are l h) = (1147483648 ≤ l) × (h ≤ 3147483648)
-Inside Lost = ⊥
+abbrev pub Inside : Option Span → Type 0
+Inside (Some a) = (1147483648 ≤ a.low) × (a.high ≤ 3147483648)
+Inside None = ⊥
 
 -- ---- two costs by their ends alone, l and h of the first, x and y of the second
 -- what the ends give on a side
 abbrev pub meeting : Bool → Bool → ℕ → ℕ → ℕ → ℕ → ℤ
 meeting minus up l h x y = tie_of minus (int (end_of up l h)) (int (end_of (facing minus up) x y))
 
--- the words of both; lost where one lies outside ±2,000,000,000
-abbrev pub Meeting : Bool → ℕ → ℕ → ℕ → ℕ → Ends → Type 0
-Meeting minus l h x y (Are u v) = (up : Bool) → int (end_of up u v) ≡ meeting minus up l h x y
-Meeting minus l h x y Lost = ((up : Bool) → Fit add_most (meeting minus up l h x y)) → ⊥
+-- the words of both; None where one lies outside ±2,000,000,000
+abbrev pub Meeting : Bool → ℕ → ℕ → ℕ → ℕ → Option Span → Type 0
+Meeting minus l h x y (Some a) = (up : Bool) → int (end_of up a.low a.high) ≡ meeting minus up l h x y
+Meeting minus l h x y None = ((up : Bool) → Fit add_most (meeting minus up l h x y)) → ⊥
 
 -- ---- of two target words of the table w, where features k and up are left
 pub record Pair (w : List ℕ) (k x y : ℕ) : Type 0 where
@@ -71,14 +70,19 @@ abbrev pub of_branches : Bool → List ℕ → ℕ → ℕ → ℕ → ℕ → �
 of_branches minus w k x a y b = joined (tie_of minus) (value (nodes w) k (branch x a)) (value (nodes w) k (branch y b))
 
 -- ---- value by value
--- r is the further of a and b; after no value it is b
-pub record Furthest (up : Bool) (v a b r : ℕ) : Type 0 where
-  pub first : v ≡ 0 → r ≡ b
-  pub more : 0 < v → int r ≡ side_of up (int a) (int b)
+-- r is the further of a and b on both sides; after no value it is b
+abbrev pub Furthest : Option Span → Span → Span → Type 0
+Furthest (Some a) b r = Wider a.low a.high b.low b.high r.low r.high
+Furthest None b r = r ≡ b
 
 -- a stands for the furthest that the first v values give, where one gives what is furthest for it
 pub record Folded (up : Bool) (ns : List ℕ) (f : Cost) (v a : ℕ) : Type 0 where
   pub folded : 0 < v → int a ≡ across (side_of up) (λ u. extreme (side_of up) ns (held u f)) v
+
+-- so on both sides; None: there was no value
+abbrev pub Folds : List ℕ → Cost → ℕ → Option Span → Type 0
+Folds ns f v (Some a) = (0 < v) × (Folded false ns f v a.low) × (Folded true ns f v a.high)
+Folds ns f v None = v ≡ 0
 
 -- ---- what is remembered: an entry's key is a feature + 1, two targets, and 0
 pub record Right (minus : Bool) (w key : List ℕ) (l h : ℕ) : Type 0 where

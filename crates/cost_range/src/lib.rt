@@ -22,26 +22,21 @@ ghost use Rattle.promises.specs.CostWords.{cost_branch as branch, cost_node_list
 use cost_engine::Operator;
 use cost_nodes::Arm;
 use cost_notes::{ADD, SUBTRACT, arm_in, kept_in, lowest, recall_in, remember_in};
-use cost_words::{Span, ZERO, difference_or_lost, further, kept_span, sum_or_lost, sum_word};
-use table_memory::Memo;
+use cost_words::{Span, ZERO, difference_or_lost, kept_span, sum_or_lost, sum_word, wider};
 use table_notes::{begin, clear, clear_window};
-use table_words::{narrow, size_word, wide};
+use table_words::size_word;
 
-// The words of the lowest and of the highest amount, or that no base brings all amounts into range.
-#[derive(Clone, Copy)]
-enum Ends {
-    Are(u32, u32),
-    Lost,
-}
+// Ends are the words of the lowest and of the highest amount, or None where no base brings all amounts into range.
 
-// The word of the difference of two if `minus`, else of the sum; 0 if it lies outside ±2,000,000,000.
-fn tied_word(minus: bool, a: u32, b: u32) -> u32
+// The word of the difference of two if `minus`, else of the sum; None if it lies outside ±2,000,000,000.
+fn tied_word(minus: bool, a: u32, b: u32) -> Option<u32>
     ensures { Stands (tie_of minus (int a) (int b)) result }
 {
     if minus {
-        return difference_or_lost(a, b);
+        difference_or_lost(a, b)
+    } else {
+        sum_or_lost(a, b)
     }
-    sum_or_lost(a, b)
 }
 
 // The number of subtract if `minus`, else of add.
@@ -57,131 +52,107 @@ fn end_of(up: bool, a: Span) -> u32
 }
 
 // What the ends of two costs give on one side: the lowest and the lowest of a sum, the lowest and the highest of a difference.
-fn met_word(minus: bool, up: bool, a: Span, b: Span) -> u32
+fn met_word(minus: bool, up: bool, a: Span, b: Span) -> Option<u32>
     ensures { Stands (meeting minus up a.low a.high b.low b.high) result }
 {
     if minus {
-        return tied_word(true, end_of(up, a), end_of(!up, b));
+        tied_word(true, end_of(up, a), end_of(!up, b))
+    } else {
+        tied_word(false, end_of(up, a), end_of(up, b))
     }
-    tied_word(false, end_of(up, a), end_of(up, b))
 }
 
 // The same on both sides. No amount of the two together lies further out.
-fn met_ends(minus: bool, a: Span, b: Span) -> Ends
+fn met_ends(minus: bool, a: Span, b: Span) -> Option<Span>
     ensures { Meeting minus a.low a.high b.low b.high result }
 {
-    let low = met_word(minus, false, a, b);
-    if low == 0 {
-        return Ends::Lost;
-    }
-    let high = met_word(minus, true, a, b);
-    if high == 0 {
-        return Ends::Lost;
-    }
-    Ends::Are(low, high)
+    let low = met_word(minus, false, a, b)?;
+    let high = met_word(minus, true, a, b)?;
+    Some(Span { low, high })
 }
 
 // Whether both ends lie in the range of costs.
-fn ends_inside(e: Ends) -> bool
+fn ends_inside(e: Option<Span>) -> bool
     ensures { Tells result (Inside e) }
 {
-    let Ends::Are(l, h) = e else {
+    let Some(a) = e else {
         return false;
     };
-    if l < 1147483648 {
-        return false;
-    }
-    h <= 3147483648
+    1147483648 <= a.low && a.high <= 3147483648
 }
 
-// The further of what the first v values gave and of one more; after none, the one more.
-fn furthest(up: bool, v: usize, a: u32, b: u32) -> u32
-    ensures { Furthest up v a b result }
+// The further on both sides of what some values gave and of one more; after none, the one more.
+fn furthest(a: Option<Span>, b: Span) -> Span
+    ensures { Furthest a b result }
 {
-    if v == 0 {
-        return b;
+    match a {
+        Some(a) => wider(a, b),
+        None => b,
     }
-    further(up, a, b)
 }
 
 // The ends of two targets from feature k on: one pair's result.
 #[cycle(branch_ends_fold_branches_rest_ends)]
-fn rest_ends(t: &mut [u32], s: &mut [u32], minus: bool, k: usize, x: u32, y: u32) -> Ends
+fn rest_ends(t: &mut [u32], s: &mut [u32], minus: bool, k: usize, x: u32, y: u32) -> Option<Span>
     requires { (Pair (plain t.old) k x y) × (Noted minus t.old s.old) }
     ensures { (Reaches (drop k (sizes (plain t.old))) (of_targets minus (plain t.old) k x y) result)
         × (plain t.new ≡ plain t.old) × (Noted minus t.new s.new) }
 {
-    if x == 0 {
-        return met_ends(minus, kept_in(t, x), kept_in(t, y));
-    }
-    if y == 0 {
+    if x == 0 || y == 0 {
         return met_ends(minus, kept_in(t, x), kept_in(t, y));
     }
     let j = lowest(t, x, y);
     let number = number_of(minus);
-    let tag = narrow(j + 1);
-    let memo = recall_in(t, s, number, tag, x, y, 0);
-    if let Memo::Known(l, h) = memo {
-        return Ends::Are(l, h);
+    let tag = (j + 1) as u32;
+    if let Some((low, high)) = recall_in(t, s, number, tag, x, y, 0) {
+        return Some(Span { low, high });
     }
-    let Ends::Are(l, h) = fold_branches(t, s, minus, j, x, y) else {
-        return Ends::Lost;
-    };
-    remember_in(t, s, number, tag, x, y, 0, l, h);
-    Ends::Are(l, h)
+    let ends = fold_branches(t, s, minus, j, x, y)?;
+    remember_in(t, s, number, tag, x, y, 0, ends.low, ends.high);
+    Some(ends)
 }
 
 // The same at a feature that is left: over the branches for its values in turn.
 #[cycle(branch_ends_fold_branches_rest_ends)]
-fn fold_branches(t: &mut [u32], s: &mut [u32], minus: bool, k: usize, x: u32, y: u32) -> Ends
+fn fold_branches(
+    t: &mut [u32],
+    s: &mut [u32],
+    minus: bool,
+    k: usize,
+    x: u32,
+    y: u32,
+) -> Option<Span>
     requires { (Pair (plain t.old) k x y) × (Noted minus t.old s.old) × (k < features (plain t.old)) }
     ensures { (Reaches (drop k (sizes (plain t.old))) (of_targets minus (plain t.old) k x y) result)
         × (plain t.new ≡ plain t.old) × (Noted minus t.new s.new) }
 {
-    let m = wide(size_word(t, k));
-    let mut low: u32 = 0;
-    let mut high: u32 = 0;
-    let mut v: usize = 0;
-    while v < m {
+    let m = size_word(t, k) as usize;
+    let mut ends = None;
+    for v in 0..m {
         let a = arm_in(t, k, x, v);
         let b = arm_in(t, k, y, v);
-        let Ends::Are(l, h) = branch_ends(t, s, minus, k + 1, a, b) else {
-            return Ends::Lost;
-        };
-        low = furthest(false, v, low, l);
-        high = furthest(true, v, high, h);
-        v += 1;
+        let c = branch_ends(t, s, minus, k + 1, a, b)?;
+        ends = Some(furthest(ends, c));
     }
-    Ends::Are(low, high)
+    ends
 }
 
 // The ends of two branches from feature k on: those of their targets, with what both add put before them.
 #[cycle(branch_ends_fold_branches_rest_ends)]
-fn branch_ends(t: &mut [u32], s: &mut [u32], minus: bool, k: usize, a: Arm, b: Arm) -> Ends
+fn branch_ends(t: &mut [u32], s: &mut [u32], minus: bool, k: usize, a: Arm, b: Arm) -> Option<Span>
     requires { (Pair (plain t.old) k a.to b.to) × (Noted minus t.old s.old) }
     ensures { (Reaches (drop k (sizes (plain t.old))) (of_branches minus (plain t.old) k a.to a.adds b.to b.adds) result)
         × (plain t.new ≡ plain t.old) × (Noted minus t.new s.new) }
 {
-    let base = tied_word(minus, a.adds, b.adds);
-    if base == 0 {
-        return Ends::Lost;
-    }
-    let Ends::Are(l, h) = rest_ends(t, s, minus, k, a.to, b.to) else {
-        return Ends::Lost;
-    };
-    let low = sum_or_lost(base, l);
-    if low == 0 {
-        return Ends::Lost;
-    }
-    let high = sum_or_lost(base, h);
-    if high == 0 {
-        return Ends::Lost;
-    }
-    Ends::Are(low, high)
+    let base = tied_word(minus, a.adds, b.adds)?;
+    let rest = rest_ends(t, s, minus, k, a.to, b.to)?;
+    let low = sum_or_lost(base, rest.low)?;
+    let high = sum_or_lost(base, rest.high)?;
+    Some(Span { low, high })
 }
 
 // The ends of two branches over all features, with remembered results in s, whatever it holds, or in the far records. The table is as it was.
-fn whole_ends(t: &mut [u32], s: &mut [u32], minus: bool, a: Arm, b: Arm) -> Ends
+fn whole_ends(t: &mut [u32], s: &mut [u32], minus: bool, a: Arm, b: Arm) -> Option<Span>
     requires { (Pair t.old 0 a.to b.to) × (Resting t.old) }
     ensures { (t.new ≡ t.old) × (Reaches (sizes t.old) (of_branches minus t.old 0 a.to a.adds b.to b.adds) result) }
 {
@@ -209,10 +180,8 @@ fn tied_ok(t: &mut [u32], s: &mut [u32], minus: bool, a: Arm, b: Arm) -> bool
     requires { (Operand t.old (branch a.to a.adds)) × (Operand t.old (branch b.to b.adds)) }
     ensures { (t.new ≡ t.old) × (Tells result (Within cost_most (sizes t.old) (of_branches minus t.old 0 a.to a.adds b.to b.adds))) }
 {
-    if ends_inside(met_ends(minus, span_of(t, a), span_of(t, b))) {
-        return true;
-    }
-    ends_inside(whole_ends(t, s, minus, a, b))
+    ends_inside(met_ends(minus, span_of(t, a), span_of(t, b)))
+        || ends_inside(whole_ends(t, s, minus, a, b))
 }
 
 // How far the integer of a word lies from 0.
@@ -220,10 +189,7 @@ fn distance(a: u32) -> usize
     requires { Fit cost_most (int a) }
     ensures { (result ≡ rise (int a) + fall (int a)) × (result ≤ cost_most) }
 {
-    if a < ZERO {
-        return wide(ZERO - a);
-    }
-    wide(a - ZERO)
+    a.abs_diff(ZERO) as usize
 }
 
 // Whether the product of two integers in range lies in range.
@@ -240,10 +206,7 @@ fn scaled_ok(t: &[u32], a: Arm, c: u32) -> bool
     ensures { Tells result (Within cost_most (sizes t.now) (scaled (int c) (meaning (nodes t.now) (branch a.to a.adds)))) }
 {
     let e = span_of(t, a);
-    if !product_ok(e.low, c) {
-        return false;
-    }
-    product_ok(e.high, c)
+    product_ok(e.low, c) && product_ok(e.high, c)
 }
 
 // Whether the result of an operation on two costs lies in the range of costs at every setting.

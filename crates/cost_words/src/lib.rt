@@ -11,7 +11,7 @@ ghost use Rattle.promises.specs.Range.{add_most};
 ghost use Rattle.promises.specs.Words.{body};
 ghost use Rattle.promises.specs.CostWords.{target, goes, added, cost_root as root, cost_base as base};
 
-pub use sides::{Span, kept_span, sides_of};
+pub use sides::{Span, kept_span, sides_of, wider};
 pub use sums::{difference_or_lost, further, sum_or_lost};
 use table_words::{HALF, half_of, head_word, record_word};
 

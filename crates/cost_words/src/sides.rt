@@ -32,7 +32,7 @@ pub fn kept_span(t: &[u32], x: u32) -> Span
 }
 
 // The lower of two lowest, the higher of two highest.
-fn wider(a: Span, b: Span) -> Span
+pub fn wider(a: Span, b: Span) -> Span
     ensures { Wider a.low a.high b.low b.high result.low result.high }
 {
     Span {
