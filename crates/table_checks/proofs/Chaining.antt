@@ -10,9 +10,8 @@ use lib.Seq.{get_or-set_same, get_or-set_other}
 use Rattle.table_words.proofs.Tab.{same, split}
 use Rattle.table_words.proofs.Words.{hash_ext}
 use Rattle.table_words.proofs.Chains.{last_none, last_here, last_not, Last, last_is}
-use Rattle.table_checks.specs.Chained.{Headed}
-use Rattle.promises.specs.Words.{count, feature, body, link, hash_of, hash_at, last_of}
-use Rattle.promises.specs.Sound.{Same, Alone, Linked, Chained}
+use Rattle.promises.specs.Words.{feature, body, link, hash_of, hash_at, last_of}
+use Rattle.promises.specs.Sound.{Same, Alone, Linked}
 
 -- twins have one hash
 pub same_hash : (w : List ℕ) (i j : ℕ) → Same w i j → hash_at w i ≡ hash_at w j
@@ -65,9 +64,6 @@ linked_more w last i h x c eh hh ex e =
           (same j i);
     }
 
-pub link_is : (w last : List ℕ) (i h : ℕ) → Chaining w i last → h ≡ hash_at w i → h < 4096 → link w i ≡ last_of (hash_at w) (hash_at w i) i → link w i ≡ get_or last h 0
-link_is w last i h c eh hh e = e ∙ ap (λ (y : ℕ). last_of (hash_at w) y i) (sym eh) ∙ sym (c.tails h hh)
-
 pub chaining_more : (w last : List ℕ) (i h x : ℕ) → Chaining w i last → Linked w (i + 1) → Alone w i → h ≡ hash_at w i → h < 4096 → x ≡ i + 1 → Chaining w (i + 1) (set last h x)
 chaining_more w last i h x c l a eh hh ex =
     record {
@@ -79,10 +75,3 @@ chaining_more w last i h x c l a eh hh ex =
       linked = l;
       single = λ y hy. ⊎_elim (λ q. subst (Alone w) (sym q) a) (λ q. c.single y (omega (arith, q))) (same y i);
     }
-
--- all nodes chained: the chain heads are the list's exactly if the table is chained
-pub chaining_all : (w last : List ℕ) → Chaining w (count w) last → Headed w last → Chained w
-chaining_all w last c h = record { linked = c.linked; heads = λ x g. h.heads x g ∙ c.tails x g; single = c.single }
-
-pub chained_heads : (w last : List ℕ) → Chaining w (count w) last → Chained w → Headed w last
-chained_heads w last c d = record { heads = λ x g. d.heads x g ∙ sym (c.tails x g) }

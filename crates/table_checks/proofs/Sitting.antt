@@ -6,7 +6,6 @@ use Prim.Native.Nat.{ℕ, suc, ◌+◌, ◌-◌, ◌≤◌, ◌<◌}
 use native.Mathlib.Nat.{le_refl}
 use native.Mathlib.Omega.{arith}
 use native.Mathlib.Numerals.{add-one}
-use lib.Dec.{leb}
 use lib.ListN.{length, get_or}
 use Rattle.theory.specs.Kind.{Kind}
 use Rattle.theory.specs.Diagrams.{Branch, Node, Target, at, blank, leaf, node}
@@ -16,14 +15,8 @@ use Rattle.table_words.specs.Table.{Table, Regular, branches, node_at, nodes}
 use Rattle.table_words.proofs.Reading.{branch_past, length_nodes, at_nodes, at_nodes_by, bodies_same, node_is}
 use Rattle.table_words.proofs.Tab.{same, split, length_tab, get_or_tab}
 use Rattle.table_words.proofs.Words.{length_sizes, at_sizes}
-use Rattle.settings.specs.Tells.{Tells}
-use Rattle.settings.proofs.Answers.{tells_leb}
 use Rattle.promises.specs.Words.{features, size, count, sizes, feature, body, nodes_by}
 use Rattle.promises.specs.Sound.{Same, Alone, Chained, Sizes, Sits}
-
-pub tells_sits : (first : ℕ) (w : List ℕ) (m k b x : ℕ) → first ≤ b → b - first < m → x ≡ feature w (b - first) → Tells (leb k x) (Sits first w m k b)
-tells_sits first w m k b x hb hm e =
-    tells_leb k x (λ h. record { below = omega arith; above = λ q. omega arith }) (λ s. omega (arith, s.above hb))
 
 -- a word that sits below node m sits below every later one, and lower features are no harder
 pub sits_more : {first : ℕ} (w : List ℕ) (m m' k k' b : ℕ) → m ≤ m' → k' ≤ k → Sits first w m k b → Sits first w m' k' b

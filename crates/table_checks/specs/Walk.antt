@@ -1,6 +1,6 @@
 -- Contract between layers: the part of the soundness test that follows branches, for every kind: where they may go, and the walk from the roots.
 -- `first` tells the kind: branch words below it end, the others say nodes. Assumes nothing.
-use Rattle.std.specs.Prelude.{◌≡◌, List, ℕ, suc, ◌+◌, ◌-◌, ◌≤◌, ◌<◌, eqb, ltb, length, drop}
+use Rattle.std.specs.Prelude.{◌≡◌, List, ℕ, suc, ◌+◌, ◌-◌, ◌≤◌, ◌<◌, eqb, ltb, length, drop, Option as Answer, Some, None}
 use Rattle.std.proofs.Math.Option.{Option, none, some}
 use Rattle.theory.specs.Diagrams.{Branch, Node, Target, at, leaf, node}
 use Rattle.theory.specs.Rules.{rules}
@@ -50,17 +50,17 @@ shape_roots first n w = tab (λ p. going_to first (head w (32 + p))) n
 abbrev pub InOrder : ℕ → ℕ → List ℕ → Type 0
 InOrder first n w = scans (scan (shape first w) 0 (sizes w)) (shape_roots first n w) 0 ≡ some (count w)
 
--- ---- the walk's answers: a number up to n, or 8192 for a lost walk
-abbrev pub Says : ℕ → ℕ → Option ℕ → Type 0
-Says n r none = r ≡ 8192
-Says n r (some d) = (r ≡ d) × (d ≤ n)
+-- ---- the walk's answers: how many nodes are done, up to n, or none for a lost walk
+abbrev pub Says : ℕ → Answer ℕ → Option ℕ → Type 0
+Says n r none = r ≡ None
+Says n r (some d) = (r ≡ Some d) × (d ≤ n)
 
 -- the branch word b may stand where features k and up are left
 abbrev pub Good : ℕ → List ℕ → ℕ → ℕ → Type 0
 Good first w k b = Under (shape first w) (length (shape first w)) k (goal_of first b)
 
 -- r is the walk from the branch word b, the nodes below c done; from whatever feature it sets out
-pub record Visits (first : ℕ) (w : List ℕ) (b c r : ℕ) : Type 0 where
+pub record Visits (first : ℕ) (w : List ℕ) (b c : ℕ) (r : Answer ℕ) : Type 0 where
   pub visits : (k : ℕ) → Good first w k b → Says (count w) r (scan (shape first w) k (drop k (sizes w)) (goal_of first b) c)
 
 -- the walk over the features after that of node i
@@ -68,5 +68,5 @@ abbrev pub scan_below : ℕ → List ℕ → ℕ → Target rules → ℕ → Op
 scan_below first w i = scan (shape first w) (suc (at (shape first w) i).feature) (drop (suc (at (shape first w) i).feature) (sizes w))
 
 -- r is the walk over the branches of node i in turn
-pub record VisitsAll (first : ℕ) (w : List ℕ) (i c r : ℕ) : Type 0 where
+pub record VisitsAll (first : ℕ) (w : List ℕ) (i c : ℕ) (r : Answer ℕ) : Type 0 where
   pub visits : Says (count w) r (scans (scan_below first w i) (tab (shape_arm first (body w i)) (size w (feature w i))) c)

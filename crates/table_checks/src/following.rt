@@ -7,10 +7,7 @@ ghost use Rattle.promises.specs.Words.{features, count, feature};
 ghost use Rattle.promises.specs.Sound.{Header, Sits};
 
 use crate::sits;
-use table_words::{NODES, count_word, head_word, record_word, size_word, way_word, wide, width};
-
-// A walk that met a node out of its turn; more than any count of nodes.
-const LOST: usize = 8192;
+use table_words::{count_word, head_word, record_word, way_word, width};
 
 // Whether each branch of node i ends or goes to an earlier node of a higher feature.
 pub fn lower(t: &[u32], first: u32, i: usize) -> bool
@@ -40,47 +37,39 @@ pub fn roots_ok(t: &[u32], first: u32, n: usize) -> bool
     true
 }
 
-// The walk from the branch word b, the nodes below c done: how many are done after it, or 8192 where one is not met in its turn.
+// The walk from the branch word b, the nodes below c done: how many are done after it, or None where one is not met in its turn.
 // It calls itself over `visit_list`, each time at a higher feature: at most as deep as there are features.
 #[cycle(visit_visit_list)]
-fn visit(t: &[u32], first: u32, b: u32, c: usize) -> usize
+fn visit(t: &[u32], first: u32, b: u32, c: usize) -> Option<usize>
     requires { (Formed first t.now) × (Sits first t.now (count t.now) 0 b) × (c ≤ count t.now) }
     ensures { Visits first t.now b c result }
 {
     if b < first {
-        return c;
+        return Some(c);
     }
-    let i = wide(b - first);
+    let i = (b - first) as usize;
     if i < c {
-        return c;
+        return Some(c);
     }
-    if visit_list(t, first, i, c) == i {
-        return i + 1;
-    }
-    LOST
+    let d = visit_list(t, first, i, c)?;
+    if d == i { Some(i + 1) } else { None }
 }
 
 // The same over the branches of node i in turn; one that ends or whose node is done needs no call. A lost walk stops at once, so each node's
 // branches are walked once.
 #[cycle(visit_visit_list)]
-fn visit_list(t: &[u32], first: u32, i: usize, c: usize) -> usize
+fn visit_list(t: &[u32], first: u32, i: usize, c: usize) -> Option<usize>
     requires { (Formed first t.now) × (i < count t.now) × (c ≤ count t.now) }
     ensures { VisitsAll first t.now i c result }
 {
-    let s = wide(size_word(t, wide(record_word(t, i, 0))));
     let mut d = c;
-    let mut v: usize = 0;
-    while v < s {
+    for v in 0..width(t, i) {
         let b = way_word(t, first, i, v);
-        if wide(first) + d <= wide(b) {
-            d = visit(t, first, b, d);
-            if NODES < d {
-                return LOST;
-            }
+        if first as usize + d <= b as usize {
+            d = visit(t, first, b, d)?;
         }
-        v += 1;
     }
-    d
+    Some(d)
 }
 
 // Whether the walk from the first n roots in turn meets every node, each in its turn.
@@ -88,14 +77,12 @@ pub fn order_ok(t: &[u32], first: u32, n: usize) -> bool
     requires { (Formed first t.now) × (Rooted first n t.now) × (n ≤ 32) }
     ensures { Tells result (InOrder first n t.now) }
 {
-    let mut d: usize = 0;
-    let mut p: usize = 0;
-    while p < n {
-        d = visit(t, first, head_word(t, 32 + p), d);
-        if NODES < d {
+    let mut d = 0;
+    for p in 0..n {
+        let Some(e) = visit(t, first, head_word(t, 32 + p), d) else {
             return false;
-        }
-        p += 1;
+        };
+        d = e;
     }
-    d == wide(count_word(t))
+    d == count_word(t) as usize
 }

@@ -109,7 +109,7 @@ pub fn alone(t: &[u32], i: usize) -> bool
     true
 }
 
-// Whether the chain heads are those of the list: no bit of any differs. No early exit, so that the loop can be vectorised.
+// Whether the chain heads are those of the list, compared many at a time.
 pub fn heads_ok(t: &[u32], last: &[u32]) -> bool
     requires { (8192 ≤ length t.now) × (length last.now ≡ 4096) }
     ensures { Tells result (Headed t.now last.now) }
