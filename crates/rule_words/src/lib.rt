@@ -11,7 +11,7 @@ use table_words::head_word;
 pub const NUMBERS: u32 = 65536;
 
 // A branch: a phrase number or a node.
-#[derive(Clone, Copy)]
+#[derive(Clone, Copy, PartialEq, Eq, Debug)]
 pub enum Branch {
     Phrase(u32),
     Node(u32),

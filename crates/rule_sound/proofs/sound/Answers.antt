@@ -1,53 +1,21 @@
 -- `rule_sound::sound` meets its contract: each test is one field of the record, in its order. Assumes nothing.
-use Rattle.std.proofs.Common.{arith, sym}
-use Rattle.settings.proofs.Answers.{granted, denied, retell}
-use Rattle.table_checks.proofs.Framing.{framed}
-use Rattle.rule_sound.proofs.Walking.{formed, order_is}
+use Rattle.std.proofs.Common.{rules, sym}
+use Rattle.settings.proofs.Answers.{retell}
+use Rattle.table_checks.specs.Walk.{Rooted}
+use Rattle.rule_sound.proofs.Walking.{order_is}
 use mathlib.Core.Path.{◌∙◌}
+use Rattle.promises.specs.Sound.{Header, Chained}
+use Rattle.promises.specs.RuleSound.{RuleNodesOk as Nodes}
 use Rattle.rule_sound.proofs.sound.Goals as goal
 
-pub returns-then-not-header_ok : goal.returns-then-not-header_ok
-returns-then-not-header_ok c = λ z. denied c.header_ok.result c.if-not-header_ok.true-raw c.header_ok.ensures z.header
-
-pub nodes_ok-requires : goal.nodes_ok-requires
-nodes_ok-requires c = granted c.header_ok.result c.if-not-header_ok.false-raw c.header_ok.ensures
-
-pub returns-then-not-nodes_ok : goal.returns-then-not-nodes_ok
-returns-then-not-nodes_ok c = λ z. denied c.nodes_ok.result c.if-not-nodes_ok.true-raw c.nodes_ok.ensures z.nodes_ok
-
-pub chains_ok-requires : goal.chains_ok-requires
-chains_ok-requires c = framed (granted c.header_ok.result c.if-not-header_ok.false-raw c.header_ok.ensures)
-
-pub returns-then-not-chains_ok : goal.returns-then-not-chains_ok
-returns-then-not-chains_ok c = λ z. denied c.chains_ok.result c.if-not-chains_ok.true-raw c.chains_ok.ensures z.chained
-
-pub roots_ok-requires : goal.roots_ok-requires
-roots_ok-requires c = (granted c.header_ok.result c.if-not-header_ok.false-raw c.header_ok.ensures, omega arith)
-
-pub returns-then-not-roots_ok : goal.returns-then-not-roots_ok
-returns-then-not-roots_ok c = λ z. denied c.roots_ok.result c.if-not-roots_ok.true-raw c.roots_ok.ensures (record { rooted = z.roots_ok.rooted })
-
-pub order_ok-requires : goal.order_ok-requires
-order_ok-requires c = (
-  formed (record {
-    header = granted c.header_ok.result c.if-not-header_ok.false-raw c.header_ok.ensures;
-    nodes_ok = granted c.nodes_ok.result c.if-not-nodes_ok.false-raw c.nodes_ok.ensures;
-    chained = granted c.chains_ok.result c.if-not-chains_ok.false-raw c.chains_ok.ensures;
-  }),
-  granted c.roots_ok.result c.if-not-roots_ok.false-raw c.roots_ok.ensures,
-  omega arith,
-)
-
-pub returns : goal.returns
-returns c =
+pub returns-then-roots_ok : goal.returns-then-roots_ok
+returns-then-roots_ok c =
+    let t = c.args.t.now in
+    let h : Header 1 t = search rules in
+    let n : Nodes t = search rules in
+    let k : Chained t = search rules in
+    let r : Rooted 65536 32 t = search rules in
     retell c.order_ok.result
-    (λ q.
-    record {
-      header = granted c.header_ok.result c.if-not-header_ok.false-raw c.header_ok.ensures;
-      nodes_ok = granted c.nodes_ok.result c.if-not-nodes_ok.false-raw c.nodes_ok.ensures;
-      chained = granted c.chains_ok.result c.if-not-chains_ok.false-raw c.chains_ok.ensures;
-      roots_ok = record { rooted = (granted c.roots_ok.result c.if-not-roots_ok.false-raw c.roots_ok.ensures).rooted };
-      in_order = order_is _ ∙ q;
-    })
+    (λ q. record { header = h; nodes_ok = n; chained = k; roots_ok = record { rooted = r.rooted }; in_order = order_is _ ∙ q })
     (λ z. sym (order_is _) ∙ z.in_order)
     c.order_ok.ensures
