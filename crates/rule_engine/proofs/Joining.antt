@@ -32,7 +32,7 @@ use Rattle.rule_engine.specs.Shortcuts.{Standing, Short}
 use Rattle.rule_engine.specs.Joint.{spread, turn, joint, Operands, Next, Lowest}
 use Rattle.rule_operators.proofs.Operating.{op_any}
 use Rattle.promises.specs.Tab.{tab}
-use Rattle.promises.specs.Words.{features, size, sizes}
+use Rattle.promises.specs.Words.{features, sizes}
 use Rattle.promises.specs.RuleWords.{decode, rule_node_list as nodes}
 
 -- ---- one step
@@ -129,12 +129,6 @@ operands_ext w t k g v list f n l fl hk p =
       each = λ j a. ok_ext (nodes w) (nodes t) k (decode (listed l j)) (filling_ext w k g p.holds hk t v list fl) (p.each j a);
       forget = λ h. let hf : f < features w = omega arith in omega (arith, p.forget hf, kept_size w t kp p.holds.laid.laid.few f hf);
     }
-
-pub turn_small : (w : List ℕ) (f n k : ℕ) (l : List ℕ) (j v : ℕ) → Operands w f n k l → k < features w → v < size w k → j < n → turn f k j v < size w k
-turn_small w f n k l j v p hk hv hj = ⊎_elim
-    (λ e. rw (eq-eqb f k e) (let q : n ≤ size w f = p.forget (omega arith) in let z : size w f ≡ size w k = ap (size w) e in omega arith))
-    (λ e. rw (ne_eqb f k e) hv)
-    (same f k)
 
 -- ---- results
 -- no operand tests feature k

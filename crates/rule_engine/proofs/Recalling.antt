@@ -2,7 +2,7 @@
 use Rattle.std.specs.Prelude.{Option, Some}
 use mathlib.Core.Path.{◌≡◌, sym, ap, subst, ◌∙◌}
 use mathlib.Core.List.{List}
-use Prim.Native.Nat.{ℕ, ◌+◌, ◌-◌, ◌≤◌, ◌<◌}
+use Prim.Native.Nat.{ℕ, ◌+◌, ◌≤◌, ◌<◌}
 use native.Mathlib.Omega.{arith}
 use lib.ListN.{length, take, drop}
 use lib.Seq.{length-take-le, get_or-take, get_or-drop}
@@ -31,6 +31,20 @@ use Rattle.promises.specs.RuleWords.{decode, rule_node_list as nodes}
 joint_like : (w : List ℕ) (o f n k : ℕ) (l r : List ℕ) → ((j : ℕ) → j < n → listed l j ≡ listed r j) → (s : List ℕ) → joint w o f n k l s ≡ joint w o f n k r s
 unfolding joint
 joint_like w o f n k l r e s = ap (λ (q : List ℕ). says (op_of o q)) (tab_ext _ _ n (λ j h. ap (λ (b : ℕ). number (nodes w) k (decode b) (spread f k j s)) (e j h)))
+
+-- so it is that of the first n words of a longer list
+pub joint_taken : (w : List ℕ) (o f n k : ℕ) (l : List ℕ) → n ≤ length l → (s : List ℕ) → joint w o f (length (take n l)) k (take n l) s ≡ joint w o f n k l s
+joint_taken w o f n k l h s = rw (length-take-le n l h) (joint_like w o f n k (take n l) l (λ j b. get_or-take n l j 0 b) s)
+
+pub operands_taken : (w : List ℕ) (f n k : ℕ) (l : List ℕ) → n ≤ length l → Operands w f n k l → Operands w f (length (take n l)) k (take n l)
+operands_taken w f n k l h p = rw (length-take-le n l h) (record {
+  holds = p.holds;
+  two = p.two;
+  nine = p.nine;
+  up_to = p.up_to;
+  each = λ j b. rw (get_or-take n l j 0 b) (p.each j b);
+  forget = p.forget;
+})
 
 -- and is the same of a later table
 joint_more : (w t : List ℕ) (o f n k : ℕ) (l : List ℕ) → Holds w → Ext (nodes w) (nodes t) → ((j : ℕ) → j < n → Good w k (listed l j)) → (s : List ℕ) → joint t o f n k l s ≡ joint w o f n k l s
@@ -65,18 +79,6 @@ result_recalled w t o f n k x l p r =
     (result_mean w t k (joint w o f n k l) x p.holds r)
 
 -- ---- the memory
--- the words that are laid first are the key
-pub key_laid : (n k : ℕ) (l key : List ℕ) → n ≤ 9 → length key ≡ 10 → listed key 0 ≡ k + 1 → ((j : ℕ) → j < n → listed key (1 + j) ≡ listed l j) → Keyed n k l (take (n + 1) key)
-key_laid n k l key h long feature operand = record {
-  long = length-take-le (n + 1) key (omega (arith, long));
-  feature = get_or-take (n + 1) key 0 0 (omega arith) ∙ feature;
-  operand = λ j b. get_or-take (n + 1) key (1 + j) 0 (omega arith) ∙ operand j b;
-}
-
--- and the part that is lent
-pub key_part : (n k : ℕ) (l key : List ℕ) → Keyed n k l (take (n + 1) key) → Keyed n k l (take (n + 1 - 0) key)
-key_part n k l key q = let e : n + 1 ≡ n + 1 - 0 = omega arith in subst (λ (m : ℕ). Keyed n k l (take m key)) e q
-
 module _ (w : List ℕ) (o f n k : ℕ) (l key : List ℕ) (q : Keyed n k l key) where
   -- an entry says one result
   pub right_here : (x y : ℕ) → Recalled w o f n k l x → Right o f n w key x y

@@ -120,7 +120,3 @@ short_case o f x y h six small = record {
       ap F (op_case o n (listed l) (omega arith) six) ∙ chosen_stands F (listed l) n (listed l 0) st
       ∙ ap (λ (p : ℕ). case_of p (drop 1 (tab G n))) (d ∙ sym (ap F d ∙ st.itself x small)) ∙ sym (op_case o n G (omega arith) six);
 }
-
--- ---- no shortcut
-pub never : {A : Type 0} → false ≡ true → A
-never {A} e = absurd (let z : ◌≡◌ {A = ℕ} 0 1 = ap (λ (b : Bool). pick b 1 0) e in omega arith)

@@ -10,10 +10,9 @@ use lib.ListN.{length, get_or, drop, set, length-set}
 use lib.Seq.{get_or-set_same, get_or-set_other}
 use Rattle.theory.specs.Build.{make, Ext}
 use Rattle.theory.specs.Diagrams.{blank, value}
-use Rattle.theory.specs.Functions.{Agree, held}
+use Rattle.theory.specs.Functions.{held}
 use Rattle.theory.specs.Rules.{Branch, Rule, Built}
 use Rattle.theory.specs.WellFormed.{Mean, Ok}
-use Rattle.theory.proofs.Canonical.{build_agree}
 use Rattle.table_words.specs.Holding as H
 use Rattle.table_words.specs.Holding.{built as builtOf}
 use Rattle.table_words.specs.Words.{listed}
@@ -57,11 +56,6 @@ result_there w k x g ok e = from (F.result_there lawful w k (decode x) g ok e)
 -- ---- what is built
 pub sizes_from : (w : List ℕ) (k : ℕ) → k < features w → drop k (sizes w) ≡ size w k ∷ drop (suc k) (sizes w)
 sizes_from w k h = F.sizes_from lawful w k (omega (arith, length_sizes w)) ∙ ap (λ (n : ℕ). n ∷ drop (suc k) (sizes w)) (at_sizes w k h)
-
--- rules that agree at every setting are built alike
-pub built_agree : (w : List ℕ) (k : ℕ) (g h : Rule) → Agree (drop k (sizes w)) g h → built w k g ≡ built w k h
-unfolding builtOf
-built_agree w k g h e = build_agree k (drop k (sizes w)) g h e (nodes w)
 
 -- a rule that does not depend on feature k is built at the next
 pub built_skip : (w : List ℕ) (k : ℕ) (g h : Rule) → Holds w → k < features w → ((v : ℕ) → v < size w k → (s : List ℕ) → g (v ∷ s) ≡ h s) → built w k g ≡ built w (k + 1) h

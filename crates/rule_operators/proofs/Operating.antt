@@ -1,6 +1,6 @@
 -- The laws of the operators. Assumes nothing.
 use mathlib.Core.Bool.{Bool, true, false, not}
-use mathlib.Core.Path.{◌≡◌, sym, ap, ap₂, ◌∙◌}
+use mathlib.Core.Path.{◌≡◌, refl, sym, ap, ap₂, ◌∙◌}
 use mathlib.Core.Logic.{⊎_elim}
 use mathlib.Core.List.{List, [], ◌∷◌}
 use Prim.Native.Nat.{ℕ, suc, ◌+◌, ◌≤◌, ◌<◌}
@@ -8,8 +8,13 @@ use native.Mathlib.Numerals.{add-one}
 use native.Mathlib.Omega.{arith}
 use lib.Dec.{ltb, eqb}
 use lib.ListN.{get_or, drop, get_or-eq_default}
-use lib.Seq.{get_or-drop, drop-cons, drop-length}
+use lib.Seq.{drop-cons, get_or-drop}
 use borrow.Author.Tests.{lt-ltb, le-ltb, eq-eqb, ne_eqb}
+use Rattle.std.specs.Prelude.{reverse}
+use Rattle.std.specs.List.{fold}
+use Rattle.std.proofs.lemmas.List.{reverse-append}
+use Rattle.std.proofs.lemmas.List.Sums.{fold-append}
+use Rattle.table_words.specs.Words.{listed}
 use Rattle.table_words.proofs.Tab.{split, length_tab, get_or_tab}
 use Rattle.rule_operators.specs.Operators.{op_of}
 use Rattle.promises.specs.Tab.{tab}
@@ -29,6 +34,19 @@ pub op_forget : (o n : ℕ) (f : ℕ → ℕ) → 6 < o → op_of o (tab f n) �
 unfolding op_of
 op_forget o n f h = rw (le-ltb o 6 (omega arith), ne_eqb o 6 (omega arith))
 
+-- the same of a list of numbers
+pub list_pair : (o : ℕ) (l : List ℕ) → o < 6 → op_of o l ≡ pair_of o (listed l 0) (listed l 1)
+unfolding op_of
+list_pair o l h = rw (lt-ltb o 6 h) refl
+
+pub list_case : (l : List ℕ) → op_of 6 l ≡ case_of (listed l 0) (drop 1 l)
+unfolding op_of
+list_case l = refl
+
+pub list_forget : (l : List ℕ) → op_of 7 l ≡ forgotten_of l
+unfolding op_of
+list_forget l = refl
+
 -- ---- CASE
 -- the number at the selector's index among the others, and 0 past them
 pub case_at : (f : ℕ → ℕ) (n i : ℕ) → 1 + i < n → f (1 + i) ≡ case_of i (drop 1 (tab f n))
@@ -40,16 +58,18 @@ unfolding case_of
 case_past f n i h = sym (get_or-drop 1 (tab f n) i 0 ∙ get_or-eq_default (tab f n) 0 (omega (arith, length_tab f n)))
 
 -- ---- FORGET, from the last number to the first
-pub forgotten_none : (f : ℕ → ℕ) (n : ℕ) → 0 ≡ forgotten_of (drop n (tab f n))
-unfolding forgotten_of
-forgotten_none f n =
-    ap forgotten_of (sym (ap (λ (m : ℕ). drop m (tab f n)) (sym (length_tab f n)) ∙ drop-length (tab f n)))
-
 pub forgotten_more : (f : ℕ → ℕ) (n i j b : ℕ) → i + 1 ≡ j → i < n → b ≡ forgotten_of (drop j (tab f n)) → merged_of (f i) b ≡ forgotten_of (drop i (tab f n))
 unfolding forgotten_of
 forgotten_more f n i j b e h q =
     ap₂ merged_of (sym (get_or_tab f n i 0 h)) (q ∙ ap (λ (m : ℕ). forgotten_of (drop m (tab f n))) (sym e ∙ add-one i))
     ∙ sym (ap forgotten_of (drop-cons (tab f n) i 0 (omega (arith, length_tab f n))))
+
+pub forgotten_fold : (l : List ℕ) → fold (λ (a b : ℕ). merged_of b a) 0 (reverse l) ≡ forgotten_of l
+unfolding forgotten_of
+forgotten_fold [] = refl
+forgotten_fold (x ∷ l) =
+    ap (fold (λ (a b : ℕ). merged_of b a) 0) (reverse-append (x ∷ []) l) ∙ fold-append (λ (a b : ℕ). merged_of b a) 0 (reverse l) (x ∷ [])
+    ∙ ap (merged_of x) (forgotten_fold l)
 
 -- ---- what holds of 0, of 1 and of the numbers holds of the operator's
 pick_any : (P : ℕ → Type 0) (t : Bool) (x y : ℕ) → P x → P y → P (pick t x y)

@@ -1,12 +1,17 @@
 -- `rule_engine::rest_result`, `node_result` and `fill_branches` meet their contracts: the remaining features fall; the first v branches are filled, and the memory is right so far. Assumes nothing.
-use Rattle.std.proofs.Common.{arith, ◌+◌, ◌≡◌, refl, sym}
+use Rattle.std.proofs.Common.{arith, List, ℕ, ◌+◌, ◌<◌, ◌≡◌, refl, sym, ap, length}
 use Rattle.theory.proofs.Growing.{make_grows}
 use Rattle.rule_words.specs.Table.{rule_table}
 use Rattle.table_memory.proofs.Building.{noted_result}
 use Rattle.table_notes.proofs.Far.{grown_windowed}
-use Rattle.rule_engine.proofs.Recalling.{key_part, right_here, right_more, hit, result_recalled}
+use Rattle.rule_engine.proofs.Recalling.{right_here, right_more, hit, result_recalled}
 use Rattle.rule_engine.proofs.Noting.{plain_features, told_is, told_none, word_left, none_left}
 use Rattle.rule_engine.proofs.Joining.{joint_held, lowest_from, operands_next, operands_jump, operands_ext, joint_jump, joint_forget, joint_phrases, joint_short}
+use Rattle.table_words.proofs.Tab.{tab_of}
+use Rattle.table_words.specs.Words.{listed}
+use Rattle.promises.specs.Tab.{tab}
+use Rattle.rule_operators.specs.Operators.{op_of, number_of, forgotten_by}
+use Rattle.rule_engine.specs.Joint.{Operands}
 use Rattle.rule_engine.specs.Memory.{Still, StillIf}
 use Rattle.table_notes.specs.Plain.{plain}
 use Rattle.table_notes.specs.Far.{memory}
@@ -16,119 +21,129 @@ use Rattle.rule_nodes.proofs.Filling.{gives_is, gives_none, fill_start, fill_mor
 use Rattle.rule_nodes.proofs.Reading.{good_small}
 use Rattle.rule_nodes.specs.Nodes.{Filling}
 use Rattle.table_words.proofs.Words.{kept_features, kept_size}
-use lib.ListN.{get_or-replicate}
+use lib.ListN.{get_or-replicate, replicate}
+use lib.Seq.{length-take-le}
 use mathlib.Core.Path.{subst, ◌∙◌}
-use borrow.Author.Rules.{rules}
 use Rattle.promises.specs.Words.{features, size}
 use Rattle.rule_engine.proofs.+fill_branches_node_result_rest_result.Goals as goal
 
-pub fill_branches-size_word-requires : goal.fill_branches-size_word-requires
-fill_branches-size_word-requires t c =
+-- the number of values of the feature is that without notes
+values : (w : List ℕ) (f n k : ℕ) (l : List ℕ) (m : ℕ) → Operands (plain w) f n k l → k < features (plain w) → m ≡ size w k → m ≡ size (plain w) k
+values w f n k l m p h e = e ∙ sym (plain_head w (3 + k) (omega (arith, p.holds.laid.laid.few)))
+
+pub fill_branches-size_word-v-end-requires : goal.fill_branches-size_word-v-end-requires
+fill_branches-size_word-v-end-requires t c =
     omega (arith, c.requires.0.holds.laid.laid.few, c.requires.2, c.requires.0.holds.laid.laid.room, length_plain c.args.t.now)
 
 pub fill_branches-loop-v-init : goal.fill_branches-loop-v-init
-fill_branches-loop-v-init t c =
-    let e : c.wide-m.result ≡ size (plain c.args.t.now) c.args.k = c.wide-m.ensures.0 ∙ c.size_word.ensures
-    ∙ sym (plain_head c.args.t.now (3 + c.args.k) (omega (arith, c.requires.0.holds.laid.laid.few, c.requires.2))) in (
-      e,
-      omega arith,
-      subst (Filling _ _ c.args.k _ 0) (sym c.requires.3) (fill_start _ c.args.k _ c.requires.0.holds c.requires.2 _ refl (λ u h. get_or-replicate 12 u 0 0 h)),
-      c.requires.1,
-      refl,
-      refl,
-      refl,
-    )
+fill_branches-loop-v-init t c = (
+  subst (Filling _ _ c.args.k _ 0) (sym c.requires.3) (fill_start _ c.args.k _ c.requires.0.holds c.requires.2 _ refl (λ u h. get_or-replicate 12 u 0 0 h)),
+  c.requires.1,
+  length-take-le (length c.args.ops.now) (replicate 9 0) c.requires.0.nine,
+)
 
 pub fill_branches-operands_at-requires : goal.fill_branches-operands_at-requires
 fill_branches-operands_at-requires t c =
     let l = c.loop-v in
-    let fl = l.invariant.2 in
-    let kp = fl.filled.grown.kept in (
+    let fl = l.invariant.0 in
+    let kp = fl.filled.grown.kept in
+    let e = values _ _ _ c.args.k c.args.ops.now _ c.requires.0 c.requires.2 c.size_word-v-end.ensures in (
       operands_ext (plain c.args.t.now) _ c.args.k _ l.v l.list _ _ c.args.ops.now fl c.requires.2 c.requires.0,
       omega (arith, kept_features _ _ kp, c.requires.2),
-      omega (arith, kept_size _ _ kp c.requires.0.holds.laid.laid.few c.args.k c.requires.2, l.invariant.0, c.loop-v-test),
-      l.invariant.6,
+      omega (arith, kept_size _ _ kp c.requires.0.holds.laid.laid.few c.args.k c.requires.2, e, c.loop-v-test),
+      l.invariant.2,
     )
 
 pub fill_branches-rest_result-r-requires : goal.fill_branches-rest_result-r-requires
 fill_branches-rest_result-r-requires t c =
     let l = c.loop-v in
-    let fl = l.invariant.2 in
+    let fl = l.invariant.0 in
     let n = kept_features _ _ fl.filled.grown.kept in
     let hk = c.requires.2 in (
       omega arith,
-      (
+      rw c.operands_at.ensures.1 (
         operands_next _ _ _ c.args.k l.v c.args.ops.now _ (operands_ext (plain c.args.t.now) _ c.args.k _ l.v l.list _ _ c.args.ops.now fl
             c.requires.2 c.requires.0) (omega arith) c.operands_at.ensures.0,
-        l.invariant.3,
+        l.invariant.1,
       ),
     )
 
 pub fill_branches-returns-then-r-ge-NO_ROOM : goal.fill_branches-returns-then-r-ge-NO_ROOM
 fill_branches-returns-then-r-ge-NO_ROOM t c =
     let l = c.loop-v in
-    let fl = l.invariant.2 in (
-      fill_stop (plain c.args.t.now) c.args.k _ c.requires.0.holds c.requires.2 (plain l.t) _ l.v l.list _ _ fl (omega (arith, l.invariant.0, c.loop-v-test))
-          (joint_held (plain c.args.t.now) (plain l.t) c.args.o c.args.f c.args.n c.args.k l.v c.args.ops.now _ c.requires.0
+    let fl = l.invariant.0 in
+    let e = values _ _ _ c.args.k c.args.ops.now _ c.requires.0 c.requires.2 c.size_word-v-end.ensures in (
+      fill_stop (plain c.args.t.now) c.args.k _ c.requires.0.holds c.requires.2 (plain l.t) _ l.v l.list _ _ fl (omega (arith, e, c.loop-v-test))
+          (joint_held (plain c.args.t.now) (plain l.t) (number_of c.args.operator.now) (forgotten_by c.args.operator.now) (length c.args.ops.now) c.args.k l.v c.args.ops.now _ c.requires.0
           (filling_ext (plain c.args.t.now) c.args.k _ c.requires.0.holds c.requires.2 (plain l.t) l.v l.list fl) c.operands_at.ensures.0)
-          c.rest_result-r.ensures.0 (told_none _ c.if-r-ge-NO_ROOM.true),
+          (rw c.operands_at.ensures.1 at c.rest_result-r.ensures.0) (told_none _ c.if-r-ge-NO_ROOM.true),
       tt,
     )
 
 pub fill_branches-bounds-list-v : goal.fill_branches-bounds-list-v
-fill_branches-bounds-list-v t c = omega (arith, c.requires.0.holds.laid.laid.large c.args.k c.requires.2, c.loop-v.invariant.0, c.loop-v-test)
+fill_branches-bounds-list-v t c =
+    let e = values _ _ _ c.args.k c.args.ops.now _ c.requires.0 c.requires.2 c.size_word-v-end.ensures in
+    omega (arith, c.requires.0.holds.laid.laid.large c.args.k c.requires.2, e, c.loop-v-test, c.loop-v.invariant.0.long)
 
 pub fill_branches-loop-v-preserved : goal.fill_branches-loop-v-preserved
 fill_branches-loop-v-preserved t c =
     let l = c.loop-v in
-    let fl = l.invariant.2 in
+    let fl = l.invariant.0 in
+    let e = values _ _ _ c.args.k c.args.ops.now _ c.requires.0 c.requires.2 c.size_word-v-end.ensures in
     let is = told_is c.rest_result-r.result (omega (arith, c.if-r-ge-NO_ROOM.false)) in (
-      l.invariant.0,
-      omega (arith, c.loop-v-test),
-      fill_more (plain c.args.t.now) c.args.k _ c.requires.0.holds c.requires.2 (plain l.t) _ l.v _ l.list _ _ fl (omega (arith, l.invariant.0, c.loop-v-test))
-          (joint_held (plain c.args.t.now) (plain l.t) c.args.o c.args.f c.args.n c.args.k l.v c.args.ops.now _ c.requires.0
+      fill_more (plain c.args.t.now) c.args.k _ c.requires.0.holds c.requires.2 (plain l.t) _ l.v _ l.list _ _ fl (omega (arith, e, c.loop-v-test))
+          (joint_held (plain c.args.t.now) (plain l.t) (number_of c.args.operator.now) (forgotten_by c.args.operator.now) (length c.args.ops.now) c.args.k l.v c.args.ops.now _ c.requires.0
           (filling_ext (plain c.args.t.now) c.args.k _ c.requires.0.holds c.requires.2 (plain l.t) l.v l.list fl) c.operands_at.ensures.0)
-          c.rest_result-r.ensures.0 is,
-      subst (Still _ _ _ _ _) is c.rest_result-r.ensures.1,
-      search rules,
-      search rules,
+          (rw c.operands_at.ensures.1 at c.rest_result-r.ensures.0) is,
+      subst (Still _ _ _ _ _) is (rw c.operands_at.ensures.1 at c.rest_result-r.ensures.1),
       c.operands_at.ensures.1,
     )
 
 pub fill_branches-returns : goal.fill_branches-returns
 fill_branches-returns t c =
     let l = c.loop-v in
-    let e : l.v ≡ size (plain c.args.t.now) c.args.k = omega (arith, l.invariant.0, l.invariant.1, c.loop-v-test) in
-    (rw e at l.invariant.2, l.invariant.3)
+    let n = values _ _ _ c.args.k c.args.ops.now _ c.requires.0 c.requires.2 c.size_word-v-end.ensures in
+    let e : l.v ≡ size (plain c.args.t.now) c.args.k = omega (arith, n, c.loop-v-test) in
+    (rw e at l.invariant.0, l.invariant.1)
+
+pub node_result-forgets-requires : goal.node_result-forgets-requires
+node_result-forgets-requires t c = omega (arith, c.requires.0.holds.laid.laid.few, c.requires.2)
 
 pub node_result-operands_at-requires : goal.node_result-operands_at-requires
-node_result-operands_at-requires t c = (c.requires.0, c.requires.2, omega (arith, c.requires.0.holds.laid.laid.large c.args.k c.requires.2), refl)
+node_result-operands_at-requires t c = (
+  c.requires.0,
+  c.requires.2,
+  omega (arith, c.requires.0.holds.laid.laid.large c.args.k c.requires.2),
+  length-take-le (length c.args.ops.now) (replicate 9 0) c.requires.0.nine,
+)
 
 pub node_result-rest_result-requires : goal.node_result-rest_result-requires
 node_result-rest_result-requires t c =
     let hk = c.requires.2 in
-    (omega arith, (operands_next _ _ _ c.args.k 0 c.args.ops.now _ c.requires.0 hk c.operands_at.ensures.0, c.requires.1))
+    (omega arith, rw c.operands_at.ensures.1 (operands_next _ _ _ c.args.k 0 c.args.ops.now _ c.requires.0 hk c.operands_at.ensures.0, c.requires.1))
 
-pub node_result-returns-then-f-k : goal.node_result-returns-then-f-k
-node_result-returns-then-f-k t c = (
-  joint_forget _ _ _ _ _ c.args.k c.args.ops.now _ _ c.requires.0 c.if-f-k.true c.requires.2 c.operands_at.ensures.0 c.rest_result.ensures.0,
-  c.rest_result.ensures.1,
+pub node_result-returns-then-forgets : goal.node_result-returns-then-forgets
+node_result-returns-then-forgets t c = (
+  joint_forget _ _ _ _ _ c.args.k c.args.ops.now _ _ c.requires.0 (c.forgets.ensures.0 c.if-forgets.true) c.requires.2 c.operands_at.ensures.0
+      (rw c.operands_at.ensures.1 at c.rest_result.ensures.0),
+  rw c.operands_at.ensures.1 at c.rest_result.ensures.1,
 )
 
 pub node_result-key_of-requires : goal.node_result-key_of-requires
-node_result-key_of-requires t c = (c.requires.0.two, c.requires.0.nine, omega (arith, c.requires.0.holds.laid.laid.few, c.requires.2), refl)
-
-pub node_result-slice_bounds-recall_in-end : goal.node_result-slice_bounds-recall_in-end
-node_result-slice_bounds-recall_in-end t c = omega (arith, c.requires.0.nine, c.key_of.ensures.1)
+node_result-key_of-requires t c = (
+  c.requires.0.two,
+  c.requires.0.nine,
+  omega (arith, c.requires.0.holds.laid.laid.few, c.requires.2),
+  length-take-le (length c.args.ops.now + 1) (replicate 10 0) (omega (arith, c.requires.0.nine)),
+)
 
 pub node_result-recall_in-requires : goal.node_result-recall_in-requires
 node_result-recall_in-requires t c = c.requires.1.room
 
 pub node_result-returns-in-Some : goal.node_result-returns-in-Some
 node_result-returns-in-Some t c =
-    let q = key_part c.args.n c.args.k c.args.ops.now _ c.key_of.ensures.0 in
     word_left _ _ c.args.k _ _ c.requires.0.holds
-    (hit _ _ _ _ c.args.k c.args.ops.now _ q (memory c.args.t.now c.args.s.now) _ _ _ c.requires.0 c.requires.1.right
+    (hit _ _ _ _ c.args.k c.args.ops.now _ c.key_of.ensures (memory c.args.t.now c.args.s.now) _ _ _ c.requires.0 c.requires.1.right
     c.recall_in.ensures c.in-Some.is) c.requires.1
 
 pub node_result-fill_branches-requires : goal.node_result-fill_branches-requires
@@ -151,13 +166,10 @@ node_result-returns-in_default-make_in t c =
     none_left _ _ c.args.k _ _ _ _ _ _
     (gives_none c.in_default-make_in.is (fill_make _ _ _ c.requires.0.holds c.requires.2 _ _ _ _ fl c.make_in.ensures.0))
 
-pub node_result-slice_bounds-remember_in-end : goal.node_result-slice_bounds-remember_in-end
-node_result-slice_bounds-remember_in-end t c = omega (arith, c.requires.0.nine, c.key_of.ensures.1)
-
 pub node_result-remember_in-requires : goal.node_result-remember_in-requires
 node_result-remember_in-requires t c = (
   grown_windowed _ _ c.make_in.ensures.0.grown.kept c.make_in.ensures.1 (subst (StillIf _ _ _ _ _) c.if-fill_branches.true c.fill_branches.ensures.1).room,
-  omega (arith, (key_part c.args.n c.args.k c.args.ops.now _ c.key_of.ensures.0).feature),
+  omega (arith, c.key_of.ensures.feature),
 )
 
 pub node_result-returns-then-fill_branches : goal.node_result-returns-then-fill_branches
@@ -166,9 +178,9 @@ node_result-returns-then-fill_branches t c =
     let m = c.make_in.ensures in
     let fl = filled _ _ _ _ _ _ c.if-fill_branches.true fb.ensures.0 in
     let re = gives_is c.in-Some-make_in.is (fill_make _ _ _ c.requires.0.holds c.requires.2 _ _ _ _ fl m.0) in
-    let y = key_part c.args.n c.args.k c.args.ops.now _ c.key_of.ensures.0 in
+    let y = c.key_of.ensures in
     word_left _ _ c.args.k _ _ c.requires.0.holds (rw c.remember_in.ensures.0 re)
-    (noted_result rule_table (right_more c.args.o c.args.f c.args.n) fl.filled.grown.well m.0.grown (make_grows _ _ _) m.1
+    (noted_result rule_table (right_more (number_of c.args.operator.now) (forgotten_by c.args.operator.now) (length c.args.ops.now)) fl.filled.grown.well m.0.grown (make_grows _ _ _) m.1
     (subst (StillIf _ _ _ _ _) c.if-fill_branches.true fb.ensures.1) y.long c.remember_in.ensures
     (right_here _ _ _ _ c.args.k c.args.ops.now _ y _ _ (result_recalled _ _ _ _ _ c.args.k _ c.args.ops.now c.requires.0 re)))
 
@@ -177,33 +189,42 @@ node_result-returns t c =
     none_left _ _ c.args.k _ _ _ _ _ _
     (stop_result _ _ _ c.requires.0.holds c.requires.2 _ (not_filled _ _ _ _ _ _ c.if-fill_branches.false c.fill_branches.ensures.0))
 
+-- the operator of the operands' words is that of the first words of their list
+op_of_list : (o : ℕ) (l : List ℕ) → op_of o l ≡ op_of o (tab (listed l) (length l))
+op_of_list o l = ap (op_of o) (sym (tab_of 0 l (length l) refl))
+
+pub rest_result-bounds-ops-0 : goal.rest_result-bounds-ops-0
+rest_result-bounds-ops-0 t c = omega (arith, c.requires.0.two)
+
+pub rest_result-bounds-ops-1 : goal.rest_result-bounds-ops-1
+rest_result-bounds-ops-1 t c = omega (arith, c.requires.0.two)
+
 pub rest_result-combine-requires : goal.rest_result-combine-requires
-rest_result-combine-requires t c = (c.requires.0.two, c.requires.0.nine)
+rest_result-combine-requires t c = c.requires.0.two
 
 pub rest_result-returns-then-shortcut : goal.rest_result-returns-then-shortcut
 rest_result-returns-then-shortcut t c =
     word_left _ _ c.args.k _ _ c.requires.0.holds
-    (joint_short _ _ _ _ c.args.k _ c.args.ops.now c.requires.0 (c.shortcut.ensures c.if-shortcut.true) c.combine.ensures) c.requires.1
+    (joint_short _ _ _ _ c.args.k _ c.args.ops.now c.requires.0 (c.shortcut.ensures c.if-shortcut.true) (c.combine.ensures ∙ op_of_list _ c.args.ops.now)) c.requires.1
 
 pub rest_result-lowest-m-requires : goal.rest_result-lowest-m-requires
-rest_result-lowest-m-requires t c = (c.requires.0.holds.laid.laid, c.requires.0.nine, λ j h. good_small _ _ _ (c.requires.0.each j h))
+rest_result-lowest-m-requires t c = (c.requires.0.holds.laid.laid, λ j h. good_small _ _ _ (c.requires.0.each j h))
 
 pub rest_result-features_word-requires : goal.rest_result-features_word-requires
 rest_result-features_word-requires t c = omega (arith, c.requires.0.holds.laid.laid.room, length_plain c.args.t.now)
 
-pub rest_result-combine-requires-then-wide-m : goal.rest_result-combine-requires-then-wide-m
-rest_result-combine-requires-then-wide-m t c = (c.requires.0.two, c.requires.0.nine)
+pub rest_result-combine-requires-then-features_word-m : goal.rest_result-combine-requires-then-features_word-m
+rest_result-combine-requires-then-features_word-m t c = c.requires.0.two
 
-pub rest_result-returns-then-wide-m : goal.rest_result-returns-then-wide-m
-rest_result-returns-then-wide-m t c =
-    let e : c.wide.result ≡ features (plain c.args.t.now) = c.wide.ensures.0 ∙ c.features_word.ensures
-    ∙ plain_features c.args.t.now in
+pub rest_result-returns-then-features_word-m : goal.rest_result-returns-then-features_word-m
+rest_result-returns-then-features_word-m t c =
+    let e : c.features_word.result ≡ features (plain c.args.t.now) = c.features_word.ensures ∙ plain_features c.args.t.now in
     word_left _ _ c.args.k _ _ c.requires.0.holds
-    (joint_phrases _ _ _ _ c.args.k c.lowest-m.result _ c.args.ops.now c.requires.0 c.lowest-m.ensures (omega arith) c.combine-then-wide-m.ensures) c.requires.1
+    (joint_phrases _ _ _ _ c.args.k c.lowest-m.result _ c.args.ops.now c.requires.0 c.lowest-m.ensures (omega arith) (c.combine-then-features_word-m.ensures ∙ op_of_list _ c.args.ops.now)) c.requires.1
 
 pub rest_result-node_result-requires : goal.rest_result-node_result-requires
 rest_result-node_result-requires t c =
-    let e : c.wide.result ≡ features (plain c.args.t.now) = c.wide.ensures.0 ∙ c.features_word.ensures ∙ plain_features c.args.t.now in
+    let e : c.features_word.result ≡ features (plain c.args.t.now) = c.features_word.ensures ∙ plain_features c.args.t.now in
     let h = lowest_from _ _ _ c.args.k c.lowest-m.result c.args.ops.now c.requires.0 c.lowest-m.ensures in
     (omega arith, (operands_jump _ _ _ c.args.k c.lowest-m.result c.args.ops.now c.requires.0 c.lowest-m.ensures, c.requires.1, omega arith))
 

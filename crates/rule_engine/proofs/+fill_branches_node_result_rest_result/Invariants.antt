@@ -1,10 +1,11 @@
 -- `rule_engine::rest_result`, `node_result` and `fill_branches` meet their contracts: the remaining features fall; the first v branches are filled, and the memory is right so far. Assumes nothing.
-use Rattle.std.proofs.Common.{length, ◌-◌, ◌*◌, ◌≤◌, ◌≡◌}
+use Rattle.std.proofs.Common.{length, ◌-◌, ◌*◌, ◌≡◌}
+use Rattle.rule_operators.specs.Operators.{number_of, forgotten_by}
 use Rattle.rule_engine.specs.Memory.{Noted}
 use Rattle.rule_engine.specs.Joint.{joint}
 use Rattle.table_notes.specs.Plain.{plain}
 use Rattle.rule_nodes.specs.Nodes.{Filling}
-use Rattle.promises.specs.Words.{features, size}
+use Rattle.promises.specs.Words.{features}
 use Rattle.rule_engine.proofs.+fill_branches_node_result_rest_result.Given as goal
 
 abbrev pub decreases-rest_result : goal.decreases-rest_result
@@ -18,8 +19,5 @@ decreases-fill_branches l = 3 * (features (plain l.t.now) - l.k) - 2
 
 abbrev pub invariant-fill_branches-loop-v : goal.invariant-fill_branches-loop-v
 invariant-fill_branches-loop-v l =
-    (l.m ≡ size (plain l.initial.t) l.k) × (l.v ≤ l.m) × Filling (plain l.initial.t) (plain l.t) l.k
-    (joint (plain l.initial.t) l.o l.f l.n l.k l.ops) l.v l.list × Noted l.t l.o l.f l.n l.s × (length l.t ≡ length l.initial.t) × (length l.s ≡ length l.initial.s) × (length l.next ≡ 9)
-
-abbrev pub decreases-fill_branches-loop-v : goal.decreases-fill_branches-loop-v
-decreases-fill_branches-loop-v l = l.m - l.v
+    Filling (plain l.initial.t) (plain l.t) l.k
+    (joint (plain l.initial.t) (number_of l.operator) (forgotten_by l.operator) (length l.ops) l.k l.ops) l.v l.list × Noted l.t (number_of l.operator) (forgotten_by l.operator) (length l.ops) l.s × (length l.next ≡ length l.ops)

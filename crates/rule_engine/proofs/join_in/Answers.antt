@@ -1,5 +1,5 @@
 -- `rule_engine::join_in` meets its contract: at the beginning nothing is remembered, and the far records are 0 again. Assumes nothing.
-use Rattle.std.proofs.Common.{arith, ◌-◌}
+use Rattle.std.proofs.Common.{arith}
 use Rattle.table_notes.proofs.Alike.{grown_roomy}
 use Rattle.table_notes.proofs.Windows.{lent_cleared}
 use Rattle.table_memory.proofs.Remembering.{noted_none}
@@ -12,8 +12,8 @@ use Rattle.rule_engine.proofs.join_in.Goals as goal
 pub rest_result-r-requires : goal.rest_result-r-requires
 rest_result-r-requires c =
     let n = c.begin-lent.ensures in (
-      operands_plain c.args.t.now _ c.args.f c.args.n 0 c.args.ops.now c.requires.0 c.requires.1 n.same,
-      noted_none _ _ _ _ _ n (lent_cleared c.args.s.now c.clear.new.s (c.begin-lent.result - 0) (omega (arith, n.fits)) c.clear.auto.s c.clear.ensures),
+      operands_plain c.args.t.now _ _ _ 0 c.args.ops.now c.requires.0 c.requires.1 n.same,
+      noted_none _ _ _ _ _ n (lent_cleared c.args.s.now c.clear.new.s c.begin-lent.result (omega (arith, n.fits)) c.clear.auto.s c.clear.ensures),
     )
 
 pub clear_far-requires : goal.clear_far-requires
@@ -21,7 +21,7 @@ clear_far-requires c = grown_roomy _ _ c.rest_result-r.ensures.0.grown.kept c.be
 
 pub returns-then-r-ge-NO_ROOM : goal.returns-then-r-ge-NO_ROOM
 returns-then-r-ge-NO_ROOM c =
-    joint_cleared c.args.t.now _ _ _ c.args.o c.args.f c.args.n 0 c.args.ops.now _ c.requires.1 c.begin-lent.ensures.same c.clear_far.ensures
+    joint_cleared c.args.t.now _ _ _ _ _ _ 0 c.args.ops.now _ c.requires.1 c.begin-lent.ensures.same c.clear_far.ensures
     (subst (Result _ _ 0 _) (told_none _ (omega arith)) c.rest_result-r.ensures.0)
 
 pub clear_window-requires : goal.clear_window-requires
@@ -29,5 +29,5 @@ clear_window-requires c = (subst (Still _ _ _ _ _) (told_is _ (omega arith)) c.r
 
 pub returns : goal.returns
 returns c =
-    joint_cleared c.args.t.now _ _ _ c.args.o c.args.f c.args.n 0 c.args.ops.now _ c.requires.1 c.begin-lent.ensures.same c.clear_window.ensures
+    joint_cleared c.args.t.now _ _ _ _ _ _ 0 c.args.ops.now _ c.requires.1 c.begin-lent.ensures.same c.clear_window.ensures
     (subst (Result _ _ 0 _) (told_is _ (omega arith)) c.rest_result-r.ensures.0)

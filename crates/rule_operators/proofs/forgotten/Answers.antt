@@ -1,25 +1,13 @@
--- `rule_operators::forgotten` meets its contract: the rule holds of the numbers from j on, from the last to the first. Assumes nothing.
-use Rattle.std.proofs.Common.{drop, arith, ℕ, ◌-◌, ◌≡◌, ap}
-use Rattle.rule_operators.proofs.Operating.{forgotten_none, forgotten_more}
-use Rattle.table_words.specs.Words.{listed}
+-- `rule_operators::forgotten` meets its contract: the rule holds of the numbers from the last to the first. Assumes nothing.
+use Rattle.std.proofs.Common.{rules, ◌≡◌, ℕ}
+use Rattle.std.specs.Prelude.{reverse}
+use Rattle.std.specs.List.{fold}
+use Rattle.rule_operators.proofs.Operating.{forgotten_fold}
 use mathlib.Core.Path.{◌∙◌}
-use Rattle.promises.specs.Operators.{forgotten_of}
-use Rattle.promises.specs.Tab.{tab}
+use Rattle.promises.specs.Operators.{merged_of}
 use Rattle.rule_operators.proofs.forgotten.Goals as goal
-
-pub loop-j-init : goal.loop-j-init
-loop-j-init c = (omega arith, forgotten_none (listed (c).args.vals.now) (c).args.n)
-
-pub loop-j-preserved : goal.loop-j-preserved
-loop-j-preserved c =
-    let l = c.loop-j in (
-      omega arith,
-      c.merged-left.ensures ∙ forgotten_more (listed c.args.vals.now) c.args.n
-          (l.j - 1) l.j l.left (omega arith) (omega arith) l.invariant.1,
-    )
 
 pub returns : goal.returns
 returns c =
-    let l = c.loop-j in
-    let e : l.j ≡ 0 = omega arith in
-    l.invariant.1 ∙ ap (λ (m : ℕ). forgotten_of (drop m (tab (listed c.args.vals.now) c.args.n))) e
+    let e : c.fold.result ≡ fold (λ (a b : ℕ). merged_of b a) 0 (reverse c.args.vals.now) = search rules in
+    e ∙ forgotten_fold c.args.vals.now

@@ -1,5 +1,6 @@
--- `rule_engine::operands::operands_at` meets its contract: the first j operands have gone to their branches. Assumes nothing.
-use Rattle.std.proofs.Common.{length, ℕ, ◌-◌, ◌≤◌, ◌<◌, ◌≡◌}
+-- `rule_engine::operands::operands_at` meets its contract: the operands passed have gone to their branches. Assumes nothing.
+use Rattle.std.proofs.Common.{length, ℕ, ◌<◌, ◌≡◌}
+use Rattle.rule_operators.specs.Operators.{forgotten_by}
 use Rattle.rule_engine.specs.Joint.{turn}
 use Rattle.table_notes.specs.Plain.{plain}
 use Rattle.table_words.specs.Words.{listed}
@@ -9,7 +10,4 @@ use Rattle.rule_engine.proofs.operands.operands_at.Given as goal
 
 abbrev pub invariant-loop-j : goal.invariant-loop-j
 invariant-loop-j l =
-    (length l.next ≡ 9) × (l.j ≤ l.n) × ((i : ℕ) → i < l.j → decode (listed l.next i) ≡ next_of (nodes (plain l.t)) l.k (decode (listed l.ops i)) (turn l.f l.k i l.v))
-
-abbrev pub decreases-loop-j : goal.decreases-loop-j
-decreases-loop-j l = l.n - l.j
+    (length l.next ≡ length l.ops) × ((i : ℕ) → i < l.j → decode (listed l.next i) ≡ next_of (nodes (plain l.t)) l.k (decode (listed l.ops i)) (turn (forgotten_by l.operator) l.k i l.v))
