@@ -4,17 +4,11 @@ ghost use Rattle.table_calls.specs.Door.{Enters};
 
 use cost_sound::sound;
 use settings::Refusal;
-use table_calls::are_places;
+use table_calls::{admit, are_places};
 
 // DAMAGED, BAD PLACE, or taken.
 pub fn door(t: &[u32], places: &[usize]) -> Result<(), Refusal>
     ensures { Enters CostSound 16 places.now t.now result }
 {
-    if !sound(t) {
-        return Err(Refusal::Damaged);
-    }
-    if !are_places(16, places) {
-        return Err(Refusal::BadPlace);
-    }
-    Ok(())
+    admit(sound(t), are_places(16, places))
 }

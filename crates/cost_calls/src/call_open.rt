@@ -6,15 +6,13 @@ ghost use Rattle.promises.specs.CostDeeds.{costed};
 
 use cost_words::ZERO;
 use settings::Refusal;
-use table_calls::{can_open, lay};
+
+// The word 0 of a cost table.
+const KIND: u32 = 2;
 
 // Opens a cost table over the feature list, with room for capacity nodes.
 pub fn open(t: &mut [u32], features: &[u8], capacity: usize) -> Result<(), Refusal>
     ensures { Meets (D.open_table costed features.now capacity (length t.old)) t.old t.new result }
 {
-    if !can_open(t, features, capacity) {
-        return Err(Refusal::BadOpening);
-    }
-    lay(t, 2, ZERO, features, capacity);
-    Ok(())
+    table_calls::open(t, KIND, ZERO, features, capacity)
 }

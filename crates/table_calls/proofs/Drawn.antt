@@ -18,7 +18,7 @@ use Rattle.theory.proofs.Counting.{tally_counts, counts_unique}
 use Rattle.settings.specs.Refusals.{Cases, Ends, ◌when◌else◌, taken}
 use Rattle.settings.specs.declared.refusals.Refusal.{Refusal}
 use Rattle.settings.specs.declared.refusals.Refusal.TheVariants.{NoRoom, BadOpening}
-use Rattle.std.specs.Prelude.{Ok}
+use Rattle.std.specs.Prelude.{Ok, Err}
 use Rattle.settings.specs.Refusals.{Outcome}
 use Rattle.settings.specs.Refusals.{Taken, Refused}
 use Rattle.settings.proofs.Endings.{stop, pass}
@@ -31,7 +31,7 @@ use Rattle.table_words.specs.Table.{Table}
 use Rattle.table_words.specs.Picture.{Pictures, Proper, Becomes}
 use Rattle.table_calls.specs.Writing.{Exceeds, Writes}
 use Rattle.table_calls.specs.Door.{Enters}
-use Rattle.table_calls.specs.Opening.{Opens}
+use Rattle.table_calls.specs.Opening.{Opens, Opened, Named}
 use Rattle.table_calls.proofs.Like.{alike, more, like_ends}
 use Rattle.table_calls.proofs.Meeting.{let_in, refuses, takes}
 
@@ -115,6 +115,13 @@ module _ {K : Kind} {D : Table K} {own : List ℕ → ℕ → Fun K} {Sound : Li
 
   pub fresh_opened : {S : List ℕ} {cap : ℕ} {w w' : List ℕ} → Openable S cap (length w) → Opens D S cap w w' Taken → Meets (open_table T S cap (length w)) w w' Taken
   fresh_opened o a = takes refl (pass (λ m. m tt) (pass (λ m. m o) refl)) (laid_out a refl) tt
+
+  pub opens : {k b : ℕ} {S : List ℕ} {cap : ℕ} {w w' : List ℕ} → (Openable S cap (length w) → Named k b S cap w w' → Opens D S cap w w' Taken) → (o : Outcome)
+      → Opened k b S cap w w' o → Meets (open_table T S cap (length w)) w w' o
+  opens f (Ok u) n = fresh_opened n.0 (f n.0 n.1)
+  opens {S = S} {cap = cap} {w = w} {w' = w'} f (Err x) n =
+      subst (λ (y : Refusal). Meets (open_table T S cap (length w)) w w' (Refused y)) (sym n.0)
+      (subst (λ (v : List ℕ). Meets (open_table T S cap (length w)) w v (Refused BadOpening)) (sym n.2) (not_opened w n.1))
 
   -- LOOK UP: what was found is what the place's own function gives, and so many features it asks
   pub looks : {w s : List ℕ} {p : ℕ} {o : Outcome} {r : looked.Result} → Enters Sound D.places (p ∷ []) w o → o ≡ Taken → Valid (sizes w) s

@@ -1,5 +1,5 @@
 -- Contract between layers: the promise of opening, and what its steps leave, for every kind. Assumes nothing.
-use Rattle.std.specs.Prelude.{◌≡◌, List, ℕ, ◌+◌, ◌≤◌, ◌<◌, length, get_or}
+use Rattle.std.specs.Prelude.{◌≡◌, List, ℕ, ◌+◌, ◌≤◌, ◌<◌, length, get_or, Ok, Err}
 use Rattle.theory.specs.Kind.{Kind}
 use Rattle.theory.specs.Functions.{Fun, zero_fun}
 use Rattle.settings.specs.Refusals.{Ends, ◌when◌else◌, taken}
@@ -59,3 +59,8 @@ pub record Named (k b : ℕ) (S : List ℕ) (cap : ℕ) (w w' : List ℕ) : Type
   pub bases : (j : ℕ) → 48 ≤ j → j < 64 → get_or w' j 0 ≡ b
   pub clean : (j : ℕ) → 64 ≤ j → j < bound cap → get_or w' j 0 ≡ 0
   pub past : (j : ℕ) → bound cap ≤ j → get_or w' j 0 ≡ get_or w j 0
+
+-- a table of kind k whose bases are the word b is opened, or it cannot be
+abbrev pub Opened : ℕ → ℕ → List ℕ → ℕ → List ℕ → List ℕ → Outcome → Type 0
+Opened k b S cap w w' (Ok u) = Openable S cap (length w) × Named k b S cap w w'
+Opened k b S cap w w' (Err x) = (x ≡ BadOpening) × (Openable S cap (length w) → ⊥) × (w' ≡ w)

@@ -1,14 +1,14 @@
 // A fresh table laid out in lent words, and whether it can be.
 ghost use Rattle.std.specs.Prelude.{◌≤◌, ◌<◌, length};
 ghost use Rattle.settings.specs.Tells.{Tells};
-ghost use Rattle.table_calls.specs.Opening.{Cleared, Based, Named, Sized};
+ghost use Rattle.table_calls.specs.Opening.{Cleared, Based, Named, Sized, Opened};
 ghost use Rattle.promises.specs.TableDeeds.{Openable};
 
-use settings::features_ok;
+use settings::{Refusal, features_ok};
 use table_words::{NODES, RECORDS};
 
 // Whether a table over the feature list with room for capacity nodes can be opened in the words t.
-pub fn can_open(t: &[u32], features: &[u8], capacity: usize) -> bool
+fn can_open(t: &[u32], features: &[u8], capacity: usize) -> bool
     ensures { Tells result (Openable features.now capacity (length t.now)) }
 {
     features_ok(features)
@@ -44,7 +44,7 @@ fn write_sizes(t: &mut [u32], features: &[u8])
 }
 
 // Lays a table of a kind out whose places hold the constant 0: no node, and the word of the base 0 where the kind has bases.
-pub fn lay(t: &mut [u32], kind: u32, base: u32, features: &[u8], capacity: usize)
+fn lay(t: &mut [u32], kind: u32, base: u32, features: &[u8], capacity: usize)
     requires { Openable features.now capacity (length t.old) }
     ensures { Named kind base features.now capacity t.old t.new }
 {
@@ -54,4 +54,21 @@ pub fn lay(t: &mut [u32], kind: u32, base: u32, features: &[u8], capacity: usize
     t[1] = capacity as u32;
     t[2] = features.len() as u32;
     write_sizes(t, features);
+}
+
+// Opens a table of a kind whose places hold the constant 0; BAD OPENING where that cannot be.
+pub fn open(
+    t: &mut [u32],
+    kind: u32,
+    base: u32,
+    features: &[u8],
+    capacity: usize,
+) -> Result<(), Refusal>
+    ensures { Opened kind base features.now capacity t.old t.new result }
+{
+    if !can_open(t, features, capacity) {
+        return Err(Refusal::BadOpening);
+    }
+    lay(t, kind, base, features, capacity);
+    Ok(())
 }
