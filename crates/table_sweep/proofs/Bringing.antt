@@ -1,13 +1,16 @@
--- The far records moved into the near ones' place word by word, and what the way back leaves. Assumes nothing.
-use mathlib.Core.Path.{◌≡◌, refl, sym, ap, ◌∙◌}
+-- The far records moved into the near ones' place, and what the way back leaves. Assumes nothing.
+use mathlib.Core.Path.{◌≡◌, sym, ap, ◌∙◌}
 use mathlib.Core.Logic.{⊎_elim}
 use mathlib.Core.List.{List}
 use Prim.Native.Nat.{ℕ, ◌+◌, ◌-◌, ◌*◌, ◌≤◌, ◌<◌}
 use native.Mathlib.Omega.{arith}
-use lib.ListN.{length, get_or, set, length-set}
+use borrow.Rule.Slice.PartMut.{put_mid}
+use Rattle.std.specs.List.{CopiedTo, SameBelow, SameFrom}
+use lib.ListN.{length, get_or, set, take, drop, replicate, length-set}
 use lib.Seq.{get_or-set_same, get_or-set_other}
 use Rattle.table_words.proofs.Chains.{last_ext}
-use Rattle.table_words.proofs.Tab.{same, split}
+use Rattle.table_words.proofs.Stores.{length_put, put_before, put_behind, length_filled, put_filled}
+use Rattle.table_words.proofs.Tab.{split}
 use Rattle.table_words.proofs.Words.{hash_at_ext}
 use Rattle.table_sweep.specs.Marks.{kept, done, spot}
 use Rattle.table_sweep.specs.Sweeping.{Full, Brought, Bare}
@@ -23,34 +26,23 @@ pub record HalfBack (w t : List ℕ) (far s j : ℕ) : Type 0 where
   pub gone : (x : ℕ) → s ≤ x → x < j → get_or t (far + x) 0 ≡ 0
   pub past : (x : ℕ) → far + j ≤ x → get_or t x 0 ≡ get_or w x 0
 
-pub back_none : (w : List ℕ) (far s : ℕ) → HalfBack w w far s s
-back_none w far s =
-    record { long = refl; low = λ x h. refl; back = λ x g h. absurd (omega arith); between = λ x h g. refl; gone = λ x g h. absurd (omega arith); past = λ x h. refl }
-
-pub back_more : {w t : List ℕ} (far s j : ℕ) → s ≤ j → 8192 + j < far → far + j < length w → HalfBack w t far s j
-    → HalfBack w (set (set t (8192 + j) (get_or t (far + j) 0)) (far + j) 0) far s (j + 1)
-back_more {w} {t} far s j hs hj hl b =
-    let l = b.long in
+-- the far records copied into the near ones' place, and their own filled with 0
+pub back_at_once : (w v ys : List ℕ) (far s e n : ℕ) → length v ≡ length w → s ≤ e → 8192 + e ≤ far → far + e ≤ length w → n ≡ far + e - (far + s)
+    → CopiedTo w v (far + s) (8192 + s) n × SameBelow w v (8192 + s) × SameFrom w v (8192 + s + n) → ys ≡ replicate (length (take n (drop (far + s) v))) 0
+    → HalfBack w (put_mid (far + s) n v ys) far s e
+back_at_once w v ys far s e n len h1 h2 h3 en by z =
+    let room : far + s + n ≤ length v = omega arith in
+    let long : length ys ≡ n = length_filled 0 (far + s) n v ys 0 room z in
     record {
-      long = length-set t₁ (far + j) 0 ∙ length-set t (8192 + j) (get_or t (far + j) 0) ∙ b.long;
-      low = λ x h. other x (omega arith) (omega arith) ∙ b.low x h;
-      back = λ x g h. ⊎_elim
-          (λ e. rw e (get_or-set_other t₁ (far + j) (8192 + j) 0 0 (omega arith) ∙ get_or-set_same t (8192 + j) (get_or t (far + j) 0) 0 (omega arith) ∙ b.past (far + j) (omega arith)))
-          (λ n. other (8192 + x) (omega (arith, n)) (omega arith) ∙ b.back x g (omega (arith, n)))
-          (same x j);
-      between = λ x h g. other x (omega arith) (omega arith) ∙ b.between x (omega arith) g;
-      gone = λ x g h. ⊎_elim
-          (λ e. rw e (get_or-set_same t₁ (far + j) 0 0 (omega (arith, length-set t (8192 + j) (get_or t (far + j) 0)))))
-          (λ n. other (far + x) (omega arith) (omega (arith, n)) ∙ b.gone x g (omega (arith, n)))
-          (same x j);
-      past = λ x h. other x (omega arith) (omega arith) ∙ b.past x (omega arith);
+      long = length_put 0 (far + s) n v ys room long ∙ len;
+      low = λ x h. put_before 0 (far + s) n v ys room long x (omega arith) ∙ by.1 x 0 h;
+      back = λ x g h.
+          let q : far + s + (8192 + x - (8192 + s)) ≡ far + x = omega arith in
+          put_before 0 (far + s) n v ys room long (8192 + x) (omega arith) ∙ by.0 (8192 + x) 0 (omega arith) (omega arith) ∙ ap (λ (p : ℕ). get_or w p 0) q;
+      between = λ x h g. put_before 0 (far + s) n v ys room long x g ∙ by.2 x 0 (omega arith);
+      gone = λ x g h. put_filled 0 (far + s) n v ys 0 room z (far + x) (omega arith) (omega arith);
+      past = λ x h. put_behind 0 (far + s) n v ys room long x (omega arith) ∙ by.2 x 0 (omega arith);
     }
-  where
-    t₁ : List ℕ
-    t₁ = set t (8192 + j) (get_or t (far + j) 0)
-
-    other : (x : ℕ) → (x ≡ 8192 + j → ⊥) → (x ≡ far + j → ⊥) → get_or (set (set t (8192 + j) (get_or t (far + j) 0)) (far + j) 0) x 0 ≡ get_or t x 0
-    other x p q = get_or-set_other (set t (8192 + j) (get_or t (far + j) 0)) (far + j) x 0 0 q ∙ get_or-set_other t (8192 + j) x (get_or t (far + j) 0) 0 p
 
 pub brought : {w t : List ℕ} (far s end m : ℕ) → Full w → m ≡ done w → far ≡ 8192 + 16 * capacity w → s ≡ 16 * kept w → end ≡ 16 * count w → HalfBack w t far s end
     → Brought w (set (set (set t 19 m) 30 0) 31 0)

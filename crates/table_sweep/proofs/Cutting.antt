@@ -1,5 +1,5 @@
 -- The nodes from a on taken out of the chains: a chain walked down, the chain heads in turn, then the links. Assumes nothing.
-use mathlib.Core.Path.{◌≡◌, refl, sym, ap, subst, ◌∙◌}
+use mathlib.Core.Path.{◌≡◌, sym, ap, subst, ◌∙◌}
 use mathlib.Core.Logic.{⊎_elim}
 use mathlib.Core.List.{List}
 use Prim.Native.Nat.{ℕ, ◌+◌, ◌-◌, ◌*◌, ◌≤◌, ◌<◌}
@@ -21,9 +21,6 @@ pub record Going (w : List ℕ) (h a c : ℕ) : Type 0 where
   pub is : c ≡ last_of (hash_at w) (h - 4096) end
 
 module _ {w : List ℕ} {h a : ℕ} (k : Chain w h a) where
-  pub going_first : {c : ℕ} → c ≡ head w h → Going w h a c
-  going_first e = record { end = count w; upto = omega arith; reach = k.upto; is = e ∙ k.top }
-
   module _ {c : ℕ} (g : Going w h a c) where
     within : c ≤ g.end
     within = omega (arith, g.is, (last_is (hash_at w) (h - 4096) g.end).within)
@@ -52,9 +49,6 @@ pub record Cutting (w t : List ℕ) (a h : ℕ) : Type 0 where
   pub front : (x : ℕ) → x < 4096 → get_or t x 0 ≡ get_or w x 0
   pub heads : (x : ℕ) → 4096 ≤ x → x < h → get_or t x 0 ≡ last_of (hash_at w) (x - 4096) a
   pub after : (x : ℕ) → h ≤ x → get_or t x 0 ≡ get_or w x 0
-
-pub cutting_none : (w : List ℕ) (a : ℕ) → Cutting w w a 4096
-cutting_none w a = record { long = refl; front = λ x h. refl; heads = λ x h g. absurd (omega arith); after = λ x h. refl }
 
 module _ {w t : List ℕ} {a h : ℕ} (c : Cutting w t a h) (lo : 4096 ≤ h) (hi : h < 8192) where
   hash_same : (i : ℕ) → hash_at t i ≡ hash_at w i
@@ -113,9 +107,6 @@ pub record Unlinking (w t : List ℕ) (a i : ℕ) : Type 0 where
   pub long : length t ≡ length w
   pub none : (n : ℕ) → a ≤ n → n < i → get_or t (8192 + 16 * n + 13) 0 ≡ 0
   pub other : (j : ℕ) → ((n : ℕ) → a ≤ n → n < i → j ≡ 8192 + 16 * n + 13 → ⊥) → get_or t j 0 ≡ get_or w j 0
-
-pub unlinking_none : (w : List ℕ) (a : ℕ) → Unlinking w w a a
-unlinking_none w a = record { long = refl; none = λ n l g. absurd (omega arith); other = λ j f. refl }
 
 pub unlinking_more : {w t : List ℕ} {a : ℕ} (i : ℕ) → a ≤ i → 8192 + 16 * i + 16 ≤ length w → Unlinking w t a i → Unlinking w (set t (8192 + 16 * i + 13) 0) a (i + 1)
 unlinking_more {w} {t} {a} i h l u =

@@ -1,5 +1,5 @@
 -- Nodes chained in turn. Assumes nothing.
-use mathlib.Core.Path.{◌≡◌, refl, sym, ap, subst, ◌∙◌}
+use mathlib.Core.Path.{◌≡◌, sym, ap, subst, ◌∙◌}
 use mathlib.Core.Logic.{⊎_elim}
 use mathlib.Core.List.{List}
 use Prim.Native.Nat.{ℕ, ◌+◌, ◌*◌, ◌≤◌, ◌<◌}
@@ -10,7 +10,7 @@ use lib.Seq.{get_or-set_same, get_or-set_other}
 use Rattle.table_words.proofs.Tab.{same}
 use Rattle.table_words.proofs.Words.{hash_at_ext}
 use Rattle.table_words.proofs.Chains.{last_here, last_not}
-use Rattle.table_sweep.specs.Sweeping.{Bare, Relinked}
+use Rattle.table_sweep.specs.Sweeping.{Bare}
 use Rattle.promises.specs.Words.{word, head, count, bucket, link, hash_at, last_of}
 
 -- the first i nodes are chained
@@ -21,17 +21,6 @@ pub record Relinking (w t : List ℕ) (i : ℕ) : Type 0 where
   pub links : (n : ℕ) → n < i → link t n ≡ last_of (hash_at w) (hash_at w n) n
   pub heads : (h : ℕ) → h < 4096 → bucket t h ≡ last_of (hash_at w) h i
   pub after : (j : ℕ) → 8192 + 16 * count w ≤ j → get_or t j 0 ≡ get_or w j 0
-
-pub relinking_none : {w : List ℕ} {a : ℕ} → Bare w a → Relinking w w a
-relinking_none {w} b =
-    record {
-      long = refl;
-      front = λ j h. refl;
-      words = λ n r h g q. refl;
-      links = b.links;
-      heads = b.heads;
-      after = λ j h. refl;
-    }
 
 module _ {w t : List ℕ} {a i : ℕ} (h x y : ℕ) (b : Bare w a) (k : Relinking w t i) (hi : i < count w) (eh : h ≡ hash_at t i) (hh : h < 4096) (ex : x ≡ bucket t h) (ey : y ≡ i + 1) where
   abbrev linked : List ℕ
@@ -70,14 +59,3 @@ module _ {w t : List ℕ} {a i : ℕ} (h x y : ℕ) (b : Bare w a) (k : Relinkin
             (same g h);
         after = λ j g. other j (omega arith) (omega arith) ∙ k.after j g;
       }
-
-pub relinked : {w t : List ℕ} (i : ℕ) → i ≡ count w → Relinking w t i → Relinked w t
-relinked {w} {t} i e k =
-    record {
-      long = k.long;
-      front = k.front;
-      words = k.words;
-      links = λ n h. k.links n (omega arith);
-      heads = λ h g. k.heads h g ∙ ap (last_of (hash_at w) h) e;
-      after = k.after;
-    }

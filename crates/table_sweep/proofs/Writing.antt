@@ -1,26 +1,15 @@
 -- What the stores of one copy leave. Assumes nothing.
 use mathlib.Core.Path.{◌≡◌, sym, ap, ◌∙◌}
-use mathlib.Core.Logic.{⊎_elim}
 use mathlib.Core.List.{List}
 use Prim.Native.Nat.{ℕ, zero, suc, ◌+◌, ◌-◌, ◌*◌, ◌/◌, ◌%◌, ◌≤◌, ◌<◌}
 use native.Mathlib.Omega.{arith}
 use lib.ListN.{length, get_or, set, length-set}
 use lib.Seq.{get_or-set_same, get_or-set_other}
-use Rattle.table_words.proofs.Tab.{same}
 use Rattle.table_sweep.specs.Marks.{kept, done, mark}
 use Rattle.table_sweep.specs.Sweeping.{Spare, Put}
 use Rattle.table_sweep.specs.Collecting.{Steady, Firm}
 use Rattle.table_sweep.proofs.Marking.{mark_link, mark_none, mark_same}
 use Rattle.promises.specs.Words.{word, head, capacity, count}
-
--- one more of a run of stores
-pub run_more : (t l : List ℕ) (b v : ℕ) → b + v < length t
-    → ((u : ℕ) → u < v → get_or t (b + u) 0 ≡ get_or l u 0)
-    → (u : ℕ) → u < v + 1 → get_or (set t (b + v) (get_or l v 0)) (b + u) 0 ≡ get_or l u 0
-run_more t l b v fits h u lt = ⊎_elim
-    (λ e. rw e (get_or-set_same t (b + v) (get_or l v 0) 0 fits))
-    (λ n. get_or-set_other t (b + v) (b + u) (get_or l v 0) 0 (omega (arith, n)) ∙ h u (omega (arith, n)))
-    (same u v)
 
 -- the feature is written at base, the list behind it, then the spare words, the mark and the count
 module _ (w t l : List ℕ) (base i k x y a b : ℕ) (eb : base ≡ 8192 + 16 * (capacity w + done w)) (ek : k ≡ word w i 0) (ea : a ≡ word w i 14) (eB : b ≡ word w i 15)

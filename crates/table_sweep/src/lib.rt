@@ -6,21 +6,19 @@ ghost use Rattle.table_sweep.specs.Marks.{done};
 ghost use Rattle.table_sweep.specs.Sweeping.{Linked, Chain, Cut, Unlinked, Spare, Put, Full, Brought, Bare, Relinked};
 ghost use Rattle.promises.specs.Words.{hash_at, last_of};
 
-use table_words::{
-    CHAINS, RECORDS, capacity_word, count_word, hash_at, head_word, narrow, record_word, wide,
-};
+use table_words::{CHAINS, RECORDS, capacity_word, count_word, hash_at, head_word, record_word};
 
-// 1 + the last node below a on the chain whose head is word h, 0 where there is none: chains go down.
-fn last_below(t: &[u32], h: usize, a: usize) -> usize
+// 1 + the last node below a on the chain whose head is word h, 0 where there is none, as a link says it: chains go down.
+fn last_below(t: &[u32], h: usize, a: usize) -> u32
     requires { Chain t.now h a }
     ensures { result ≡ last_of (hash_at t.now) (h - 4096) a }
 {
     if a == 0 {
         return 0;
     }
-    let mut c = wide(head_word(t, h));
-    while a < c {
-        c = wide(record_word(t, c - 1, 13));
+    let mut c = head_word(t, h);
+    while a < c as usize {
+        c = record_word(t, c as usize - 1, 13);
     }
     c
 }
@@ -30,10 +28,8 @@ fn cut_heads(t: &mut [u32], a: usize)
     requires { Linked t.old a }
     ensures { Cut t.old t.new a }
 {
-    let mut h: usize = CHAINS;
-    while h < RECORDS {
-        t[h] = narrow(last_below(t, h, a));
-        h += 1;
+    for h in CHAINS..RECORDS {
+        t[h] = last_below(t, h, a);
     }
 }
 
@@ -43,14 +39,11 @@ pub fn unlink(t: &mut [u32], a: usize)
     ensures { Unlinked t.old t.new a }
 {
     cut_heads(t, a);
-    let n = wide(count_word(t));
-    let mut i: usize = a;
-    while i < n {
+    for i in a..count_word(t) as usize {
         t[RECORDS + 16 * i + 13] = 0;
-        i += 1;
     }
-    t[30] = narrow(a);
-    t[31] = narrow(a);
+    t[30] = a as u32;
+    t[31] = a as u32;
 }
 
 // Writes the next far record: the feature and the spare words of node i, with the list as its body. Answers its number, and marks node i with 1 more.
@@ -58,21 +51,17 @@ pub fn add_copy(t: &mut [u32], i: usize, list: &[u32; 12]) -> usize
     requires { Spare t.old i }
     ensures { (result ≡ done t.old) × (Put t.old t.new i list.now) }
 {
-    let m = wide(head_word(t, 31));
-    let base = RECORDS + 16 * (wide(capacity_word(t)) + m);
+    let m = head_word(t, 31);
+    let base = RECORDS + 16 * (capacity_word(t) + m) as usize;
     let x = record_word(t, i, 14);
     let y = record_word(t, i, 15);
     t[base] = record_word(t, i, 0);
-    let mut v: usize = 0;
-    while v < 12 {
-        t[base + 1 + v] = list[v];
-        v += 1;
-    }
+    t[base + 1..base + 13].copy_from_slice(list);
     t[base + 14] = x;
     t[base + 15] = y;
-    t[RECORDS + 16 * i + 13] = narrow(m + 1);
-    t[31] = narrow(m + 1);
-    m
+    t[RECORDS + 16 * i + 13] = m + 1;
+    t[31] = m + 1;
+    m as usize
 }
 
 // Puts the far records behind the nodes that stay in the near ones' place, and clears them.
@@ -81,15 +70,11 @@ pub fn bring_back(t: &mut [u32])
     ensures { Brought t.old t.new }
 {
     let m = head_word(t, 31);
-    let far = RECORDS + 16 * wide(capacity_word(t));
-    let end = 16 * wide(count_word(t));
-    let mut j: usize = 16 * wide(head_word(t, 30));
-    while j < end {
-        let x = t[far + j];
-        t[RECORDS + j] = x;
-        t[far + j] = 0;
-        j += 1;
-    }
+    let far = RECORDS + 16 * capacity_word(t) as usize;
+    let start = 16 * head_word(t, 30) as usize;
+    let end = 16 * count_word(t) as usize;
+    t.copy_within(far + start..far + end, RECORDS + start);
+    t[far + start..far + end].fill(0);
     t[19] = m;
     t[30] = 0;
     t[31] = 0;
@@ -100,12 +85,9 @@ pub fn relink(t: &mut [u32], a: usize)
     requires { Bare t.old a }
     ensures { Relinked t.old t.new }
 {
-    let n = wide(count_word(t));
-    let mut i: usize = a;
-    while i < n {
+    for i in a..count_word(t) as usize {
         let h = hash_at(t, i);
         t[RECORDS + 16 * i + 13] = t[CHAINS + h];
-        t[CHAINS + h] = narrow(i + 1);
-        i += 1;
+        t[CHAINS + h] = (i + 1) as u32;
     }
 }
