@@ -1,15 +1,19 @@
 -- The operators in words: products, and the smaller and the larger of 0 and an integer. Assumes nothing.
-use mathlib.Core.Path.{◌≡◌, sym, ap, subst, ◌∙◌}
-use mathlib.Core.Bool.{Bool, cond}
-use Prim.Native.Nat.{ℕ, ◌+◌, ◌*◌, ◌-◌, ◌≤◌, ◌<◌}
-use native.Mathlib.Nat.{mul-zero, zero-mul, add-zero, zero-add}
+use mathlib.Core.Path.{◌≡◌, refl, ap, ◌∙◌}
+use mathlib.Core.Bool.{true, false}
+use Prim.Native.Nat.{ℕ, ◌-◌, ◌≤◌, ◌<◌, min, max}
+use native.Mathlib.Nat.{zero-mul}
 use native.Mathlib.Omega.{arith}
-use lib.IntN.{ℤ, pos, neg_ℤ, ◌*ℤ◌}
-use lib.Signed.{lt_z}
-use Rattle.theory_costs.proofs.Integers.{ℕ-eq, neg_rise, neg_fall}
+use lib.IntN.{ℤ, pos, neg_ℤ, ◌*ℤ◌, ◌+ℤ◌, ◌-ℤ◌}
+use mir.Syntax.{w64}
+use mir.Val.{SFits, to_z, of_z}
+use mir.Facts.{to_z-of_z}
+use Rattle.theory_costs.specs.Integers.{word_for}
+use Rattle.theory_costs.proofs.Integers.{ℕ-eq, neg_rise, neg_fall, minus_rise, minus_fall}
 use Rattle.theory_costs.proofs.Products.{mul_rise, mul_fall}
-use Rattle.theory_costs.proofs.Words.{int_ℕ, int_lt, int_le}
+use Rattle.theory_costs.proofs.Words.{int_ℕ, fits_signed, signed_word, word_signed, fit_word}
 use Rattle.cost_words.proofs.Packing.{int_zero}
+use Rattle.cost_words.proofs.Summing.{further_min, further_max}
 use Rattle.cost_engine.specs.Joint.{op_of}
 use Rattle.cost_engine.specs.declared.operators.Operator.{Operator}
 use Rattle.cost_engine.specs.declared.operators.Operator.TheVariants.{Scale}
@@ -36,79 +40,46 @@ above a h =
     let e : int a ≡ pos (a - 2147483648) = ℕ-eq (int a) (pos (a - 2147483648)) (omega (arith, int_ℕ a)) in
     record { rises = ap rise e; falls = ap fall e }
 
--- ---- products
-module _ (a c : ℕ) where
-  up_of : (r m : ℕ) → rise (int a *ℤ int c) ≡ m → fall (int a *ℤ int c) ≡ 0 → r ≡ 2147483648 + m → int r ≡ int a *ℤ int c
-  up_of r m h l e = ℕ-eq (int r) (int a *ℤ int c) (omega (arith, int_ℕ r))
+-- ---- products, in numbers of 64 bits
+-- a word less the bias is its integer
+word_back : (a : ℕ) → a < 4294967296 → (x : ℤ) → x ≡ pos a → to_z w64 (of_z w64 (to_z w64 (of_z w64 x) -ℤ pos 2147483648)) ≡ int a
+word_back a h x e =
+    let f : SFits w64 (pos a) = fits_signed (pos a) (omega arith) (omega arith) in
+    let g : SFits w64 (pos a -ℤ pos 2147483648) =
+    fits_signed _ (omega (arith, minus_rise (pos a) (pos 2147483648))) (omega (arith, minus_fall (pos a) (pos 2147483648))) in
+    rw (e, to_z-of_z f, to_z-of_z g) (signed_word a)
 
-  down_of : (r m : ℕ) → rise (int a *ℤ int c) ≡ 0 → fall (int a *ℤ int c) ≡ m → r + m ≡ 2147483648 → int r ≡ int a *ℤ int c
-  down_of r m h l e = ℕ-eq (int r) (int a *ℤ int c) (omega (arith, int_ℕ r))
+module _ (a c : ℕ) (ha : a < 4294967296) (hc : c < 4294967296) (f : Fit add_most (int a *ℤ int c)) where
+  -- the product with the bias on it is its word
+  pub product_is : (x y : ℤ) → x ≡ pos a → y ≡ pos c
+      → to_z w64 (of_z w64 (to_z w64 (of_z w64 (to_z w64 (of_z w64 (to_z w64 (of_z w64 x) -ℤ pos 2147483648)) *ℤ to_z w64 (of_z w64 (to_z w64 (of_z w64 y) -ℤ pos 2147483648)))) +ℤ pos 2147483648))
+      ≡ pos (word_for (int a *ℤ int c))
+  product_is x y ex ey =
+      let t = f.top in
+      let u = f.bottom in
+      let g : SFits w64 (int a *ℤ int c) = fits_signed _ (omega arith) (omega arith) in
+      let k : SFits w64 (pos (word_for (int a *ℤ int c))) = fits_signed _ (omega (arith, product_word)) (omega arith) in
+      rw (word_back a ha x ex, word_back c hc y ey, to_z-of_z g, word_signed (int a *ℤ int c) (omega arith)) (to_z-of_z k)
+    where
+      product_word : word_for (int a *ℤ int c) < 4294967296
+      product_word = (fit_word add_most (omega arith) (int a *ℤ int c) f).0
 
-  -- what the product rises and falls, from what its factors do
-  module _ (p q u v : ℕ) (ra : rise (int a) ≡ p) (fa : fall (int a) ≡ u) (rc : rise (int c) ≡ q) (fc : fall (int c) ≡ v) where
-    rise_is : rise (int a *ℤ int c) ≡ p * q + u * v
-    rise_is = mul_rise (int a) (int c) ∙ (λ i. ra i * rc i + fa i * fc i)
+  pub product_fits : word_for (int a *ℤ int c) < 4294967296
+  product_fits = (fit_word add_most (omega arith) (int a *ℤ int c) f).0
 
-    fall_is : fall (int a *ℤ int c) ≡ p * v + u * q
-    fall_is = mul_fall (int a) (int c) ∙ (λ i. ra i * fc i + fa i * rc i)
+  pub product_says : int (word_for (int a *ℤ int c)) ≡ int a *ℤ int c
+  product_says = (fit_word add_most (omega arith) (int a *ℤ int c) f).1
 
-  module _ (f : Fit add_most (int a *ℤ int c)) where
-    -- both negative
-    rise_low : Below a → Below c → rise (int a *ℤ int c) ≡ (2147483648 - a) * (2147483648 - c)
-    rise_low x y = rise_is 0 0 (2147483648 - a) (2147483648 - c) x.rises x.falls y.rises y.falls ∙ simp (zero-mul, zero-add)
+-- ---- the smaller and the larger of an integer and 0
+pub smaller_zero : (d : ℕ) → int (min d 2147483648) ≡ smaller_of (pos 0) (int d)
+smaller_zero d =
+    let e : min d 2147483648 ≡ min 2147483648 d = omega arith in
+    ap int e ∙ further_min false 2147483648 d refl ∙ ap (λ (z : ℤ). smaller_of z (int d)) int_zero
 
-    pub low_fits : Below a → Below c → (2147483648 - a) * (2147483648 - c) ≤ add_most
-    low_fits x y = subst (λ (m : ℕ). m ≤ add_most) (rise_low x y) f.top
-
-    pub low_is : Below a → Below c → (r m : ℕ) → m ≡ (2147483648 - a) * (2147483648 - c) → r ≡ 2147483648 + m → int r ≡ int a *ℤ int c
-    low_is x y r m e = up_of r m (rise_low x y ∙ sym e) (fall_is 0 0 (2147483648 - a) (2147483648 - c) x.rises x.falls y.rises y.falls ∙ simp (zero-mul, mul-zero, add-zero))
-
-    -- neither
-    rise_high : Above a → Above c → rise (int a *ℤ int c) ≡ (a - 2147483648) * (c - 2147483648)
-    rise_high x y = rise_is (a - 2147483648) (c - 2147483648) 0 0 x.rises x.falls y.rises y.falls ∙ simp (zero-mul, add-zero)
-
-    pub high_fits : Above a → Above c → (a - 2147483648) * (c - 2147483648) ≤ add_most
-    high_fits x y = subst (λ (m : ℕ). m ≤ add_most) (rise_high x y) f.top
-
-    pub high_is : Above a → Above c → (r m : ℕ) → m ≡ (a - 2147483648) * (c - 2147483648) → r ≡ 2147483648 + m → int r ≡ int a *ℤ int c
-    high_is x y r m e = up_of r m (rise_high x y ∙ sym e) (fall_is (a - 2147483648) (c - 2147483648) 0 0 x.rises x.falls y.rises y.falls ∙ simp (zero-mul, mul-zero, add-zero))
-
-    -- the first
-    fall_first : Below a → Above c → fall (int a *ℤ int c) ≡ (2147483648 - a) * (c - 2147483648)
-    fall_first x y = fall_is 0 (c - 2147483648) (2147483648 - a) 0 x.rises x.falls y.rises y.falls ∙ simp (zero-mul, zero-add)
-
-    pub first_fits : Below a → Above c → (2147483648 - a) * (c - 2147483648) ≤ add_most
-    first_fits x y = subst (λ (m : ℕ). m ≤ add_most) (fall_first x y) f.bottom
-
-    pub first_is : Below a → Above c → (r m : ℕ) → m ≡ (2147483648 - a) * (c - 2147483648) → r + m ≡ 2147483648 → int r ≡ int a *ℤ int c
-    first_is x y r m e = down_of r m (rise_is 0 (c - 2147483648) (2147483648 - a) 0 x.rises x.falls y.rises y.falls ∙ simp (zero-mul, mul-zero, add-zero)) (fall_first x y ∙ sym e)
-
-    -- the second
-    fall_second : Above a → Below c → fall (int a *ℤ int c) ≡ (a - 2147483648) * (2147483648 - c)
-    fall_second x y = fall_is (a - 2147483648) 0 0 (2147483648 - c) x.rises x.falls y.rises y.falls ∙ simp (zero-mul, add-zero)
-
-    pub second_fits : Above a → Below c → (a - 2147483648) * (2147483648 - c) ≤ add_most
-    second_fits x y = subst (λ (m : ℕ). m ≤ add_most) (fall_second x y) f.bottom
-
-    pub second_is : Above a → Below c → (r m : ℕ) → m ≡ (a - 2147483648) * (2147483648 - c) → r + m ≡ 2147483648 → int r ≡ int a *ℤ int c
-    second_is x y r m e = down_of r m (rise_is (a - 2147483648) 0 0 (2147483648 - c) x.rises x.falls y.rises y.falls ∙ simp (zero-mul, mul-zero, add-zero)) (fall_second x y ∙ sym e)
-
--- ---- the smaller and the larger of 0 and an integer
-pub smaller_low : (d : ℕ) → d < 2147483648 → int d ≡ smaller_of (pos 0) (int d)
-unfolding smaller_of
-smaller_low d h = sym (ap (λ (t : Bool). cond t (int d) (pos 0)) (ap (lt_z (int d)) (sym int_zero) ∙ int_lt d 2147483648 h))
-
-pub smaller_high : (d : ℕ) → 2147483648 ≤ d → int 2147483648 ≡ smaller_of (pos 0) (int d)
-unfolding smaller_of
-smaller_high d h = int_zero ∙ sym (ap (λ (t : Bool). cond t (int d) (pos 0)) (ap (lt_z (int d)) (sym int_zero) ∙ int_le d 2147483648 h))
-
-pub larger_high : (d : ℕ) → 2147483648 < d → int d ≡ larger_of (pos 0) (int d)
-unfolding larger_of
-larger_high d h = sym (ap (λ (t : Bool). cond t (int d) (pos 0)) (ap (λ (z : ℤ). lt_z z (int d)) (sym int_zero) ∙ int_lt 2147483648 d h))
-
-pub larger_low : (d : ℕ) → d ≤ 2147483648 → int 2147483648 ≡ larger_of (pos 0) (int d)
-unfolding larger_of
-larger_low d h = int_zero ∙ sym (ap (λ (t : Bool). cond t (int d) (pos 0)) (ap (λ (z : ℤ). lt_z z (int d)) (sym int_zero) ∙ int_le 2147483648 d h))
+pub larger_zero : (d : ℕ) → int (max d 2147483648) ≡ larger_of (pos 0) (int d)
+larger_zero d =
+    let e : max d 2147483648 ≡ max 2147483648 d = omega arith in
+    ap int e ∙ further_max true 2147483648 d refl ∙ ap (λ (z : ℤ). larger_of z (int d)) int_zero
 
 -- ---- nothing added, nothing scaled
 zero_times : (c : ℤ) → pos 0 *ℤ c ≡ pos 0

@@ -17,7 +17,7 @@ use cost_nodes::Arm;
 use cost_notes::{arm_in, lowest, make_in, recall_in, remember_in};
 use cost_words::{ZERO, sum_word};
 pub use operators::Operator;
-use operators::{ahead_word, end_word, gap_word, number_of};
+use operators::{ahead_word, end_word, gap_word, operation_of};
 use table_notes::{begin, clear, clear_far, clear_window};
 use table_words::size_word;
 
@@ -46,14 +46,14 @@ fn rest_result(
     if k < m {
         return rest_result(t, s, o, m, x, y, d);
     }
-    let number = number_of(o);
+    let operation = operation_of(o);
     let tag = (k + 1) as u32;
-    if let Some((to, adds)) = recall_in(t, s, number, tag, x, y, d) {
+    if let Some((to, adds)) = recall_in(t, s, operation, tag, x, y, d) {
         return Some(Arm { to, adds });
     }
     let arms = fill_branches(t, s, o, k, x, y, d)?;
     let b = make_in(t, k, &arms)?;
-    remember_in(t, s, number, tag, x, y, d, b.to, b.adds);
+    remember_in(t, s, operation, tag, x, y, d, b.to, b.adds);
     Some(b)
 }
 

@@ -6,9 +6,8 @@ ghost use Rattle.promises.specs.Integers.{Fit, int};
 ghost use Rattle.promises.specs.CostOperations.{smaller_of, larger_of};
 ghost use Rattle.promises.specs.Range.{add_most};
 
-use cost_notes::{ADD, LARGER, SCALE, SMALLER, SUBTRACT};
+use cost_notes::Operation;
 use cost_words::{ZERO, difference_word, sum_word};
-use table_words::wide;
 
 // What joins two costs; scale has one, and the word that stands for its factor.
 #[derive(Clone, Copy)]
@@ -20,45 +19,27 @@ pub enum Operator {
     Scale(u32),
 }
 
-// The operator's number.
-pub fn number_of(o: Operator) -> u32 {
+// The operator without its factor.
+pub fn operation_of(o: Operator) -> Operation {
     match o {
-        Operator::Add => ADD,
-        Operator::Subtract => SUBTRACT,
-        Operator::Smaller => SMALLER,
-        Operator::Larger => LARGER,
-        Operator::Scale(c) => SCALE,
+        Operator::Add => Operation::Add,
+        Operator::Subtract => Operation::Subtract,
+        Operator::Smaller => Operation::Smaller,
+        Operator::Larger => Operation::Larger,
+        Operator::Scale(_) => Operation::Scale,
     }
 }
 
-// The product of two numbers that is small.
-fn times(p: usize, q: usize) -> usize
-    requires { p * q ≤ add_most }
-    ensures { (result ≡ p * q) × (result ≤ add_most) }
-{
-    p * q
-}
-
-// The word that stands for 0, where words are multiplied.
-const WIDE_ZERO: usize = 2147483648;
+// The word that stands for 0, where words are added up and multiplied.
+const WIDE_ZERO: i64 = 2147483648;
 
 // The word that stands for the product of two.
 fn product_word(a: u32, c: u32) -> u32
     requires { Fit add_most (int a *ℤ int c) }
     ensures { int result ≡ int a *ℤ int c }
 {
-    let x = wide(a);
-    let y = wide(c);
-    if x < WIDE_ZERO {
-        if y < WIDE_ZERO {
-            return (WIDE_ZERO + times(WIDE_ZERO - x, WIDE_ZERO - y)) as u32;
-        }
-        return (WIDE_ZERO - times(WIDE_ZERO - x, y - WIDE_ZERO)) as u32;
-    }
-    if y < WIDE_ZERO {
-        return (WIDE_ZERO - times(x - WIDE_ZERO, WIDE_ZERO - y)) as u32;
-    }
-    (WIDE_ZERO + times(x - WIDE_ZERO, y - WIDE_ZERO)) as u32
+    let product = (i64::from(a) - WIDE_ZERO) * (i64::from(c) - WIDE_ZERO);
+    (product + WIDE_ZERO) as u32
 }
 
 // The word of a difference one branch on: with what the second adds, less what the first adds.
@@ -66,7 +47,7 @@ fn onward_word(d: u32, a: u32, b: u32) -> u32
     requires { Fit add_most (onward (int d) (int a) (int b)) }
     ensures { int result ≡ onward (int d) (int a) (int b) }
 {
-    (wide(d) + wide(b) - wide(a)) as u32
+    (u64::from(d) + u64::from(b) - u64::from(a)) as u32
 }
 
 // What is put before the result of two targets, where their branches add a and b.
@@ -77,8 +58,7 @@ pub fn ahead_word(o: Operator, a: u32, b: u32) -> u32
     match o {
         Operator::Add => sum_word(a, b),
         Operator::Subtract => difference_word(a, b),
-        Operator::Smaller => a,
-        Operator::Larger => a,
+        Operator::Smaller | Operator::Larger => a,
         Operator::Scale(c) => product_word(a, c),
     }
 }
@@ -89,25 +69,9 @@ pub fn gap_word(o: Operator, d: u32, a: u32, b: u32) -> u32
     ensures { int result ≡ gap o (int d) (int a) (int b) }
 {
     match o {
-        Operator::Add => d,
-        Operator::Subtract => d,
-        Operator::Smaller => onward_word(d, a, b),
-        Operator::Larger => onward_word(d, a, b),
-        Operator::Scale(c) => d,
+        Operator::Add | Operator::Subtract | Operator::Scale(_) => d,
+        Operator::Smaller | Operator::Larger => onward_word(d, a, b),
     }
-}
-
-// The smaller and the larger of 0 and d.
-fn at_most_zero(d: u32) -> u32
-    ensures { int result ≡ smaller_of (pos 0) (int d) }
-{
-    if d < ZERO { d } else { ZERO }
-}
-
-fn at_least_zero(d: u32) -> u32
-    ensures { int result ≡ larger_of (pos 0) (int d) }
-{
-    if ZERO < d { d } else { ZERO }
 }
 
 // The result where both have ended: the operator of 0 and d.
@@ -118,8 +82,8 @@ pub fn end_word(o: Operator, d: u32) -> u32
     match o {
         Operator::Add => d,
         Operator::Subtract => difference_word(ZERO, d),
-        Operator::Smaller => at_most_zero(d),
-        Operator::Larger => at_least_zero(d),
-        Operator::Scale(c) => ZERO,
+        Operator::Smaller => d.min(ZERO),
+        Operator::Larger => d.max(ZERO),
+        Operator::Scale(_) => ZERO,
     }
 }

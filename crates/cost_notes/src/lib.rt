@@ -16,7 +16,7 @@ ghost use Rattle.promises.specs.CostWords.{target, cost_branch as branch, cost_n
 
 use cost_nodes::{Arm, arm_at, make, top_of};
 use cost_words::{Span, kept_span};
-pub use operators::{ADD, CHOOSE, LARGER, LESS, LOWEST, SCALE, SMALLER, SUBTRACT};
+pub use operators::{CHOOSE, LESS, LOWEST, Operation};
 
 // The lowest feature that one of two targets tests.
 pub fn lowest(t: &[u32], x: u32, y: u32) -> usize
@@ -54,7 +54,7 @@ pub fn make_in(t: &mut [u32], k: usize, arms: &[Arm; 8]) -> Option<Arm>
 pub fn recall_in(
     t: &[u32],
     s: &[u32],
-    o: u32,
+    o: Operation,
     tag: u32,
     x: u32,
     y: u32,
@@ -64,14 +64,14 @@ pub fn recall_in(
     ensures { Recalls (memory t.now s.now) (tag ∷ x ∷ y ∷ d ∷ []) result }
 {
     let key = [tag, x, y, d];
-    table_memory::recall_in(t, s, o, &key)
+    table_memory::recall_in(t, s, o as u32, &key)
 }
 
 // Remembers the result's words z and e.
 pub fn remember_in(
     t: &mut [u32],
     s: &mut [u32],
-    o: u32,
+    o: Operation,
     tag: u32,
     x: u32,
     y: u32,
@@ -84,5 +84,5 @@ pub fn remember_in(
         × (Windowed t.new) }
 {
     let key = [tag, x, y, d];
-    table_memory::remember_in(t, s, o, &key, z, e);
+    table_memory::remember_in(t, s, o as u32, &key, z, e);
 }

@@ -1,16 +1,19 @@
-// The numbers of the operators on costs: the entry of a remembered result is chosen by them too.
-pub const ADD: u32 = 1;
+// The operators on costs, by their numbers: a number only chooses the entry of a remembered result.
+#[derive(Clone, Copy)]
+pub enum Operation {
+    Add = 1,
+    Subtract = 2,
+    Smaller = 3,
+    Larger = 4,
+    Scale = 5,
+    Choose = 6,
+    Less = 7,
+    Lowest = 8,
+}
 
-pub const SUBTRACT: u32 = 2;
+// Those of the walks over a cost and a rule table.
+pub const CHOOSE: Operation = Operation::Choose;
 
-pub const SMALLER: u32 = 3;
+pub const LESS: u32 = Operation::Less as u32;
 
-pub const LARGER: u32 = 4;
-
-pub const SCALE: u32 = 5;
-
-pub const CHOOSE: u32 = 6;
-
-pub const LESS: u32 = 7;
-
-pub const LOWEST: u32 = 8;
+pub const LOWEST: u32 = Operation::Lowest as u32;

@@ -21,7 +21,7 @@ ghost use Rattle.promises.specs.CostWords.{cost_branch as branch, cost_node_list
 
 use cost_engine::Operator;
 use cost_nodes::Arm;
-use cost_notes::{ADD, SUBTRACT, arm_in, kept_in, lowest, recall_in, remember_in};
+use cost_notes::{Operation, arm_in, kept_in, lowest, recall_in, remember_in};
 use cost_words::{Span, ZERO, difference_or_lost, kept_span, sum_or_lost, sum_word, wider};
 use table_notes::{begin, clear, clear_window};
 use table_words::size_word;
@@ -39,9 +39,13 @@ fn tied_word(minus: bool, a: u32, b: u32) -> Option<u32>
     }
 }
 
-// The number of subtract if `minus`, else of add.
-fn number_of(minus: bool) -> u32 {
-    if minus { SUBTRACT } else { ADD }
+// Subtract if `minus`, else add.
+fn operation_of(minus: bool) -> Operation {
+    if minus {
+        Operation::Subtract
+    } else {
+        Operation::Add
+    }
 }
 
 // The word of one end.
@@ -102,13 +106,13 @@ fn rest_ends(t: &mut [u32], s: &mut [u32], minus: bool, k: usize, x: u32, y: u32
         return met_ends(minus, kept_in(t, x), kept_in(t, y));
     }
     let j = lowest(t, x, y);
-    let number = number_of(minus);
+    let operation = operation_of(minus);
     let tag = (j + 1) as u32;
-    if let Some((low, high)) = recall_in(t, s, number, tag, x, y, 0) {
+    if let Some((low, high)) = recall_in(t, s, operation, tag, x, y, 0) {
         return Some(Span { low, high });
     }
     let ends = fold_branches(t, s, minus, j, x, y)?;
-    remember_in(t, s, number, tag, x, y, 0, ends.low, ends.high);
+    remember_in(t, s, operation, tag, x, y, 0, ends.low, ends.high);
     Some(ends)
 }
 
