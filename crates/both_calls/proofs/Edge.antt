@@ -6,8 +6,8 @@ use Rattle.theory.specs.Rules.{rules, Rule}
 use Rattle.theory.specs.Costs.{costs, Cost}
 use Rattle.settings.specs.Refusals.{Cases, Ends}
 use Rattle.settings.specs.declared.refusals.Refusal.{Refusal}
-use Rattle.settings.specs.declared.refusals.Outcome.{Outcome}
-use Rattle.settings.specs.declared.refusals.Outcome.TheVariants.{Taken, Refused}
+use Rattle.settings.specs.Refusals.{Outcome}
+use Rattle.settings.specs.Refusals.{Taken, Refused}
 use Rattle.promises.specs.Deed.{Deed, refusals, Meets}
 use Rattle.promises.specs.Table.{Effect, keeps, puts}
 use Rattle.promises.specs.RuleDeeds.{looked}

@@ -7,12 +7,12 @@ use Rattle.theory.specs.Diagrams.{Branch, meaning}
 use Rattle.theory.specs.Rules.{Rule}
 use Rattle.theory_costs.proofs.Range.{chosen_within}
 use Rattle.cost_nodes.specs.Nodes.{Result}
-use Rattle.cost_nodes.specs.declared.Answer.{Answer}
+use Rattle.std.specs.Prelude.{Option}
+use Rattle.cost_words.specs.declared.Arm.{Arm}
 use Rattle.cost_settling.proofs.Settling.{sound_holds}
 use Rattle.cost_settling.proofs.Operands.{place_operand}
 use Rattle.rule_lending.specs.Lending.{lent, Roots}
 use Rattle.rule_lending.specs.Building.{Result as RuleResult}
-use Rattle.rule_lending.specs.declared.Answer.{Answer as RuleAnswer}
 use Rattle.rule_lending.proofs.Building.{sound_ready}
 use Rattle.both_choose.specs.Choice.{Choosable}
 use Rattle.both_less.specs.Less.{Comparable}
@@ -42,7 +42,7 @@ module _ (v w : List ℕ) (a b : ℕ) {x y : Branch costs} (ex : x ≡ root_at w
     second_in = (place_operand s b ey hb).within;
   }
 
-  pub below_made : {t : List ℕ} (o : RuleAnswer) → RuleResult v t 0 (is_below (meaning (nodes w) x) (meaning (nodes w) y)) o → RuleResult v t 0 (is_below (cost_of w a) (cost_of w b)) o
+  pub below_made : {t : List ℕ} (o : Option ℕ) → RuleResult v t 0 (is_below (meaning (nodes w) x) (meaning (nodes w) y)) o → RuleResult v t 0 (is_below (cost_of w a) (cost_of w b)) o
   below_made {t} o m = subst (λ (g : Rule). RuleResult v t 0 g o) (ap₂ (λ (c d : Branch costs). is_below (meaning (nodes w) c) (meaning (nodes w) d)) ex ey) m
 
 -- ---- CHOOSE: the branch word c of rule place q, and the branches x and y of places a and b
@@ -50,7 +50,7 @@ module _ (v w : List ℕ) (q a b : ℕ) {c : ℕ} {x y : Branch costs} (ec : Roo
   pub choosable : Sound w → sizes v ≡ sizes w → a < 16 → b < 16 → Choosable v w c x y
   choosable s e ha hb = record { alike = e; rule = ec.there; first = place_operand s a ex ha; second = place_operand s b ey hb }
 
-  pub choice_made : {t : List ℕ} (o : Answer) → Result w t 0 (chosen (lent v 0 c) (meaning (nodes w) x) (meaning (nodes w) y)) o → Result w t 0 (chosen (rule_of v q) (cost_of w a) (cost_of w b)) o
+  pub choice_made : {t : List ℕ} (o : Option Arm) → Result w t 0 (chosen (lent v 0 c) (meaning (nodes w) x) (meaning (nodes w) y)) o → Result w t 0 (chosen (rule_of v q) (cost_of w a) (cost_of w b)) o
   choice_made {t} o m =
       subst (λ (g : Cost). Result w t 0 g o)
       (ap (λ (g : Rule). chosen g (meaning (nodes w) x) (meaning (nodes w) y)) (λ i s. ec.means s i)

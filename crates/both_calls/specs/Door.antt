@@ -2,8 +2,8 @@
 use Rattle.std.specs.Prelude.{◌≡◌, List, ℕ}
 use Rattle.settings.specs.Refusals.{Ends, ◌when◌else◌, taken}
 use Rattle.settings.specs.declared.refusals.Refusal.TheVariants.{Damaged}
-use Rattle.settings.specs.declared.refusals.Outcome.{Outcome}
-use Rattle.settings.specs.declared.refusals.Outcome.TheVariants.{Taken}
+use Rattle.settings.specs.Refusals.{Outcome}
+use Rattle.settings.specs.Refusals.{Taken}
 use Rattle.promises.specs.Words.{sizes}
 use Rattle.promises.specs.RuleSound.{RuleSound}
 use Rattle.promises.specs.CostSound.{CostSound}

@@ -15,8 +15,8 @@ use both_choose::choose_costs;
 use cost_nodes::arm_of;
 use cost_settling::settle;
 use rule_lending::root_of;
-use settings::Outcome;
-use table_words::{count_word, wide};
+use settings::Refusal;
+use table_words::count_word;
 
 // The choice becomes the cost of the place.
 fn put_choice(
@@ -27,11 +27,11 @@ fn put_choice(
     rule: usize,
     a: usize,
     b: usize,
-) -> Outcome
+) -> Result<(), Refusal>
     requires { (RuleSound rules.now) × (CostSound t.old) × (sizes rules.now ≡ sizes t.old) × (place < 16) × (rule < 32) × (a < 16) × (b < 16) }
     ensures { Puts place (chosen (rule_of rules.now rule) (cost_of t.old a) (cost_of t.old b)) t.old t.new result }
 {
-    let used = wide(count_word(t));
+    let used = count_word(t) as usize;
     let x = arm_of(t, a);
     let y = arm_of(t, b);
     let r = choose_costs(rules, t, scratch, root_of(rules, rule), x, y);
@@ -47,12 +47,9 @@ pub fn choose(
     rule: usize,
     a: usize,
     b: usize,
-) -> Outcome
+) -> Result<(), Refusal>
     ensures { Meets (B.choose place rule a b) (rules.now, t.old) (rules.now, t.new) result }
 {
-    let o = door(rules, t, &[rule], &[place, a, b]);
-    if let Outcome::Refused(x) = o {
-        return Outcome::Refused(x);
-    }
+    door(rules, t, &[rule], &[place, a, b])?;
     put_choice(t, rules, scratch, place, rule, a, b)
 }

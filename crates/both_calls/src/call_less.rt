@@ -13,7 +13,7 @@ use crate::at_the_door::door;
 use both_less::below;
 use cost_nodes::arm_of;
 use rule_lending::{begin, settle};
-use settings::Outcome;
+use settings::Refusal;
 
 // The comparison becomes the rule of the place.
 fn put_below(
@@ -23,7 +23,7 @@ fn put_below(
     place: usize,
     a: usize,
     b: usize,
-) -> Outcome
+) -> Result<(), Refusal>
     requires { (RuleSound t.old) × (CostSound costs.now) × (sizes t.old ≡ sizes costs.now) × (place < 32) × (a < 16) × (b < 16) }
     ensures { Puts place (is_below (cost_of costs.now a) (cost_of costs.now b)) t.old t.new result }
 {
@@ -42,12 +42,9 @@ pub fn less(
     place: usize,
     a: usize,
     b: usize,
-) -> Outcome
+) -> Result<(), Refusal>
     ensures { Meets (B.less_than place a b) (t.old, costs.now) (t.new, costs.now) result }
 {
-    let o = door(t, costs, &[place], &[a, b]);
-    if let Outcome::Refused(x) = o {
-        return Outcome::Refused(x);
-    }
+    door(t, costs, &[place], &[a, b])?;
     put_below(t, costs, scratch, place, a, b)
 }

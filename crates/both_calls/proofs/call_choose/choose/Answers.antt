@@ -11,22 +11,18 @@ use Rattle.table_calls.proofs.Theorems.{puts_one}
 use Rattle.theory_costs.proofs.Range.{within_stays}
 use Rattle.settings.proofs.Endings.{pass}
 use Rattle.theory.specs.Costs.{Cost}
-use borrow.Author.Rules.{rules}
+use Rattle.std.proofs.lemmas.Result.{err_from_is_err_and}
 use Rattle.both_calls.proofs.call_choose.choose.Goals as goal
 
-pub returns-in-Refused : goal.returns-in-Refused
-returns-in-Refused c = refuses refl refl (turned_away c.door-o.ensures c.in-Refused.is)
-
-pub put_choice-requires : goal.put_choice-requires
-put_choice-requires c =
-    let e = c.door-o.ensures in
-    let t = c.in_default.is in
-    (e.rules t, e.costs t, e.lists t, (e.cost_places t).each 0 (omega arith), (e.rule_places t).each 0 (omega arith), (e.cost_places t).each 1 (omega arith), (e.cost_places t).each 2 (omega arith))
+pub returns-in_err-door : goal.returns-in_err-door
+returns-in_err-door c =
+    let p = err_from_is_err_and c.from_residual.result c.from_residual.ensures.1 in
+    rw (p.1, p.2) (refuses refl refl (turned_away c.door.ensures c.in_err-door.was))
 
 pub returns : goal.returns
 returns c =
-    let e = c.door-o.ensures in
-    let t = c.in_default.is in
+    let e = c.door.ensures in
+    let t = c.in_ok-door.was in
     let v = c.args.rules.now in
     let w = c.args.t.now in
     let ha = (e.cost_places t).each 1 (omega arith) in

@@ -2,29 +2,18 @@
 use Rattle.std.proofs.Common.{arith, refl, ap}
 use Rattle.both_calls.proofs.Operands.{below_said}
 use Rattle.both_calls.proofs.Edge.{wrote_rule}
-use Rattle.both_calls.proofs.Entering.{turned_away, let_in}
+use Rattle.both_calls.proofs.Entering.{let_in}
 use Rattle.table_calls.proofs.Drawn.{room_ends}
 use Rattle.promises.specs.RuleDeeds.{looked}
 use Rattle.rule_calls.proofs.Edge.{drawn}
-use Rattle.table_calls.proofs.Meeting.{refuses}
 use Rattle.table_calls.proofs.Theorems.{puts_one}
 use Rattle.theory.specs.Rules.{Rule}
-use borrow.Author.Rules.{rules}
 use Rattle.both_calls.proofs.call_less.less.Goals as goal
-
-pub returns-in-Refused : goal.returns-in-Refused
-returns-in-Refused c = refuses refl refl (turned_away c.door-o.ensures c.in-Refused.is)
-
-pub put_below-requires : goal.put_below-requires
-put_below-requires c =
-    let e = c.door-o.ensures in
-    let t = c.in_default.is in
-    (e.rules t, e.costs t, e.lists t, (e.rule_places t).each 0 (omega arith), (e.cost_places t).each 0 (omega arith), (e.cost_places t).each 1 (omega arith))
 
 pub returns : goal.returns
 returns c =
-    let e = c.door-o.ensures in
-    let t = c.in_default.is in
+    let e = c.door.ensures in
+    let t = c.in_ok-door.was in
     let v = c.args.t.now in
     let w = c.args.costs.now in
     let p = puts_one c.put_below.ensures _ (λ s k.

@@ -1,20 +1,9 @@
 -- `both_calls::call_less::put_below` meets its contract: what the engine built is settled. Assumes nothing.
-use Rattle.std.proofs.Common.{arith}
-use Rattle.cost_calls.proofs.Sounding.{sound_long}
 use Rattle.rule_lending.proofs.Settling.{settle_asks, settles}
 use Rattle.promises.specs.CostWords.{cost_of}
 use Rattle.promises.specs.CostOperations.{is_below}
 use Rattle.both_calls.proofs.Operands.{comparable, below_made}
 use Rattle.both_calls.proofs.call_less.put_below.Goals as goal
-
-pub begin-used-requires : goal.begin-used-requires
-begin-used-requires c = c.requires.0
-
-pub arm_of-x-requires : goal.arm_of-x-requires
-arm_of-x-requires c = (omega (arith, sound_long c.requires.1), c.requires.4)
-
-pub arm_of-y-requires : goal.arm_of-y-requires
-arm_of-y-requires c = (omega (arith, sound_long c.requires.1), c.requires.5)
 
 pub below-r-requires : goal.below-r-requires
 below-r-requires c = comparable _ _ _ _ c.arm_of-x.ensures c.arm_of-y.ensures c.requires.0 c.requires.1 c.requires.2 c.requires.4 c.requires.5
