@@ -5,6 +5,7 @@ use mathlib.Core.List.{List}
 use Prim.Native.Nat.{ℕ, suc, ◌+◌, ◌-◌, ◌*◌, ◌≤◌, ◌<◌}
 use native.Mathlib.Nat.{le_refl}
 use native.Mathlib.Omega.{arith}
+use Rattle.std.proofs.Common.{Some, None}
 use lib.ListN.{length}
 use lib.Seq.{get_or-set_other}
 use Rattle.theory.specs.Copying.{marked}
@@ -207,25 +208,19 @@ module _ {first : ℕ} where
   moves_small (found w b r i j eb er h m) o = omega (arith, o.marks i h, (full_open o).fewer, o.walkable.within, o.walkable.most)
   moves_small (copied b r i eb er h z d p) o = let k = keeps d o in let f = room_for h z k in let s = spare_of k.open_still f.0 f.1 in omega (arith, s.free, s.most)
 
-  -- a copy that is there, and none
-  pub here_copy : {w : List ℕ} {b r : ℕ} → Open first w → Done first w w (moves_step b r) → Here first w b r
-  here_copy o d = record { copy = λ n. d; none = λ e. absurd (omega (arith, moves_small d o, o.walkable.least)) }
-
   -- an end, or a node that stays
-  pub here_low : {w : List ℕ} {b low : ℕ} → Open first w → low ≡ first + kept w → b < low → b < first + count w → Here first w b b
-  here_low {w} {b} o e l h = here_copy o (⊎_elim
+  pub here_low : {w : List ℕ} {b low : ℕ} → low ≡ first + kept w → b < low → b < first + count w → Here first w b (Some b)
+  here_low {w} {b} e l h = ⊎_elim
       (λ g. ends w b g)
       (λ g. let q : b ≡ first + (b - first) = omega arith in found w b b (b - first) (b - first) q q (omega arith) (mark_kept w (b - first) (omega arith)))
-      (split b first))
+      (split b first)
 
-  pub here_none : {w : List ℕ} {b : ℕ} (i : ℕ) → b ≡ first + i → mark w i ≡ 0 → Here first w b 4294967295
-  here_none {w} {b} i e z =
-      record { copy = λ n. absurd (n refl); none = λ q. (omega arith, λ j g. let x : j ≡ i = omega arith in ap (mark w) x ∙ z) }
+  pub here_none : (w : List ℕ) {b : ℕ} (i : ℕ) → b ≡ first + i → mark w i ≡ 0 → Here first w b None
+  here_none w {b} i e z = (omega arith, λ j g. let x : j ≡ i = omega arith in ap (mark w) x ∙ z)
 
   -- the node that a word without a copy says, copied
-  pub copy_at : {w w' : List ℕ} {b r j s : ℕ} → Here first w b r → r ≡ 4294967295 → j ≡ b - first → Done first w w' (moves_step (first + j) s) → Done first w w' (moves_step b s)
-  copy_at {w} {w'} {b} {r} {j} {s} h z e d =
-      let g = h.none z in let q : first + j ≡ b = omega (arith, g.0) in subst (λ (y : ℕ). Done first w w' (moves_step y s)) q d
+  pub copy_at : {w w' : List ℕ} {b j s : ℕ} → Here first w b None → j ≡ b - first → Done first w w' (moves_step (first + j) s) → Done first w w' (moves_step b s)
+  copy_at {w} {w'} {b} {j} {s} h e d = let q : first + j ≡ b = omega (arith, h.0) in subst (λ (y : ℕ). Done first w w' (moves_step y s)) q d
 
   pub root_next : {n p q : ℕ} {w t : List ℕ} → Open first w → Rooted first n w → q < n → Done first w t (roots_step p q) → Next first w t q
   root_next {n} {p} {q} o a h d =
@@ -268,10 +263,8 @@ module _ {first low i m v : ℕ} {w t l : List ℕ} (x : Filling first low w t i
       asks = (so_far.open_still, omega (arith, below, same_count so_far.steady, x.there), omega (arith, x.lowest, so_far.firm.stay))
 
       -- which has no copy: then it is a node that can be copied
-      pub goes : {r : ℕ} → Here first t b r → r ≡ 4294967295 → {j : ℕ} → j ≡ b - first → (j < i) × (Open first t) × (j < count t) × (mark t j ≡ 0) × (low ≡ first + kept t)
-      goes q z {j} g =
-          let n = q.none z in
-          (omega (arith, below, n.0), asks.0, omega (arith, asks.1, n.0), n.1 j (omega (arith, n.0)), asks.2)
+      pub goes : Here first t b None → (j : ℕ) → j ≡ b - first → (j < i) × (Open first t) × (j < count t) × (mark t j ≡ 0) × (low ≡ first + kept t)
+      goes n j g = (omega (arith, below, n.0), asks.0, omega (arith, asks.1, n.0), n.1 j (omega (arith, n.0)), asks.2)
 
       module _ {t' : List ℕ} {r : ℕ} (d : Done first t t' (moves_step b r)) where
         pub lays : (8192 + 16 * i + 16 ≤ length t') × (i < 8192) × (v < 8) × (first ≡ 1 → r < 65536) × (length l ≡ 12)

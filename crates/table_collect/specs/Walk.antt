@@ -1,6 +1,6 @@
 -- Contract between layers: the collector's walk, for every kind: what it asks of the words, and what it does to them, step by step.
 -- `first` tells the kind: branch words below it end, the others say nodes. Assumes nothing.
-use Rattle.std.specs.Prelude.{◌≡◌, List, ℕ, suc, ◌+◌, ◌≤◌, ◌<◌, length, set}
+use Rattle.std.specs.Prelude.{◌≡◌, List, ℕ, suc, Option, Some, None, ◌+◌, ◌≤◌, ◌<◌, length, set}
 use Rattle.theory.specs.Copying.{marked}
 use Rattle.table_words.specs.Words.{listed, way_of}
 use Rattle.table_sweep.specs.Marks.{kept, done, mark, highest}
@@ -74,10 +74,10 @@ pub data Done (first : ℕ) : List ℕ → List ℕ → Step → Type 0 where
   rootless : (w : List ℕ) (p : ℕ) → Done first w w (roots_step p p)
   rooted : {w t t' : List ℕ} {p q : ℕ} (r : ℕ) → Done first w t (roots_step p q) → q < 32 → Done first t t' (moves_step (head t (32 + q)) r) → Done first w (set t' (32 + q) r) (roots_step p (suc q))
 
--- the word r of a copy that is there already; no copy has the last word that there is, which says a node without one
-pub record Here (first : ℕ) (w : List ℕ) (b r : ℕ) : Type 0 where
-  pub copy : (r ≡ 4294967295 → ⊥) → Done first w w (moves_step b r)
-  pub none : r ≡ 4294967295 → (first ≤ b) × ((i : ℕ) → b ≡ first + i → mark w i ≡ 0)
+-- the word of a copy that is there already, or none of a node without one
+abbrev pub Here : ℕ → List ℕ → ℕ → Option ℕ → Type 0
+Here first w b (Some r) = Done first w w (moves_step b r)
+Here first w b None = (first ≤ b) × ((i : ℕ) → b ≡ first + i → mark w i ≡ 0)
 
 -- the whole: the nodes above the roots before place p taken out of the chains, the roots from p to n copied, the copies brought back, chained anew
 pub record Swept (first n p : ℕ) (w w' : List ℕ) : Type 0 where

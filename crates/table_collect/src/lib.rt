@@ -9,7 +9,7 @@ ghost use Rattle.table_collect.specs.Walk.{Laid, Open, Lawful, Done, moves_step,
 ghost use Rattle.promises.specs.Words.{count, body};
 
 use table_sweep::{add_copy, bring_back, relink, unlink};
-use table_words::{HALVES, head_word, narrow, record_word, way_word, wide, width, with_half};
+use table_words::{HALVES, head_word, record_word, way_word, width, with_half};
 
 // Branch v laid into a body: it has the word r, and adds what branch v of node i adds.
 fn lay_branch(t: &[u32], first: u32, i: usize, v: usize, r: u32, list: &mut [u32; 12])
@@ -19,27 +19,21 @@ fn lay_branch(t: &[u32], first: u32, i: usize, v: usize, r: u32, list: &mut [u32
     if first == HALVES {
         list[v / 2] = with_half(list[v / 2], v, r);
         list[4 + v] = record_word(t, i, 5 + v);
-        return;
+    } else {
+        list[v] = r;
     }
-    list[v] = r;
 }
 
-// No branch word: there is no copy yet.
-const LOST: u32 = 4294967295;
-
-// The copy of what a branch word goes to, LOST where a node has none yet. Words below `low` end or say nodes that stay.
-fn here(t: &[u32], first: u32, low: u32, b: u32) -> u32
+// The copy of what a branch word goes to, where it has one already. Words below `low` end or say nodes that stay.
+fn here(t: &[u32], first: u32, low: u32, b: u32) -> Option<u32>
     requires { (Open first t.now) × (b < first + count t.now) × (low ≡ first + kept t.now) }
     ensures { Here first t.now b result }
 {
     if b < low {
-        return b;
+        return Some(b);
     }
-    let c = record_word(t, wide(b - first), 13);
-    if 0 < c {
-        return first + (c - 1);
-    }
-    LOST
+    let c = record_word(t, (b - first) as usize, 13);
+    if 0 < c { Some(first + (c - 1)) } else { None }
 }
 
 // The copy of node i, which has none: with the copies of its branches in turn, 0 past them.
@@ -47,19 +41,16 @@ fn copy_node(t: &mut [u32], first: u32, low: u32, i: usize) -> u32
     requires { (Open first t.old) × (i < count t.old) × (mark t.old i ≡ 0) × (low ≡ first + kept t.old) }
     ensures { Done first t.old t.new (moves_step (first + i) result) }
 {
-    let m = width(t, i);
-    let mut list = [0u32; 12];
-    let mut v: usize = 0;
-    while v < m {
+    let mut list = [0; 12];
+    for v in 0..width(t, i) {
         let x = way_word(t, first, i, v);
-        let mut r = here(t, first, low, x);
-        if r == LOST {
-            r = copy_node(t, first, low, wide(x - first));
-        }
+        let r = match here(t, first, low, x) {
+            Some(r) => r,
+            None => copy_node(t, first, low, (x - first) as usize),
+        };
         lay_branch(t, first, i, v, r, &mut list);
-        v += 1;
     }
-    first + narrow(add_copy(t, i, &list))
+    first + add_copy(t, i, &list) as u32
 }
 
 // The copy of what a branch word goes to, made where there is none.
@@ -67,11 +58,10 @@ fn copy_branch(t: &mut [u32], first: u32, low: u32, b: u32) -> u32
     requires { (Open first t.old) × (b < first + count t.old) × (low ≡ first + kept t.old) }
     ensures { Done first t.old t.new (moves_step b result) }
 {
-    let r = here(t, first, low, b);
-    if r == LOST {
-        return copy_node(t, first, low, wide(b - first));
+    match here(t, first, low, b) {
+        Some(r) => r,
+        None => copy_node(t, first, low, (b - first) as usize),
     }
-    r
 }
 
 // 1 + the highest node that is a root of the first p places, 0 where none is: so many nodes building their functions in turn gives.
@@ -79,14 +69,12 @@ fn kept_by(t: &[u32], first: u32, n: usize, p: usize) -> u32
     requires { Lawful first n p t.now }
     ensures { result ≡ highest first t.now p }
 {
-    let mut a: u32 = 0;
-    let mut q: usize = 0;
-    while q < p {
+    let mut a = 0;
+    for q in 0..p {
         let b = head_word(t, 32 + q);
         if first + a <= b {
             a = b - first + 1;
         }
-        q += 1;
     }
     a
 }
@@ -98,14 +86,12 @@ pub fn tidy(t: &mut [u32], first: u32, n: usize, p: usize)
     ensures { Swept first n p t.old t.new }
 {
     let a = kept_by(t, first, n, p);
-    unlink(t, wide(a));
-    let mut q: usize = p;
-    while q < n {
+    unlink(t, a as usize);
+    for q in p..n {
         let b = head_word(t, 32 + q);
         let r = copy_branch(t, first, first + a, b);
         t[32 + q] = r;
-        q += 1;
     }
     bring_back(t);
-    relink(t, wide(a));
+    relink(t, a as usize);
 }

@@ -50,5 +50,5 @@ returns-then-first-eq-HALVES c =
       simp length-set c.requires.4,
     )
 
-pub returns : goal.returns
-returns c = (laid_whole _ c.args.list.now c.args.v c.args.r c.requires.4 c.requires.2 c.if-first-eq-HALVES.false, simp length-set c.requires.4)
+pub returns-else-first-eq-HALVES : goal.returns-else-first-eq-HALVES
+returns-else-first-eq-HALVES c = (laid_whole _ c.args.list.now c.args.v c.args.r c.requires.4 c.requires.2 c.if-first-eq-HALVES.false, simp length-set c.requires.4)
