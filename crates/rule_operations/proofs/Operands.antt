@@ -23,6 +23,9 @@ use Rattle.rule_restrict.specs.Restrict.{Holding, restr}
 use Rattle.rule_restrict.proofs.Restricting.{restr_whole}
 use Rattle.rule_engine.specs.Joint.{joint, Operands}
 use Rattle.rule_engine.proofs.Applying.{joint_apply, joint_case, joint_forgotten}
+use Rattle.rule_operators.specs.Operators.{number_of, forgotten_by}
+use Rattle.rule_operators.specs.declared.Operator.{Operator}
+use Rattle.rule_operators.specs.declared.Operator.TheVariants.{Smaller, Larger, Equal, Less, Differ, Case, Forget}
 use Rattle.rule_calls.proofs.Sounding.{sound_root}
 use Rattle.table_calls.proofs.Drawn.{placed}
 use Rattle.rule_calls.proofs.Edge.{drawn}
@@ -40,6 +43,16 @@ use Rattle.rule_operations.specs.Joining.{Handed, Lined}
 -- the number that the branch word b gives a setting
 abbrev said : List ℕ → List ℕ → ℕ → ℕ
 said w s b = number (nodes w) 0 (decode b) s
+
+-- apply's operators forget no feature
+none_forgotten : (o : Operator) → number_of o ≤ 5 → forgotten_by o ≡ 16
+none_forgotten Smaller h = refl
+none_forgotten Larger h = refl
+none_forgotten Equal h = refl
+none_forgotten Less h = refl
+none_forgotten Differ h = refl
+none_forgotten Case h = refl
+none_forgotten (Forget f) h = absurd (omega arith)
 
 -- CASE looks only at the number that is chosen
 case_ext : (f g : ℕ → ℕ) (n i : ℕ) → (i < n → f i ≡ g i) → case_of i (tab f n) ≡ case_of i (tab g n)
@@ -68,8 +81,8 @@ module _ {w : List ℕ} (s : Sound w) where
 
   -- ---- APPLY
   module _ (a b : ℕ) (l : List ℕ) (ea : listed l 0 ≡ root w a) (eb : listed l 1 ≡ root w b) where
-    pub apply_operands : a < 32 → b < 32 → Operands w 16 2 0 l
-    apply_operands ha hb = record {
+    pub apply_operands : (o : Operator) → number_of o ≤ 5 → a < 32 → b < 32 → Operands w (forgotten_by o) 2 0 l
+    apply_operands o h ha hb = rw (none_forgotten o h) (record {
       holds = sound_holds s;
       two = omega arith;
       nine = omega arith;
@@ -79,12 +92,13 @@ module _ {w : List ℕ} (s : Sound w) where
           (λ z. let e : j ≡ 1 = omega (arith, z) in rw e (good_root b (listed l 1) hb eb))
           (same j 0);
       forget = λ h. absurd (omega (arith, no_feature));
-    }
+    })
 
-    pub apply_agrees : (o : ℕ) → o < 6 → a < 32 → b < 32 → Agree (sizes w) (joint w o 16 2 0 l) (applied o (on (state_of ruled w) a) (on (state_of ruled w) b))
-    apply_agrees o h ha hb x v =
-        joint_apply w o 16 l h no_feature x v
-        ∙ ap₂ (λ (y z : ℕ). says (pair_of o y z)) (ap (said w x) ea ∙ numbers (placed looked drawn w a ha x v)) (ap (said w x) eb ∙ numbers (placed looked drawn w b hb x v))
+    pub apply_agrees : (o : Operator) (n : ℕ) → number_of o ≡ n → n ≤ 5 → a < 32 → b < 32 → Agree (sizes w) (joint w (number_of o) (forgotten_by o) 2 0 l) (applied n (on (state_of ruled w) a) (on (state_of ruled w) b))
+    apply_agrees o n e h ha hb x v =
+        joint_apply w (number_of o) (forgotten_by o) l (omega arith) (omega (arith, no_feature, none_forgotten o (omega arith))) x v
+        ∙ ap (λ (m : ℕ). says (pair_of m (said w x (listed l 0)) (said w x (listed l 1)))) e
+        ∙ ap₂ (λ (y z : ℕ). says (pair_of n y z)) (ap (said w x) ea ∙ numbers (placed looked drawn w a ha x v)) (ap (said w x) eb ∙ numbers (placed looked drawn w b hb x v))
 
   -- ---- CASE
   -- what is handed on for a branch is a branch of the table, phrase 0 too

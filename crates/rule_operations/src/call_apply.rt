@@ -4,6 +4,7 @@ ghost use Rattle.promises.specs.RuleDeeds as D;
 
 use crate::joining::put_joint;
 use rule_calls::door;
+use rule_operators::Operator;
 use rule_words::root_word;
 use settings::Refusal;
 
@@ -19,11 +20,9 @@ pub fn apply(
     ensures { Meets (D.apply place operator a b) t.old t.new result }
 {
     door(t, &[place, a, b])?;
-    if operator < 1 || 5 < operator {
+    let Some(operator) = Operator::of_apply(operator) else {
         return Err(Refusal::BadArgument);
-    }
-    let mut ops = [0u32; 9];
-    ops[0] = root_word(t, a);
-    ops[1] = root_word(t, b);
-    put_joint(t, scratch, place, operator, 16, 2, ops)
+    };
+    let ops = [root_word(t, a), root_word(t, b)];
+    put_joint(t, scratch, place, operator, &ops)
 }

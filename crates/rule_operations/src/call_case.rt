@@ -10,6 +10,7 @@ ghost use Rattle.rule_operations.specs.Joining.{Handed, Lined};
 use crate::joining::put_joint;
 use rule_calls::door;
 use rule_count::{gives, reaches};
+use rule_operators::Operator;
 use rule_words::root_word;
 use settings::Refusal;
 
@@ -60,5 +61,5 @@ pub fn case(
         return Err(Refusal::BadSelector);
     }
     let ops = lined(t, selector, branches);
-    put_joint(t, scratch, place, 6, 16, m + 1, ops)
+    put_joint(t, scratch, place, Operator::Case, &ops[..m + 1])
 }

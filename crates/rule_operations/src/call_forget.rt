@@ -4,6 +4,7 @@ ghost use Rattle.promises.specs.RuleDeeds as D;
 
 use crate::joining::put_joint;
 use rule_calls::door;
+use rule_operators::Operator;
 use rule_words::root_word;
 use settings::Refusal;
 use table_words::{features_word, size_word};
@@ -25,5 +26,5 @@ pub fn forget(
     let m = size_word(t, feature) as usize;
     let b = root_word(t, from);
     let ops = [b; 9];
-    put_joint(t, scratch, place, 7, feature, m, ops)
+    put_joint(t, scratch, place, Operator::Forget(feature), &ops[..m])
 }

@@ -14,7 +14,7 @@ put_joint-requires c =
     let t = c.in_ok-door.was in (
       e.sound t,
       (e.there t).each 0 (omega arith),
-      apply_operands (e.sound t) a.a a.b _ c.root_word.ensures c.root_word-2.ensures ((e.there t).each 1 (omega arith)) ((e.there t).each 2 (omega arith)),
+      apply_operands (e.sound t) a.a a.b _ c.root_word.ensures c.root_word-2.ensures c.in-Some.operator (omega arith) ((e.there t).each 1 (omega arith)) ((e.there t).each 2 (omega arith)),
     )
 
 pub returns : goal.returns
@@ -22,6 +22,7 @@ returns c =
     let a = c.args in
     let e = c.door.ensures in
     let t = c.in_ok-door.was in
+    let q = c.in-Some.ensures in
     built_meets refl refl c.put_joint.ensures
-    (apply_agrees (e.sound t) a.a a.b _ c.root_word.ensures c.root_word-2.ensures a.operator (omega arith) ((e.there t).each 1 (omega arith)) ((e.there t).each 2 (omega arith)))
-    (λ z. let_in e t (pass (⊎_elim (λ h. omega arith) (λ h. omega arith)) z)) (λ k. tt) (λ y k. k)
+    (apply_agrees (e.sound t) a.a a.b _ c.root_word.ensures c.root_word-2.ensures c.in-Some.operator a.operator q.0 q.2 ((e.there t).each 1 (omega arith)) ((e.there t).each 2 (omega arith)))
+    (λ z. let_in e t (pass (⊎_elim (λ h. omega (arith, h, q.1, q.2)) (λ h. omega (arith, h, q.1, q.2))) z)) (λ k. tt) (λ y k. k)

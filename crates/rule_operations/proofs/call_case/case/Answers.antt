@@ -1,5 +1,7 @@
 -- `rule_operations::call_case::case` meets its contract: the branches and the selector are tested past the door, and the root words in a row are the operands. Assumes nothing.
-use Rattle.std.proofs.Common.{refl, arith, rules}
+use Rattle.std.proofs.Common.{◌≡◌, ◌+◌, length, refl, arith, rules}
+use mathlib.Core.Path.{◌∙◌}
+use Rattle.rule_engine.proofs.Recalling.{operands_taken, joint_taken}
 use Rattle.std.proofs.lemmas.Result.{err_from_is_err_and}
 use mathlib.Core.Logic.{⊎_elim}
 use Rattle.settings.proofs.Answers.{sure, sure_not}
@@ -42,10 +44,12 @@ put_joint-requires c =
     let a = c.args in
     let e = c.door.ensures in
     let t = c.in_ok-door.was in
-    let p : Places 32 a.branches.now = search rules in (
+    let p : Places 32 a.branches.now = search rules in
+    let n : length c.lined-ops.result ≡ 9 = search rules in (
       e.sound t,
       (e.there t).each 0 (omega arith),
-      case_operands (e.sound t) a.selector a.branches.now _ c.lined-ops.ensures ((e.there t).each 1 (omega arith)) p (omega arith) (omega arith),
+      operands_taken a.t.now 16 (length a.branches.now + 1) 0 c.lined-ops.result (omega arith)
+          (case_operands (e.sound t) a.selector a.branches.now _ c.lined-ops.ensures ((e.there t).each 1 (omega arith)) p (omega arith) (omega arith)),
     )
 
 pub returns : goal.returns
@@ -54,9 +58,11 @@ returns c =
     let e = c.door.ensures in
     let t = c.in_ok-door.was in
     let p : Places 32 a.branches.now = search rules in
+    let n : length c.lined-ops.result ≡ 9 = search rules in
     let hq = (e.there t).each 1 (omega arith) in
     built_meets refl refl c.put_joint.ensures
-    (case_agrees (e.sound t) a.selector a.branches.now _ c.lined-ops.ensures hq p)
+    (λ s v. joint_taken a.t.now 6 16 (length a.branches.now + 1) 0 c.lined-ops.result (omega arith) s
+    ∙ case_agrees (e.sound t) a.selector a.branches.now c.lined-ops.result c.lined-ops.ensures hq p s v)
     (λ z. let_in (inside e t p) refl
     (pass (⊎_elim (λ h. omega arith) (λ h. omega arith))
     (pass (sure_not c.if-reaches.false (reaches_on a.t.now a.selector _ c.reaches.result hq c.reaches.ensures)) z)))
