@@ -1,12 +1,12 @@
 -- Contract between layers: what the engine remembers, under a feature + 1 and the operands, and what its calls leave. Assumes nothing.
-use Rattle.std.specs.Prelude.{Option, None, Some, Bool, true, false, ◌≡◌, List, ℕ, ◌+◌, ◌<◌, ltb, length, drop}
+use Rattle.std.specs.Prelude.{Option, None, Some, ◌≡◌, List, ℕ, ◌+◌, ◌<◌, length, drop}
 use Rattle.theory.specs.Diagrams.{value}
 use Rattle.theory.specs.Settings.{Valid}
 use Rattle.table_words.specs.Words.{listed}
 use Rattle.table_memory.specs.Memory as M
 use Rattle.rule_nodes.specs.Nodes.{Good}
 use Rattle.rule_engine.specs.Joint.{joint}
-use Rattle.promises.specs.Words.{sizes, pick}
+use Rattle.promises.specs.Words.{sizes}
 use Rattle.promises.specs.RuleWords.{decode, rule_node_list as nodes}
 
 -- x is the result for the operands l from feature k on
@@ -29,15 +29,7 @@ pub record Right (o f n : ℕ) (w key : List ℕ) (x y : ℕ) : Type 0 where
 abbrev pub Noted : List ℕ → ℕ → ℕ → ℕ → List ℕ → Type 0
 Noted w o f n s = M.Noted (n + 1) (Right o f n) w s
 
--- the answer that a walk's word tells: a branch word, or that there was no room
-unfoldable pub answer_of : ℕ → Option ℕ
-answer_of r = pick (ltb r 131072) (Some r) None
-
 -- as it is after a call that had room
-abbrev pub Still : List ℕ → ℕ → ℕ → ℕ → List ℕ → Option ℕ → Type 0
+abbrev pub Still : {A : Type 0} → List ℕ → ℕ → ℕ → ℕ → List ℕ → Option A → Type 0
 Still w o f n s (Some x) = Noted w o f n s
 Still w o f n s None = Unit {0}
-
-abbrev pub StillIf : List ℕ → ℕ → ℕ → ℕ → List ℕ → Bool → Type 0
-StillIf w o f n s true = Noted w o f n s
-StillIf w o f n s false = Unit {0}

@@ -9,7 +9,7 @@ ghost use Rattle.table_notes.specs.Plain.{Resting, plain};
 ghost use Rattle.rule_nodes.specs.Nodes.{Result, Fills};
 ghost use Rattle.rule_operators.specs.Operators.{number_of, forgotten_by};
 ghost use Rattle.rule_engine.specs.Joint.{joint, Operands};
-ghost use Rattle.rule_engine.specs.Memory.{answer_of, Noted, Still, StillIf};
+ghost use Rattle.rule_engine.specs.Memory.{Noted, Still};
 ghost use Rattle.promises.specs.Words.{features};
 
 use operands::{key_of, lowest, operands_at};
@@ -20,35 +20,44 @@ use table_memory::{recall_in, remember_in};
 use table_notes::{begin, clear, clear_far, clear_window};
 use table_words::{capacity_word, features_word, size_word};
 
-// A result that there was no room for: more than any branch word. The walk answers one word, since an enum by value goes through memory.
-const NO_ROOM: u32 = 131072;
-
-// The result of the operator on the operands from feature k on: its branch word, or NO_ROOM.
+// The result of the operator on the operands from feature k on: its branch word, if there is room.
 // No feature below the lowest that an operand tests is walked.
 #[cycle(fill_branches_node_result_rest_result)]
-fn rest_result(t: &mut [u32], s: &mut [u32], operator: &Operator, k: usize, ops: &[u32]) -> u32
+fn rest_result(
+    t: &mut [u32],
+    s: &mut [u32],
+    operator: &Operator,
+    k: usize,
+    ops: &[u32],
+) -> Option<u32>
     requires { (Operands (plain t.old) (forgotten_by operator.now) (length ops.now) k ops.now)
         × (Noted t.old (number_of operator.now) (forgotten_by operator.now) (length ops.now) s.old) }
-    ensures { (Result (plain t.old) (plain t.new) k (joint (plain t.old) (number_of operator.now) (forgotten_by operator.now) (length ops.now) k ops.now) (answer_of result))
-        × (Still t.new (number_of operator.now) (forgotten_by operator.now) (length ops.now) s.new (answer_of result)) }
+    ensures { (Result (plain t.old) (plain t.new) k (joint (plain t.old) (number_of operator.now) (forgotten_by operator.now) (length ops.now) k ops.now) result)
+        × (Still t.new (number_of operator.now) (forgotten_by operator.now) (length ops.now) s.new result) }
 {
     if shortcut(operator, ops[0], ops[1]) {
-        return combine(operator, ops);
+        return Some(combine(operator, ops));
     }
     let m = lowest(t, ops);
     if features_word(t) as usize <= m {
-        return combine(operator, ops);
+        return Some(combine(operator, ops));
     }
     node_result(t, s, operator, m, ops)
 }
 
 // The same at a feature of the table: where it is forgotten the result for the operands' branches, else what is remembered, or one node's result.
 #[cycle(fill_branches_node_result_rest_result)]
-fn node_result(t: &mut [u32], s: &mut [u32], operator: &Operator, k: usize, ops: &[u32]) -> u32
+fn node_result(
+    t: &mut [u32],
+    s: &mut [u32],
+    operator: &Operator,
+    k: usize,
+    ops: &[u32],
+) -> Option<u32>
     requires { (Operands (plain t.old) (forgotten_by operator.now) (length ops.now) k ops.now)
         × (Noted t.old (number_of operator.now) (forgotten_by operator.now) (length ops.now) s.old) × (k < features (plain t.old)) }
-    ensures { (Result (plain t.old) (plain t.new) k (joint (plain t.old) (number_of operator.now) (forgotten_by operator.now) (length ops.now) k ops.now) (answer_of result))
-        × (Still t.new (number_of operator.now) (forgotten_by operator.now) (length ops.now) s.new (answer_of result)) }
+    ensures { (Result (plain t.old) (plain t.new) k (joint (plain t.old) (number_of operator.now) (forgotten_by operator.now) (length ops.now) k ops.now) result)
+        × (Still t.new (number_of operator.now) (forgotten_by operator.now) (length ops.now) s.new result) }
 {
     if operator.forgets(k) {
         let mut words = [0u32; 9];
@@ -60,20 +69,16 @@ fn node_result(t: &mut [u32], s: &mut [u32], operator: &Operator, k: usize, ops:
     let key = &mut words[..ops.len() + 1];
     key_of(k, ops, key);
     if let Some((x, _)) = recall_in(t, s, operator.number(), key) {
-        return x;
+        return Some(x);
     }
     let mut list = [0u32; 12];
-    if fill_branches(t, s, operator, k, ops, &mut list) {
-        let Some(x) = make_in(t, k, list) else {
-            return NO_ROOM;
-        };
-        remember_in(t, s, operator.number(), key, x, 0);
-        return x;
-    }
-    NO_ROOM
+    fill_branches(t, s, operator, k, ops, &mut list)?;
+    let x = make_in(t, k, list)?;
+    remember_in(t, s, operator.number(), key, x, 0);
+    Some(x)
 }
 
-// Lays the results for the values of feature k in turn into the list; whether there was room for them.
+// Lays the results for the values of feature k in turn into the list, if there is room for them.
 #[cycle(fill_branches_node_result_rest_result)]
 fn fill_branches(
     t: &mut [u32],
@@ -82,23 +87,19 @@ fn fill_branches(
     k: usize,
     ops: &[u32],
     list: &mut [u32; 12],
-) -> bool
+) -> Option<()>
     requires { (Operands (plain t.old) (forgotten_by operator.now) (length ops.now) k ops.now)
         × (Noted t.old (number_of operator.now) (forgotten_by operator.now) (length ops.now) s.old) × (k < features (plain t.old)) × (list.old ≡ replicate 12 0) }
     ensures { (Fills (plain t.old) (plain t.new) k (joint (plain t.old) (number_of operator.now) (forgotten_by operator.now) (length ops.now) k ops.now) result list.new)
-        × (StillIf t.new (number_of operator.now) (forgotten_by operator.now) (length ops.now) s.new result) }
+        × (Still t.new (number_of operator.now) (forgotten_by operator.now) (length ops.now) s.new result) }
 {
     let mut words = [0u32; 9];
     let next = &mut words[..ops.len()];
     for v in 0..size_word(t, k) as usize {
         operands_at(t, operator, k, ops, v, next);
-        let r = rest_result(t, s, operator, k + 1, next);
-        if NO_ROOM <= r {
-            return false;
-        }
-        list[v] = r;
+        list[v] = rest_result(t, s, operator, k + 1, next)?;
     }
-    true
+    Some(())
 }
 
 // The joint rule of the operands, built after the table's nodes, with remembered results in s or in the far records, which are 0 again.
@@ -108,11 +109,10 @@ fn join_in(t: &mut [u32], s: &mut [u32], operator: &Operator, ops: &[u32]) -> Op
 {
     let lent = begin(t, s.len());
     clear(&mut s[..lent]);
-    let r = rest_result(t, &mut s[..lent], operator, 0, ops);
-    if NO_ROOM <= r {
+    let Some(r) = rest_result(t, &mut s[..lent], operator, 0, ops) else {
         clear_far(t);
         return None;
-    }
+    };
     clear_window(t);
     Some(r)
 }

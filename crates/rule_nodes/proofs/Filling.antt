@@ -1,6 +1,5 @@
 -- The laws of a result built branch by branch (those of every kind), for the list of words that the code fills. Assumes nothing.
 use Rattle.std.specs.Prelude.{Option, None, Some}
-use mathlib.Core.Bool.{Bool, true, false}
 use mathlib.Core.Path.{◌≡◌, refl, sym, ap, ap₂, subst, ◌∙◌}
 use mathlib.Core.List.{List, [], ◌∷◌, ◌++◌}
 use Prim.Native.Nat.{ℕ, zero, suc, ◌+◌, ◌≤◌, ◌<◌}
@@ -151,8 +150,8 @@ module _ (w : List ℕ) (k : ℕ) (g : Rule) (ok : Holds w) (hk : k < features w
   filling_place t v l j b f p = place_ext w t j b p f.filled.grown.kept f.filled.grown.well (filling_ext t v l f)
 
 -- what a function that fills the list answered
-pub filled : (w t : List ℕ) (k : ℕ) (g : Rule) (r : Bool) (l : List ℕ) → r ≡ true → Fills w t k g r l → Filling w t k g (size w k) l
-filled w t k g r l e f = subst (λ (b : Bool). Fills w t k g b l) e f
+pub filled : (w t : List ℕ) (k : ℕ) (g : Rule) (r : Option (Unit {0})) (l : List ℕ) → r ≡ Some tt → Fills w t k g r l → Filling w t k g (size w k) l
+filled w t k g r l e f = subst (λ (b : Option (Unit {0})). Fills w t k g b l) e f
 
-pub not_filled : (w t : List ℕ) (k : ℕ) (g : Rule) (r : Bool) (l : List ℕ) → r ≡ false → Fills w t k g r l → Stopped w t k g
-not_filled w t k g r l e f = subst (λ (b : Bool). Fills w t k g b l) e f
+pub not_filled : (w t : List ℕ) (k : ℕ) (g : Rule) (r : Option (Unit {0})) (l : List ℕ) → r ≡ None → Fills w t k g r l → Stopped w t k g
+not_filled w t k g r l e f = subst (λ (b : Option (Unit {0})). Fills w t k g b l) e f

@@ -1,5 +1,5 @@
 -- Contract between layers: a rule table as the holder of a node list: the unique search, the making of a node, steps down a diagram, and the contract of what adds nodes. Assumes nothing.
-use Rattle.std.specs.Prelude.{Option, None, Some, Bool, true, false, ◌≡◌, List, ℕ, ◌-◌, ◌≤◌, ◌<◌, ltb, length, get_or}
+use Rattle.std.specs.Prelude.{Option, None, Some, ◌≡◌, List, ℕ, ◌-◌, ◌≤◌, ◌<◌, ltb, length, get_or}
 use Rattle.std.proofs.Math.Option.{Option as MathOption, none, some}
 use Rattle.theory.specs.Build.{make}
 use Rattle.theory.specs.Rules.{rules, Branch, Node, Rule, Built}
@@ -88,6 +88,6 @@ abbrev pub Stopped : List ℕ → List ℕ → ℕ → Rule → Type 0
 Stopped w t k g = H.Stopped layout w t k g (get_or (sizes w) k 0)
 
 -- all branches are filled, or there was no room for them
-abbrev pub Fills : List ℕ → List ℕ → ℕ → Rule → Bool → List ℕ → Type 0
-Fills w t k g true l = Filling w t k g (size w k) l
-Fills w t k g false l = Stopped w t k g
+abbrev pub Fills : List ℕ → List ℕ → ℕ → Rule → Option (Unit {0}) → List ℕ → Type 0
+Fills w t k g (Some u) l = Filling w t k g (size w k) l
+Fills w t k g None l = Stopped w t k g

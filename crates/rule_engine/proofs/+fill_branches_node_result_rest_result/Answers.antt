@@ -5,14 +5,14 @@ use Rattle.rule_words.specs.Table.{rule_table}
 use Rattle.table_memory.proofs.Building.{noted_result}
 use Rattle.table_notes.proofs.Far.{grown_windowed}
 use Rattle.rule_engine.proofs.Recalling.{right_here, right_more, hit, result_recalled}
-use Rattle.rule_engine.proofs.Noting.{plain_features, told_is, told_none, word_left, none_left}
+use Rattle.rule_engine.proofs.Noting.{plain_features}
 use Rattle.rule_engine.proofs.Joining.{joint_held, lowest_from, operands_next, operands_jump, operands_ext, joint_jump, joint_forget, joint_phrases, joint_short}
 use Rattle.table_words.proofs.Tab.{tab_of}
 use Rattle.table_words.specs.Words.{listed}
 use Rattle.promises.specs.Tab.{tab}
 use Rattle.rule_operators.specs.Operators.{op_of, number_of, forgotten_by}
 use Rattle.rule_engine.specs.Joint.{Operands}
-use Rattle.rule_engine.specs.Memory.{Still, StillIf}
+use Rattle.rule_engine.specs.Memory.{Still}
 use Rattle.table_notes.specs.Plain.{plain}
 use Rattle.table_notes.specs.Far.{memory}
 use Rattle.table_notes.proofs.Plain.{length_plain}
@@ -54,8 +54,8 @@ fill_branches-operands_at-requires t c =
       l.invariant.2,
     )
 
-pub fill_branches-rest_result-r-requires : goal.fill_branches-rest_result-r-requires
-fill_branches-rest_result-r-requires t c =
+pub fill_branches-rest_result-requires : goal.fill_branches-rest_result-requires
+fill_branches-rest_result-requires t c =
     let l = c.loop-v in
     let fl = l.invariant.0 in
     let n = kept_features _ _ fl.filled.grown.kept in
@@ -68,15 +68,16 @@ fill_branches-rest_result-r-requires t c =
       ),
     )
 
-pub fill_branches-returns-then-r-ge-NO_ROOM : goal.fill_branches-returns-then-r-ge-NO_ROOM
-fill_branches-returns-then-r-ge-NO_ROOM t c =
+pub fill_branches-returns-in_err-list : goal.fill_branches-returns-in_err-list
+fill_branches-returns-in_err-list t c =
     let l = c.loop-v in
     let fl = l.invariant.0 in
-    let e = values _ _ _ c.args.k c.args.ops.now _ c.requires.0 c.requires.2 c.size_word-v-end.ensures in (
+    let e = values _ _ _ c.args.k c.args.ops.now _ c.requires.0 c.requires.2 c.size_word-v-end.ensures in
+    rw c.from_residual.ensures (
       fill_stop (plain c.args.t.now) c.args.k _ c.requires.0.holds c.requires.2 (plain l.t) _ l.v l.list _ _ fl (omega (arith, e, c.loop-v-test))
           (joint_held (plain c.args.t.now) (plain l.t) (number_of c.args.operator.now) (forgotten_by c.args.operator.now) (length c.args.ops.now) c.args.k l.v c.args.ops.now _ c.requires.0
           (filling_ext (plain c.args.t.now) c.args.k _ c.requires.0.holds c.requires.2 (plain l.t) l.v l.list fl) c.operands_at.ensures.0)
-          (rw c.operands_at.ensures.1 at c.rest_result-r.ensures.0) (told_none _ c.if-r-ge-NO_ROOM.true),
+          (rw c.operands_at.ensures.1 at c.rest_result.ensures.0) c.in_err-list.was,
       tt,
     )
 
@@ -90,12 +91,12 @@ fill_branches-loop-v-preserved t c =
     let l = c.loop-v in
     let fl = l.invariant.0 in
     let e = values _ _ _ c.args.k c.args.ops.now _ c.requires.0 c.requires.2 c.size_word-v-end.ensures in
-    let is = told_is c.rest_result-r.result (omega (arith, c.if-r-ge-NO_ROOM.false)) in (
+    let is = c.in_ok-list.was in (
       fill_more (plain c.args.t.now) c.args.k _ c.requires.0.holds c.requires.2 (plain l.t) _ l.v _ l.list _ _ fl (omega (arith, e, c.loop-v-test))
           (joint_held (plain c.args.t.now) (plain l.t) (number_of c.args.operator.now) (forgotten_by c.args.operator.now) (length c.args.ops.now) c.args.k l.v c.args.ops.now _ c.requires.0
           (filling_ext (plain c.args.t.now) c.args.k _ c.requires.0.holds c.requires.2 (plain l.t) l.v l.list fl) c.operands_at.ensures.0)
-          (rw c.operands_at.ensures.1 at c.rest_result-r.ensures.0) is,
-      subst (Still _ _ _ _ _) is (rw c.operands_at.ensures.1 at c.rest_result-r.ensures.1),
+          (rw c.operands_at.ensures.1 at c.rest_result.ensures.0) is,
+      subst (Still _ _ _ _ _) is (rw c.operands_at.ensures.1 at c.rest_result.ensures.1),
       c.operands_at.ensures.1,
     )
 
@@ -141,10 +142,11 @@ pub node_result-recall_in-requires : goal.node_result-recall_in-requires
 node_result-recall_in-requires t c = c.requires.1.room
 
 pub node_result-returns-in-Some : goal.node_result-returns-in-Some
-node_result-returns-in-Some t c =
-    word_left _ _ c.args.k _ _ c.requires.0.holds
-    (hit _ _ _ _ c.args.k c.args.ops.now _ c.key_of.ensures (memory c.args.t.now c.args.s.now) _ _ _ c.requires.0 c.requires.1.right
-    c.recall_in.ensures c.in-Some.is) c.requires.1
+node_result-returns-in-Some t c = (
+  hit _ _ _ _ c.args.k c.args.ops.now _ c.key_of.ensures (memory c.args.t.now c.args.s.now) _ _ _ c.requires.0 c.requires.1.right
+      c.recall_in.ensures c.in-Some.is,
+  c.requires.1,
+)
 
 pub node_result-fill_branches-requires : goal.node_result-fill_branches-requires
 node_result-fill_branches-requires t c =
@@ -153,41 +155,42 @@ node_result-fill_branches-requires t c =
 
 pub node_result-make_in-requires : goal.node_result-make_in-requires
 node_result-make_in-requires t c =
-    let fl = filled _ _ _ _ _ _ c.if-fill_branches.true c.fill_branches.ensures.0 in (
-      (subst (StillIf _ _ _ _ _) c.if-fill_branches.true c.fill_branches.ensures.1).room.roomy,
+    let fl = filled _ _ _ _ _ _ c.in_ok-fill_branches.was c.fill_branches.ensures.0 in (
+      (subst (Still _ _ _ _ _) c.in_ok-fill_branches.was c.fill_branches.ensures.1).room.roomy,
       fl.filled.grown.well,
       omega (arith, kept_features _ _ fl.filled.grown.kept, c.requires.2),
       fill_listed _ _ _ c.requires.0.holds c.requires.2 _ _ fl,
     )
 
-pub node_result-returns-in_default-make_in : goal.node_result-returns-in_default-make_in
-node_result-returns-in_default-make_in t c =
-    let fl = filled _ _ _ _ _ _ c.if-fill_branches.true c.fill_branches.ensures.0 in
-    none_left _ _ c.args.k _ _ _ _ _ _
-    (gives_none c.in_default-make_in.is (fill_make _ _ _ c.requires.0.holds c.requires.2 _ _ _ _ fl c.make_in.ensures.0))
+pub node_result-returns-in_err-x : goal.node_result-returns-in_err-x
+node_result-returns-in_err-x t c =
+    let fl = filled _ _ _ _ _ _ c.in_ok-fill_branches.was c.fill_branches.ensures.0 in
+    rw c.from_residual-in_err-x.ensures
+    (gives_none c.in_err-x.was (fill_make _ _ _ c.requires.0.holds c.requires.2 _ _ _ _ fl c.make_in.ensures.0), tt)
 
 pub node_result-remember_in-requires : goal.node_result-remember_in-requires
 node_result-remember_in-requires t c = (
-  grown_windowed _ _ c.make_in.ensures.0.grown.kept c.make_in.ensures.1 (subst (StillIf _ _ _ _ _) c.if-fill_branches.true c.fill_branches.ensures.1).room,
+  grown_windowed _ _ c.make_in.ensures.0.grown.kept c.make_in.ensures.1 (subst (Still _ _ _ _ _) c.in_ok-fill_branches.was c.fill_branches.ensures.1).room,
   omega (arith, c.key_of.ensures.feature),
 )
 
-pub node_result-returns-then-fill_branches : goal.node_result-returns-then-fill_branches
-node_result-returns-then-fill_branches t c =
-    let fb = c.fill_branches in
-    let m = c.make_in.ensures in
-    let fl = filled _ _ _ _ _ _ c.if-fill_branches.true fb.ensures.0 in
-    let re = gives_is c.in-Some-make_in.is (fill_make _ _ _ c.requires.0.holds c.requires.2 _ _ _ _ fl m.0) in
-    let y = c.key_of.ensures in
-    word_left _ _ c.args.k _ _ c.requires.0.holds (rw c.remember_in.ensures.0 re)
-    (noted_result rule_table (right_more (number_of c.args.operator.now) (forgotten_by c.args.operator.now) (length c.args.ops.now)) fl.filled.grown.well m.0.grown (make_grows _ _ _) m.1
-    (subst (StillIf _ _ _ _ _) c.if-fill_branches.true fb.ensures.1) y.long c.remember_in.ensures
-    (right_here _ _ _ _ c.args.k c.args.ops.now _ y _ _ (result_recalled _ _ _ _ _ c.args.k _ c.args.ops.now c.requires.0 re)))
-
 pub node_result-returns : goal.node_result-returns
 node_result-returns t c =
-    none_left _ _ c.args.k _ _ _ _ _ _
-    (stop_result _ _ _ c.requires.0.holds c.requires.2 _ (not_filled _ _ _ _ _ _ c.if-fill_branches.false c.fill_branches.ensures.0))
+    let fb = c.fill_branches in
+    let m = c.make_in.ensures in
+    let fl = filled _ _ _ _ _ _ c.in_ok-fill_branches.was fb.ensures.0 in
+    let re = gives_is c.in_ok-x.was (fill_make _ _ _ c.requires.0.holds c.requires.2 _ _ _ _ fl m.0) in
+    let y = c.key_of.ensures in (
+      rw c.remember_in.ensures.0 re,
+      noted_result rule_table (right_more (number_of c.args.operator.now) (forgotten_by c.args.operator.now) (length c.args.ops.now)) fl.filled.grown.well m.0.grown (make_grows _ _ _) m.1
+          (subst (Still _ _ _ _ _) c.in_ok-fill_branches.was fb.ensures.1) y.long c.remember_in.ensures
+          (right_here _ _ _ _ c.args.k c.args.ops.now _ y _ _ (result_recalled _ _ _ _ _ c.args.k _ c.args.ops.now c.requires.0 re)),
+    )
+
+pub node_result-returns-in_err-fill_branches : goal.node_result-returns-in_err-fill_branches
+node_result-returns-in_err-fill_branches t c =
+    rw c.from_residual.ensures
+    (stop_result _ _ _ c.requires.0.holds c.requires.2 _ (not_filled _ _ _ _ _ _ c.in_err-fill_branches.was c.fill_branches.ensures.0), tt)
 
 -- the operator of the operands' words is that of the first words of their list
 op_of_list : (o : ℕ) (l : List ℕ) → op_of o l ≡ op_of o (tab (listed l) (length l))
@@ -204,8 +207,7 @@ rest_result-combine-requires t c = c.requires.0.two
 
 pub rest_result-returns-then-shortcut : goal.rest_result-returns-then-shortcut
 rest_result-returns-then-shortcut t c =
-    word_left _ _ c.args.k _ _ c.requires.0.holds
-    (joint_short _ _ _ _ c.args.k _ c.args.ops.now c.requires.0 (c.shortcut.ensures c.if-shortcut.true) (c.combine.ensures ∙ op_of_list _ c.args.ops.now)) c.requires.1
+    (joint_short _ _ _ _ c.args.k _ c.args.ops.now c.requires.0 (c.shortcut.ensures c.if-shortcut.true) (c.combine.ensures ∙ op_of_list _ c.args.ops.now), c.requires.1)
 
 pub rest_result-lowest-m-requires : goal.rest_result-lowest-m-requires
 rest_result-lowest-m-requires t c = (c.requires.0.holds.laid.laid, λ j h. good_small _ _ _ (c.requires.0.each j h))
@@ -219,8 +221,7 @@ rest_result-combine-requires-then-features_word-m t c = c.requires.0.two
 pub rest_result-returns-then-features_word-m : goal.rest_result-returns-then-features_word-m
 rest_result-returns-then-features_word-m t c =
     let e : c.features_word.result ≡ features (plain c.args.t.now) = c.features_word.ensures ∙ plain_features c.args.t.now in
-    word_left _ _ c.args.k _ _ c.requires.0.holds
-    (joint_phrases _ _ _ _ c.args.k c.lowest-m.result _ c.args.ops.now c.requires.0 c.lowest-m.ensures (omega arith) (c.combine-then-features_word-m.ensures ∙ op_of_list _ c.args.ops.now)) c.requires.1
+    (joint_phrases _ _ _ _ c.args.k c.lowest-m.result _ c.args.ops.now c.requires.0 c.lowest-m.ensures (omega arith) (c.combine-then-features_word-m.ensures ∙ op_of_list _ c.args.ops.now), c.requires.1)
 
 pub rest_result-node_result-requires : goal.rest_result-node_result-requires
 rest_result-node_result-requires t c =

@@ -4,30 +4,30 @@ use Rattle.table_notes.proofs.Alike.{grown_roomy}
 use Rattle.table_notes.proofs.Windows.{lent_cleared}
 use Rattle.table_memory.proofs.Remembering.{noted_none}
 use Rattle.rule_engine.specs.Memory.{Still}
-use Rattle.rule_engine.proofs.Noting.{told_is, told_none, operands_plain, joint_cleared}
+use Rattle.rule_engine.proofs.Noting.{operands_plain, joint_cleared}
 use mathlib.Core.Path.{subst}
 use Rattle.rule_nodes.specs.Nodes.{Result}
 use Rattle.rule_engine.proofs.join_in.Goals as goal
 
-pub rest_result-r-requires : goal.rest_result-r-requires
-rest_result-r-requires c =
+pub rest_result-requires : goal.rest_result-requires
+rest_result-requires c =
     let n = c.begin-lent.ensures in (
       operands_plain c.args.t.now _ _ _ 0 c.args.ops.now c.requires.0 c.requires.1 n.same,
       noted_none _ _ _ _ _ n (lent_cleared c.args.s.now c.clear.new.s c.begin-lent.result (omega (arith, n.fits)) c.clear.auto.s c.clear.ensures),
     )
 
 pub clear_far-requires : goal.clear_far-requires
-clear_far-requires c = grown_roomy _ _ c.rest_result-r.ensures.0.grown.kept c.begin-lent.ensures.windowed.roomy
+clear_far-requires c = grown_roomy _ _ c.rest_result.ensures.0.grown.kept c.begin-lent.ensures.windowed.roomy
 
-pub returns-then-r-ge-NO_ROOM : goal.returns-then-r-ge-NO_ROOM
-returns-then-r-ge-NO_ROOM c =
+pub returns-in_default : goal.returns-in_default
+returns-in_default c =
     joint_cleared c.args.t.now _ _ _ _ _ _ 0 c.args.ops.now _ c.requires.1 c.begin-lent.ensures.same c.clear_far.ensures
-    (subst (Result _ _ 0 _) (told_none _ (omega arith)) c.rest_result-r.ensures.0)
+    (subst (Result _ _ 0 _) c.in_default.is c.rest_result.ensures.0)
 
 pub clear_window-requires : goal.clear_window-requires
-clear_window-requires c = (subst (Still _ _ _ _ _) (told_is _ (omega arith)) c.rest_result-r.ensures.1).room
+clear_window-requires c = (subst (Still _ _ _ _ _) c.in-Some.is c.rest_result.ensures.1).room
 
 pub returns : goal.returns
 returns c =
     joint_cleared c.args.t.now _ _ _ _ _ _ 0 c.args.ops.now _ c.requires.1 c.begin-lent.ensures.same c.clear_window.ensures
-    (subst (Result _ _ 0 _) (told_is _ (omega arith)) c.rest_result-r.ensures.0)
+    (subst (Result _ _ 0 _) c.in-Some.is c.rest_result.ensures.0)
