@@ -1,19 +1,20 @@
 // The commands on the words of a buffer: one word, overwriting one, the checksum of all.
+use crate::desk::Buffer;
 use crate::faults::Fault;
 use crate::numbers::{value, word};
 
 // One word.
-pub fn say_word(rt: &impl Print, index: &str, words: &[u32]) -> Result<(), Fault> {
+pub fn say_word(rt: &impl Print, index: &str, buffer: &Buffer) -> Result<(), Fault> {
     let index: usize = value(index)?;
-    let word = words.get(index).ok_or(Fault::Unknown)?;
+    let word = buffer.words.get(index).ok_or(Fault::Unknown)?;
     print!(rt; "0 {word}")?;
     Ok(())
 }
 
 // One word is overwritten.
-pub fn poke(rt: &impl Print, index: &str, text: &str, words: &mut [u32]) -> Result<(), Fault> {
+pub fn poke(rt: &impl Print, index: &str, text: &str, buffer: &mut Buffer) -> Result<(), Fault> {
     let index: usize = value(index)?;
-    let place = words.get_mut(index).ok_or(Fault::Unknown)?;
+    let place = buffer.words.get_mut(index).ok_or(Fault::Unknown)?;
     *place = word(text)?;
     print!(rt; "0")?;
     Ok(())
@@ -28,8 +29,8 @@ fn checksum(words: &[u32]) -> u64 {
     sum
 }
 
-pub fn say_sum(rt: &impl Print, words: &[u32]) -> Result<(), Fault> {
-    let sum = checksum(words);
+pub fn say_sum(rt: &impl Print, buffer: &Buffer) -> Result<(), Fault> {
+    let sum = checksum(&buffer.words);
     print!(rt; "0 {sum}")?;
     Ok(())
 }

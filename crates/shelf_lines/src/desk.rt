@@ -1,4 +1,6 @@
 // What is lent to the calls.
+ghost use Rattle.std.specs.Prelude.{EachIndex, slice_index, ◌≡◌};
+
 // How many words a buffer has.
 pub const WORDS: usize = 16384;
 
@@ -41,7 +43,9 @@ pub struct Scratch {
 
 impl Scratch {
     // The words that a call is lent.
-    pub fn filled(&mut self) -> &mut [u32] {
+    pub fn filled(&mut self) -> &mut [u32]
+        ensures { EachIndex result.now (λ k. slice_index result.now k ≡ self.old.fill) }
+    {
         let fill = self.fill;
         let words = self.buffer.lent();
         words.fill(fill);

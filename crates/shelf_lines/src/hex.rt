@@ -1,5 +1,5 @@
 // Bytes as two lower-case hex digits each, and `-` for none.
-ghost use Rattle.std.specs.Prelude.{IfOk, ◌<◌};
+ghost use Rattle.std.specs.Prelude.{IfOk, length, ◌*◌, ◌<◌, ◌≤◌};
 
 use crate::faults::Fault;
 use std::fmt;
@@ -16,7 +16,9 @@ fn digit(glyph: u8) -> Result<u8, Fault>
 }
 
 // The bytes that a text says, put at the start of the room, which has to hold them all.
-pub fn bytes_in<'a>(text: &str, room: &'a mut [u8]) -> Result<&'a [u8], Fault> {
+pub fn bytes_in<'a>(text: &str, room: &'a mut [u8]) -> Result<&'a [u8], Fault>
+    ensures { IfOk result (λ b. 2 * length b.now ≤ length text.now) }
+{
     if text == "-" {
         return Ok(&[]);
     }

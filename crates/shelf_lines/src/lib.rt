@@ -11,10 +11,10 @@ mod buffers; // buffers.rt: the commands on the words of a buffer
 mod own; // own.rt: the commands on neither table
 
 pub use buffers::{poke, say_sum, say_word};
-pub use desk::{Desk, Scratch, Table};
+pub use desk::{Buffer, Desk, Scratch, Table};
 pub use faults::Fault;
 pub use hex::{Hex, bytes_in};
 pub use numbers::{Parameter, at_most, value};
 pub use own::own_command;
-pub use saying::{Values, say, say_number};
+pub use saying::{Values, say, say_looked, say_number};
 pub use words::{parts, values};

@@ -1,5 +1,6 @@
 // Answers, written to standard output. Each write may fail, and its error is handed on.
 use crate::faults::Fault;
+use promises::Looked;
 use settings::{Refusal, Setting, outcome_number};
 use std::fmt;
 
@@ -16,6 +17,14 @@ pub fn say_number<T: fmt::Display + Default + Drop>(
 ) -> Result<(), Fault> {
     let ending = outcome_number(&answer);
     print!(rt; "{ending} {}", answer.unwrap_or_default())?;
+    Ok(())
+}
+
+// The answer of a look up of a number: the number, and how many features were asked.
+pub fn say_looked(rt: &impl Print, answer: Result<Looked, Refusal>) -> Result<(), Fault> {
+    let ending = outcome_number(&answer);
+    let looked = answer.unwrap_or_default();
+    print!(rt; "{ending} {} {}", looked.number, looked.asked)?;
     Ok(())
 }
 
