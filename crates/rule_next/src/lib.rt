@@ -16,51 +16,65 @@ use rule_words::root_word;
 use settings::Setting;
 use table_words::{features_word, size_word};
 
-// The smallest value of feature k, from the given one on, whose branch leads to the number.
-fn smallest(t: &[u32], has: &[bool], number: u32, k: usize, b: u32, from: usize) -> Option<usize>
-    requires { (Spot t.now k b) × (k < features t.now) × (from ≤ size t.now k) × (Marks t.now number has.now) }
-    ensures { Smallest t.now number k b from result }
-{
-    for v in from..size_word(t, k) as usize {
-        if branch_meets(has, Wanted::Exactly(number), child_of(t, k, b, v)) {
-            return Some(v);
+// The search for a number in a table: which of its nodes lead to the number.
+#[derive(Clone, Copy)]
+struct Search<'a> {
+    t: &'a [u32],
+    has: &'a [bool],
+    number: u32,
+}
+
+impl Search<'_> {
+    // The smallest value of feature k, from the given one on, whose branch leads to the number.
+    fn smallest(&self, k: usize, b: u32, from: usize) -> Option<usize>
+        requires { (Spot self.now.t.now k b) × (k < features self.now.t.now) × (from ≤ size self.now.t.now k) × (Marks self.now.t.now self.now.number self.now.has.now) }
+        ensures { Smallest self.now.t.now self.now.number k b from result }
+    {
+        for v in from..size_word(self.t, k) as usize {
+            if branch_meets(
+                self.has,
+                Wanted::Exactly(self.number),
+                child_of(self.t, k, b, v),
+            ) {
+                return Some(v);
+            }
         }
+        None
     }
-    None
-}
 
-// The first of all settings of the features from k on that the branch gives the number, in the places of those features.
-// It calls itself at the next feature: at most as deep as there are features.
-fn complete(t: &[u32], has: &[bool], number: u32, k: usize, b: u32, from: [u8; 16]) -> [u8; 16]
-    requires { (Spot t.now k b) × (Marks t.now number has.now) × (Leads t.now number k b) }
-    ensures { Completes t.now number k b from result }
-{
-    if features_word(t) as usize <= k {
-        return from;
+    // The first of all settings of the features from k on that the branch gives the number, in the places of those features.
+    // It calls itself at the next feature: at most as deep as there are features.
+    fn complete(&self, k: usize, b: u32, from: [u8; 16]) -> [u8; 16]
+        requires { (Spot self.now.t.now k b) × (Marks self.now.t.now self.now.number self.now.has.now) × (Leads self.now.t.now self.now.number k b) }
+        ensures { Completes self.now.t.now self.now.number k b from result }
+    {
+        if features_word(self.t) as usize <= k {
+            return from;
+        }
+        let v = self.smallest(k, b, 0).unwrap();
+        let mut to = from;
+        to[k] = v as u8;
+        self.complete(k + 1, child_of(self.t, k, b, v), to)
     }
-    let v = smallest(t, has, number, k, b, 0).unwrap();
-    let mut to = from;
-    to[k] = v as u8;
-    complete(t, has, number, k + 1, child_of(t, k, b, v), to)
-}
 
-// The first setting of the features from k on, at or after that of the places, that the branch gives the number.
-// First with the same value of feature k, then with the smallest greater one that leads to the number.
-fn seek(t: &[u32], has: &[bool], number: u32, k: usize, b: u32, from: [u8; 16]) -> Option<[u8; 16]>
-    requires { (Spot t.now k b) × (Marks t.now number has.now) × (Valid (drop k (sizes t.now)) (slice k (features t.now) from)) }
-    ensures { Seeks t.now number k b from result }
-{
-    if features_word(t) as usize <= k {
-        return (b == number).then_some(from);
+    // The first setting of the features from k on, at or after that of the places, that the branch gives the number.
+    // First with the same value of feature k, then with the smallest greater one that leads to the number.
+    fn seek(&self, k: usize, b: u32, from: [u8; 16]) -> Option<[u8; 16]>
+        requires { (Spot self.now.t.now k b) × (Marks self.now.t.now self.now.number self.now.has.now) × (Valid (drop k (sizes self.now.t.now)) (slice k (features self.now.t.now) from)) }
+        ensures { Seeks self.now.t.now self.now.number k b from result }
+    {
+        if features_word(self.t) as usize <= k {
+            return (b == self.number).then_some(from);
+        }
+        let v = usize::from(from[k]);
+        if let Some(same) = self.seek(k + 1, child_of(self.t, k, b, v), from) {
+            return Some(same);
+        }
+        let w = self.smallest(k, b, v + 1)?;
+        let mut to = from;
+        to[k] = w as u8;
+        Some(self.complete(k + 1, child_of(self.t, k, b, w), to))
     }
-    let v = usize::from(from[k]);
-    if let Some(same) = seek(t, has, number, k + 1, child_of(t, k, b, v), from) {
-        return Some(same);
-    }
-    let w = smallest(t, has, number, k, b, v + 1)?;
-    let mut to = from;
-    to[k] = w as u8;
-    Some(complete(t, has, number, k + 1, child_of(t, k, b, w), to))
 }
 
 // The first setting at or after the given one that the rule of the place gives the number.
@@ -70,7 +84,12 @@ pub fn first_with(t: &[u32], place: usize, number: u32, setting: &[u8]) -> Optio
 {
     let has = answers(t, Wanted::Exactly(number));
     let from = Setting::of(setting).values;
-    let values = seek(t, &has, number, 0, root_word(t, place), from)?;
+    let search = Search {
+        t,
+        has: &has,
+        number,
+    };
+    let values = search.seek(0, root_word(t, place), from)?;
     Some(Setting {
         count: setting.len(),
         values,
