@@ -101,10 +101,9 @@ pub fn top_of(t: &[u32], x: u32) -> usize
     requires { (Laid t.now) × (x ≤ count t.now) }
     ensures { result ≡ top t.now x }
 {
-    if x == 0 {
-        features_word(t) as usize
-    } else {
-        record_word(t, x as usize - 1, 0) as usize
+    match target_at(x) {
+        Target::End => features_word(t) as usize,
+        Target::Node(i) => record_word(t, i as usize, 0) as usize,
     }
 }
 

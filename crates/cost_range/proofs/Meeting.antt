@@ -1,6 +1,6 @@
 -- Two costs by their ends: no amount of both together lies further out than their ends meet, and where one of two targets is the end, one lies there. Assumes nothing.
 use Rattle.std.specs.Prelude.{Option, Some, None}
-use mathlib.Core.Bool.{Bool, true, false, not}
+use mathlib.Core.Bool.{Bool, true, false}
 use mathlib.Core.Path.{◌≡◌, refl, sym, ap, ap₂, subst, ◌∙◌}
 use mathlib.Core.List.{List}
 use Prim.Native.Nat.{ℕ}
@@ -19,7 +19,6 @@ use Rattle.theory_costs.proofs.Passing.{passed_right, kept_fits}
 use Rattle.theory_costs.proofs.Relative.{offs, from_end}
 use Rattle.theory_costs.proofs.Words.{int_ℕ}
 use Rattle.cost_words.specs.Sides.{end_of, Keeps}
-use Rattle.cost_words.specs.Sums.{Stands}
 use Rattle.cost_words.proofs.Packing.{target_end}
 use Rattle.cost_words.proofs.Summing.{OrderOf, way}
 use Rattle.cost_nodes.specs.Nodes.{Good}
@@ -50,19 +49,6 @@ tie_beats false false a b c d h k = sum_le a b c d h k
 tie_zero : (minus : Bool) (a : ℤ) → tie_of minus a (pos 0) ≡ a
 tie_zero true a = minus_zero a
 tie_zero false a = +ℤ_idr a
-
--- ---- words of what the ends give
-module _ (minus up : Bool) (l h x y c d : ℕ) (r : Option ℕ) (ec : c ≡ end_of up l h) where
-  pub met_minus : minus ≡ true → d ≡ end_of (not up) x y → Stands (tie_of true (int c) (int d)) r → Stands (meeting minus up l h x y) r
-  met_minus e ed s = rw e (subst (λ (z : ℤ). Stands z r) (ap₂ (λ (p q : ℕ). int p -ℤ int q) ec ed) s)
-
-  pub met_plus : minus ≡ false → d ≡ end_of up x y → Stands (tie_of false (int c) (int d)) r → Stands (meeting minus up l h x y) r
-  met_plus e ed s = rw e (subst (λ (z : ℤ). Stands z r) (ap₂ (λ (p q : ℕ). int p +ℤ int q) ec ed) s)
-
-pub met_both : (minus : Bool) (l h x y u v : ℕ) → Stands (meeting minus false l h x y) (Some u) → Stands (meeting minus true l h x y) (Some v)
-    → Meeting minus l h x y (Some (record { low = u; high = v }))
-met_both minus l h x y u v su sv true = sv
-met_both minus l h x y u v su sv false = su
 
 -- ---- any two costs
 -- an end's word, as a side's extreme

@@ -3,12 +3,10 @@ use Rattle.std.specs.Prelude.{Option, Some, None}
 use mathlib.Core.Bool.{Bool}
 use mathlib.Core.Path.{◌≡◌, sym, ap, subst, ◌∙◌}
 use mathlib.Core.List.{List}
-use Prim.Native.Nat.{ℕ, ◌+◌, ◌-◌, ◌*◌, ◌≤◌}
-use native.Mathlib.Nat.{add-mul, mul-add, mul-le-mul_left, mul-le-mul_right}
+use Prim.Native.Nat.{ℕ, ◌+◌, ◌-◌, ◌≤◌}
 use native.Mathlib.Omega.{arith}
 use mathlib.Core.Logic.{⊎_elim}
 use Rattle.table_words.proofs.Tab.{split}
-use lib.Dec.{leb}
 use lib.IntN.{ℤ, pos, negsuc, ◌+ℤ◌, ◌*ℤ◌}
 use Rattle.theory.specs.Costs.{Cost, costs}
 use Rattle.theory.specs.Diagrams.{Branch, meaning}
@@ -17,12 +15,11 @@ use Rattle.theory_costs.specs.Extremes.{kept_at}
 use Rattle.theory_costs.proofs.Extremes.{low, high, extreme_taken}
 use Rattle.theory_costs.proofs.Integers.{fit_more, rise_near, fall_near}
 use Rattle.theory_costs.proofs.Passing.{place_extreme}
-use Rattle.theory_costs.proofs.Products.{mul_rise, mul_fall}
 use Rattle.theory_costs.proofs.Range.{extreme_fits, within_exactly, lowest_scaled, highest_scaled, lowest_turned, highest_turned}
 use Rattle.theory_costs.proofs.Spreads.{within_spread}
 use Rattle.theory_costs.proofs.Words.{int_ℕ}
 use Rattle.settings.specs.Tells.{Tells}
-use Rattle.settings.proofs.Answers.{retell, tells_leb}
+use Rattle.settings.proofs.Answers.{retell}
 use Rattle.cost_words.proofs.Summing.{way}
 use Rattle.cost_nodes.proofs.Reading.{pos_from, holds_passed}
 use Rattle.cost_notes.specs.Operand.{Operand}
@@ -87,9 +84,6 @@ module _ (ns : List ℕ) (ps : Pos ns) (f : Cost) where
 
 -- ---- products
 -- one of `rise` and `fall` is 0
-far_fit : (B : ℕ) (z : ℤ) → rise z + fall z ≤ B → Fit B z
-far_fit B z h = record { top = omega arith; bottom = omega arith }
-
 fit_far : (B : ℕ) (z : ℤ) → Fit B z → rise z + fall z ≤ B
 fit_far B (pos n) f = omega (arith, f.top)
 fit_far B (negsuc n) f = omega (arith, f.bottom)
@@ -103,25 +97,6 @@ far_word a = ⊎_elim
 
 pub far_most : (a : ℕ) → Fit cost_most (int a) → a - 2147483648 + (2147483648 - a) ≤ cost_most
 far_most a f = omega (arith, far_word a, fit_far cost_most (int a) f)
-
-far_product : (x y : ℤ) → (rise x + fall x) * (rise y + fall y) ≡ rise (x *ℤ y) + fall (x *ℤ y)
-far_product x y =
-    omega (
-      arith,
-      mul_rise x y,
-      mul_fall x y,
-      add-mul (rise x) (fall x) (rise y + fall y),
-      mul-add (rise x) (rise y) (fall y),
-      mul-add (fall x) (rise y) (fall y),
-    )
-
-pub far_small : (p q : ℕ) → p ≤ cost_most → q ≤ cost_most → p * q ≤ 1000000000000000000
-far_small p q a b = omega (arith, mul-le-mul_right q a, mul-le-mul_left cost_most b)
-
-pub product_tells : (x y : ℤ) (p q : ℕ) → p ≡ rise x + fall x → q ≡ rise y + fall y → Tells (leb (p * q) 1000000000) (Fit cost_most (x *ℤ y))
-product_tells x y p q ep eq =
-    let e : p * q ≡ rise (x *ℤ y) + fall (x *ℤ y) = (λ i. ep i * eq i) ∙ far_product x y in
-    tells_leb (p * q) 1000000000 (λ h. far_fit cost_most (x *ℤ y) (omega arith)) (λ f. omega (arith, fit_far cost_most (x *ℤ y) f))
 
 -- ---- one branch of the table: its ends, from what is kept for its target
 module _ (w : List ℕ) (x a : ℕ) (o : Operand w (branch x a)) (up : Bool) (b : ℕ) (k : int b ≡ kept_at (kept up w) (target x)) where

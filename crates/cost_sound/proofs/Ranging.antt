@@ -2,7 +2,7 @@
 use Rattle.std.specs.Prelude.{Some, None}
 use mathlib.Core.Path.{◌≡◌, sym, ap, subst, ◌∙◌}
 use mathlib.Core.Bool.{Bool, true, false}
-use mathlib.Core.Logic.{◌↔◌, ⊎_elim}
+use mathlib.Core.Logic.{◌↔◌}
 use mathlib.Core.List.{List, ◌∷◌}
 use Prim.Native.Nat.{ℕ, suc, ◌+◌, ◌≤◌, ◌<◌}
 use native.Mathlib.Nat.{le_refl}
@@ -21,16 +21,14 @@ use Rattle.theory.proofs.Lists.{pos_drop}
 use Rattle.theory_costs.specs.Extremes.{along, kept_at, own, Passed}
 use Rattle.theory_costs.proofs.Extremes.{across_ext}
 use Rattle.theory_costs.proofs.Integers.{rise_near, fall_near}
-use Rattle.theory_costs.proofs.Passing.{passed_none, along_fits, place_extreme}
+use Rattle.theory_costs.proofs.Passing.{along_fits, place_extreme}
 use Rattle.theory_costs.proofs.Range.{within_exactly}
 use Rattle.theory_costs.proofs.Words.{int_one, words_sum}
 use Rattle.table_words.specs.Words.{listed}
-use Rattle.table_words.proofs.Tab.{split}
 use Rattle.table_words.proofs.Words.{length_sizes, at_sizes}
-use Rattle.cost_words.specs.Sides.{end_of, Keeps, arm_sum, Bodied, Sides}
+use Rattle.cost_words.specs.Sides.{end_of, Keeps, arm_sum, Sides}
 use Rattle.cost_words.specs.declared.sides.Span.{Span}
 use Rattle.cost_words.proofs.Regular.{regular}
-use Rattle.cost_words.proofs.Packing.{target_one}
 use Rattle.cost_words.proofs.Pairing.{pairs_passed, passed_pairs}
 use Rattle.cost_words.proofs.Summing.{way}
 use Rattle.cost_words.proofs.Reading.{length_nodes, at_nodes, branch_at_lem}
@@ -79,18 +77,6 @@ module _ {w : List ℕ} (s : Shaped w) where
     arm_is : (v : ℕ) → v < m → branch (goes (listed l) v) (added (listed l) v) ≡ get_or (at (nodes w) i).branches v blank
     arm_is v hv = regular.reads (listed l) (body w i) v (omega (arith, size_is)) el ∙ sym (branch_at_lem w i v h (omega arith))
 
-    pub own_bodied : Bodied w l m
-    own_bodied =
-        record {
-          some = omega (arith, size_is);
-          most = size_is.1;
-          near = λ v hv.
-              let e : goes (listed l) v ≡ goes (body w i) v = target_one (goes (listed l) v) (goes (body w i) v)
-              (ap (λ (b : Branch costs). b.to) (regular.reads (listed l) (body w i) v (omega (arith, size_is)) el)) in
-              let y = ((s.nodes_ok.each i h).lower.lower v (omega arith)).below in
-              record { room = omega (arith, s.header.room, s.header.within); most = omega (arith, s.header.most, s.header.within) };
-        }
-
     feature_is : (at (nodes w) i).feature ≡ K
     feature_is = ap (λ (x : Node costs). x.feature) (at_nodes w i h)
 
@@ -132,12 +118,6 @@ module _ {w : List ℕ} (s : Shaped w) where
       own_right ec ed false = ap int (sym ec) ∙ own_is false
 
   -- ---- nodes in turn
-  pub pairs_none : (up : Bool) → Passed (side_of up) (nodes w) 0 (kept up w)
-  pairs_none up = passed_none (side_of up) (nodes w) (kept up w)
-
-  pub pairs_more : (i : ℕ) → Owns w i → ((up : Bool) → Passed (side_of up) (nodes w) i (kept up w)) → (up : Bool) → Passed (side_of up) (nodes w) (i + 1) (kept up w)
-  pairs_more i o q up = record { each = λ j l. ⊎_elim (λ c. (q up).each j c) (λ c. let f : j ≡ i = omega arith in rw f (o up)) (split j i) }
-
   pub pairs_all : (i : ℕ) → i ≡ count w → ((up : Bool) → Passed (side_of up) (nodes w) i (kept up w)) → Pairs w
   pairs_all i e q = passed_pairs w (sizes_pos s.header) wf (rw e at q)
 

@@ -45,6 +45,13 @@ word_target (node i) = refl
 pub target_one : (x y : ℕ) → target x ≡ target y → x ≡ y
 target_one x y e = sym (target_word_lem x) ∙ ap target_word e ∙ target_word_lem y
 
+-- the word of a known target
+pub word_of_end : (x : ℕ) → leaf tt ≡ target x → x ≡ 0
+word_of_end x e = sym (ap target_word e ∙ target_word_lem x)
+
+pub word_of_node : (x i : ℕ) → node i ≡ target x → x ≡ suc i
+word_of_node x i e = sym (ap target_word e ∙ target_word_lem x)
+
 -- ---- the code's targets
 pub word_end : (x : CodeTarget) → x ≡ End → target 0 ≡ target_of x
 word_end x e = target_end 0 refl ∙ sym (ap target_of e)

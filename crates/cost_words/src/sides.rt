@@ -2,8 +2,8 @@
 ghost use Rattle.std.specs.Prelude.{◌<◌};
 ghost use Rattle.cost_words.specs.Sides.{Keeps, Near, Wider, Bodied, ArmSums, Sides};
 
-use crate::ZERO;
 use crate::sums::{further, sum_or_lost};
+use crate::{Target, ZERO, target_at};
 use table_words::{half_of, record_word};
 
 // The words of a lowest and of a highest sum.
@@ -18,16 +18,15 @@ pub fn kept_span(t: &[u32], x: u32) -> Span
     requires { Near t.now x }
     ensures { Keeps t.now x result.low result.high }
 {
-    if x == 0 {
-        return Span {
+    match target_at(x) {
+        Target::End => Span {
             low: ZERO,
             high: ZERO,
-        };
-    }
-    let i = x as usize - 1;
-    Span {
-        low: record_word(t, i, 14),
-        high: record_word(t, i, 15),
+        },
+        Target::Node(i) => Span {
+            low: record_word(t, i as usize, 14),
+            high: record_word(t, i as usize, 15),
+        },
     }
 }
 
