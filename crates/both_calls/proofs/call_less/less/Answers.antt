@@ -2,13 +2,20 @@
 use Rattle.std.proofs.Common.{arith, refl, ap}
 use Rattle.both_calls.proofs.Operands.{below_said}
 use Rattle.both_calls.proofs.Edge.{wrote_rule}
-use Rattle.both_calls.proofs.Entering.{let_in}
+use Rattle.table_calls.proofs.Meeting.{refuses}
+use Rattle.std.proofs.lemmas.Result.{err_from_is_err_and}
+use Rattle.both_calls.proofs.Entering.{turned_away, let_in}
 use Rattle.table_calls.proofs.Drawn.{room_ends}
 use Rattle.promises.specs.RuleDeeds.{looked}
 use Rattle.rule_calls.proofs.Edge.{drawn}
 use Rattle.table_calls.proofs.Theorems.{puts_one}
 use Rattle.theory.specs.Rules.{Rule}
 use Rattle.both_calls.proofs.call_less.less.Goals as goal
+
+pub returns-in_err-door : goal.returns-in_err-door
+returns-in_err-door c =
+    let p = err_from_is_err_and c.from_residual.result c.from_residual.ensures.1 in
+    rw (p.1, p.2) (refuses refl refl (turned_away c.door.ensures c.in_err-door.was))
 
 pub returns : goal.returns
 returns c =
