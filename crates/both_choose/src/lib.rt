@@ -15,7 +15,7 @@ ghost use Rattle.promises.specs.Words.{features, count};
 ghost use Rattle.promises.specs.CostWords.{target, cost_branch as branch, cost_node_list as nodes};
 
 use cost_nodes::Arm;
-use cost_notes::{CHOOSE, arm_in, lowest, make_in, recall_in, remember_in};
+use cost_notes::{Operation, arm_in, lowest, make_in, recall_in, remember_in};
 use cost_words::{ZERO, difference_word, sum_word};
 use rule_lending::{branch_at, is_number, key_of, number_of, top_at};
 use table_notes::{begin, clear, clear_far, clear_window};
@@ -73,12 +73,12 @@ fn rest_result(
         return rest_result(r, t, s, m, b, x, y, d);
     }
     let tag = tag_of(k, b);
-    if let Some((to, adds)) = recall_in(t, s, CHOOSE, tag, x, y, d) {
+    if let Some((to, adds)) = recall_in(t, s, Operation::Choose, tag, x, y, d) {
         return Some(Arm { to, adds });
     }
     let arms = fill_branches(r, t, s, k, b, x, y, d)?;
     let a = make_in(t, k, &arms)?;
-    remember_in(t, s, CHOOSE, tag, x, y, d, a.to, a.adds);
+    remember_in(t, s, Operation::Choose, tag, x, y, d, a.to, a.adds);
     Some(a)
 }
 

@@ -12,7 +12,7 @@ ghost use Rattle.promises.specs.Words.{features};
 ghost use Rattle.promises.specs.CostWords.{cost_branch as branch, cost_node_list as nodes};
 
 use cost_nodes::{Arm, arm_at, top_of};
-use cost_notes::LESS;
+use cost_notes::Operation;
 use cost_words::{ZERO, difference_word, sum_word};
 use rule_lending::{branch_of, make};
 use table_memory::{recall, remember};
@@ -41,12 +41,12 @@ fn rest_result(
         return rest_result(c, t, s, k + 1, x, y, d);
     }
     let key = [(k + 1) as u32, x, y, d];
-    if let Some((z, _)) = recall(s, LESS, &key) {
+    if let Some((z, _)) = recall(s, Operation::Less as u32, &key) {
         return Some(z);
     }
     let list = fill_branches(c, t, s, k, x, y, d)?;
     let z = make(t, k, list)?;
-    remember(s, LESS, &key, z, 0);
+    remember(s, Operation::Less as u32, &key, z, 0);
     Some(z)
 }
 
