@@ -12,8 +12,8 @@ ghost use Rattle.promises.specs.Sound.{Sizes, Header, Same, Alone, Linked, Chain
 
 pub use following::{lower, order_ok, roots_ok};
 use table_words::{
-    CHAINS, NODES, RECORDS, bucket_word, capacity_word, count_word, features_word, hash_at,
-    head_word, narrow, record_word, size_word, wide,
+    CHAINS, NODES, RECORDS, capacity_word, count_word, features_word, hash_at, head_word,
+    record_word,
 };
 
 // Whether the words from a to b are 0: they are exactly if no bit is set in any. No early exit, so that the loop can be vectorised.

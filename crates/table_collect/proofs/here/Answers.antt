@@ -10,10 +10,6 @@ use Rattle.table_collect.proofs.here.Goals as goal
 pub returns-then-b-low : goal.returns-then-b-low
 returns-then-b-low c = here_low c.requires.2 c.if-b-low.true c.requires.1
 
-pub record_word-c-requires : goal.record_word-c-requires
-record_word-c-requires c =
-    let f = c.requires.0.walkable in (omega (arith, c.requires.1, f.room, f.within), omega (arith, c.requires.1, f.within, f.most), omega arith)
-
 pub overflow_add-result : goal.overflow_add-result
 overflow_add-result c =
     let i : ℕ = c.args.b - c.args.first in

@@ -1,5 +1,5 @@
 -- `table_collect::tidy` meets its contract: unlinked, only the nodes that stay are marked; the roots from p to q are copied and set, no more copies than nodes come back. Assumes nothing.
-use Rattle.std.proofs.Common.{arith, ◌≡◌}
+use Rattle.std.proofs.Common.{arith}
 use Rattle.table_collect.specs.Walk.{rootless, rooted}
 use Rattle.table_collect.proofs.Keeping.{lawful_linked, unlinked_at, unlinked_open, unlinked_rooted, full_open, keeps, root_next, swept_bare}
 use native.Mathlib.Numerals.{add-one}
@@ -35,10 +35,3 @@ pub relink-requires : goal.relink-requires
 relink-requires c =
     swept_bare c.requires
     (unlinked_at c.kept_by-a.ensures c.unlink.ensures) c.loop-q.invariant.3 c.bring_back.ensures c.kept_by-a.ensures
-
-pub returns : goal.returns
-returns c =
-    let l = c.loop-q in
-    let e : l.q ≡ c.args.n = omega (arith, c.requires.place) in
-    let x = unlinked_at c.kept_by-a.ensures c.unlink.ensures in
-    record { bare = _; spread = _; back = _; unlinks = x; copies = rw e at l.invariant.3; brings = c.bring_back.ensures; links = c.relink.ensures }

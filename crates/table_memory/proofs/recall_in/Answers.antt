@@ -1,12 +1,9 @@
 -- `table_memory::recall_in` meets its contract: the window is the part that is lent, or the scratch remembers. Assumes nothing.
-use Rattle.std.proofs.Common.{arith, ℕ, ◌+◌, ◌*◌, ◌-◌, ◌≡◌, sym, ap}
-use Rattle.table_memory.proofs.Remembering.{recalls_far, recalls_scratch}
+use Rattle.std.proofs.Common.{arith, ℕ, ◌+◌, ◌*◌, ◌-◌, ◌≡◌, ap}
+use Rattle.table_memory.proofs.Remembering.{recalls_far}
 use mathlib.Core.Path.{◌∙◌}
 use Rattle.promises.specs.Words.{capacity}
 use Rattle.table_memory.proofs.recall_in.Goals as goal
-
-pub returns-then-m-eq0 : goal.returns-then-m-eq0
-returns-then-m-eq0 c = recalls_scratch c.args.t.now c.args.s.now _ c.recall.result (sym c.window_word-m.ensures ∙ c.if-m-eq0.true) c.recall.ensures
 
 pub returns : goal.returns
 returns c =

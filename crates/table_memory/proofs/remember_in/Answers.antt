@@ -1,14 +1,9 @@
 -- `table_memory::remember_in` meets its contract: one result more in the window, lent as a part, or in the scratch. Assumes nothing.
-use Rattle.std.proofs.Common.{arith, ℕ, ◌+◌, ◌*◌, ◌-◌, ◌≡◌, refl, sym, ap}
-use Rattle.table_memory.proofs.Remembering.{stored_far, stored_scratch}
+use Rattle.std.proofs.Common.{arith, ℕ, ◌+◌, ◌*◌, ◌-◌, ◌≡◌, ap}
+use Rattle.table_memory.proofs.Remembering.{stored_far}
 use mathlib.Core.Path.{◌∙◌}
 use Rattle.promises.specs.Words.{capacity}
 use Rattle.table_memory.proofs.remember_in.Goals as goal
-
-pub returns-then-m-eq0 : goal.returns-then-m-eq0
-returns-then-m-eq0 c =
-    let e = sym c.window_word-m.ensures ∙ c.if-m-eq0.true in
-    (refl, stored_scratch c.args.t.now c.args.s.now c.remember.new.s _ _ _ e c.remember.ensures, c.requires.0)
 
 pub returns : goal.returns
 returns c =

