@@ -16,7 +16,7 @@ ghost use Rattle.promises.specs.CostWords.{target, cost_branch as branch, cost_n
 
 use cost_nodes::{Arm, arm_at, make, top_of};
 use cost_words::{Span, kept_span};
-pub use operators::{CHOOSE, LESS, LOWEST, Operation};
+pub use operators::Operation;
 
 // The lowest feature that one of two targets tests.
 pub fn lowest(t: &[u32], x: u32, y: u32) -> usize

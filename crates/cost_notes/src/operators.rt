@@ -10,10 +10,3 @@ pub enum Operation {
     Less = 7,
     Lowest = 8,
 }
-
-// Those of the walks over a cost and a rule table.
-pub const CHOOSE: Operation = Operation::Choose;
-
-pub const LESS: u32 = Operation::Less as u32;
-
-pub const LOWEST: u32 = Operation::Lowest as u32;
