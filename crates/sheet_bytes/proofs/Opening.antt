@@ -1,18 +1,14 @@
 -- What the code reads of a rule sheet: the sections before the nodes, the nodes where the array places them, the roots that end the bytes. Assumes nothing.
 use mathlib.Core.Path.{◌≡◌, sym, ap, subst, ◌∙◌}
 use mathlib.Core.List.{List}
-use mathlib.Core.Bool.{Bool, false}
 use Prim.Native.Nat.{ℕ, ◌+◌, ◌*◌, ◌-◌, ◌≤◌, ◌<◌}
 use native.Mathlib.Omega.{arith}
 use lib.ListN.{length, get_or, take, drop}
-use lib.Dec.{eqb}
 use Rattle.theory.specs.Settings.{FeatureList}
-use Rattle.settings.specs.Tells.{Tells}
-use Rattle.settings.proofs.Answers.{retell, tells_eqb}
 use Rattle.sheet_bytes.specs.Frame as F
 use Rattle.sheet_bytes.specs.Frame.{Opens, Lays, root_spot}
 use Rattle.sheet_bytes.specs.RuleFrame.{rule_frame}
-use Rattle.sheet_bytes.specs.Bytes.{Holds, Placed, Spans, Laying}
+use Rattle.sheet_bytes.specs.Bytes.{Placed}
 use Rattle.sheet_bytes.proofs.Framing as G
 use Rattle.sheet_bytes.proofs.Places.{part_sizes, place_next, place_le}
 use Rattle.promises.specs.Sheet.{byte, pair, triple as word, sheet_features as features, sheet_size as size, sheet_sizes as sizes_of, sheet_count as count, node_place as place}
@@ -33,11 +29,14 @@ module _ {s : List ℕ} (o : Opens rule_frame s) where
   open_at = G.sizes_at o
 
 -- the last test of the first two sections
-pub open_tells : (s : List ℕ) (t : Bool) (n : ℕ) → n ≡ features s → pair s 0 ≡ 1 → 7 + n ≤ length s → Tells t (FeatureList (take (5 + n - 5) (drop 5 s))) → Tells t (Opens rule_frame s)
-unfolding F.sizes_of sizes_of
-open_tells s t n e z l =
-    let p = part_sizes s n e in
-    retell t (λ f. record { start = z; long = omega arith; list = subst FeatureList p f }) (λ o. subst FeatureList (sym p) o.list)
+module _ (s : List ℕ) (n : ℕ) (e : n ≡ features s) where
+  pub open_part : Opens rule_frame s → FeatureList (take (5 + n - 5) (drop 5 s))
+  unfolding F.sizes_of sizes_of
+  open_part o = subst FeatureList (sym (part_sizes s n e)) o.list
+
+  pub opened : pair s 0 ≡ 1 → 7 + n ≤ length s → FeatureList (take (5 + n - 5) (drop 5 s)) → Opens rule_frame s
+  unfolding F.sizes_of sizes_of
+  opened z l f = record { start = z; long = omega arith; list = subst FeatureList (part_sizes s n e) f }
 
 -- ---- the nodes
 -- node i ends before the count of the roots does
@@ -64,29 +63,3 @@ module _ {s at : List ℕ} (d : Placed s at) {i : ℕ} (h : i < count s) where
 module _ {s : List ℕ} {n : ℕ} (l : Lays rule_frame s n 0) where
   pub root_inside : (r : ℕ) → r < n → end s + 2 + 3 * r + 3 ≤ length s
   root_inside r h = omega (arith, l.tops, l.ends)
-
-  pub roots_begin : length s - 3 * n ≡ end s + 2
-  roots_begin = omega (arith, l.tops, l.ends)
-
-  pub roots_long : 3 * n ≤ length s
-  roots_long = omega (arith, l.tops, l.ends)
-
-  pub root_known : (p r x : ℕ) → p ≡ length s - 3 * n + 3 * r → x ≡ word s p → x ≡ word s (root_spot rule_frame s r)
-  root_known p r x e q = q ∙ ap (word s) (e ∙ ap (λ (y : ℕ). y + 3 * r) roots_begin)
-
--- ---- what `lay` answers
-pub laying_lost : {s at : List ℕ} {n : ℕ} → (Spans s n → ⊥) → Laying s at n false
-laying_lost x = record { tells = x; places = λ q. let z : ◌≡◌ {A = ℕ} 0 1 = cc in absurd (omega arith) }
-
--- all nodes are passed, and the roots end the bytes if there are so many
-pub laying_tells : {s at : List ℕ} {n : ℕ} (p k : ℕ) → p ≡ end s → count s ≤ 4096 → ((i : ℕ) → i < count s → feature s i < features s) →
-    length s ≡ p + 2 + 3 * n → k ≡ pair s p → Holds s at (count s) → Laying s at n (eqb k n)
-laying_tells {s} {at} {n} p k e r f l q h =
-    let c : k ≡ pair s (end s) = q ∙ ap (pair s) e in
-    record {
-      tells = tells_eqb k n (λ o. record { room = r; lays = record { known = f; tops = sym c ∙ o; ends = omega arith } }) (λ x. c ∙ x.lays.tops);
-      places = λ x. h;
-    }
-
-pub spans_placed : {s at : List ℕ} {n : ℕ} → Opens rule_frame s → Spans s n → Holds s at (count s) → Placed s at
-spans_placed o x h = record { opens = o; room = x.room; known = x.lays.known; inside = omega (arith, x.lays.ends); places = h }

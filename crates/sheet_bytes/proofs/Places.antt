@@ -1,5 +1,5 @@
 -- Where things stand in a rule sheet's bytes: the sizes, the nodes one after the other, the array of their places. Assumes nothing.
-use mathlib.Core.Path.{◌≡◌, refl, ap, ◌∙◌}
+use mathlib.Core.Path.{◌≡◌, refl, ap}
 use mathlib.Core.List.{List}
 use Prim.Native.Nat.{ℕ, zero, suc, ◌+◌, ◌*◌, ◌-◌, ◌≤◌, ◌<◌}
 use native.Mathlib.Numerals.{add-one}
@@ -17,8 +17,8 @@ use Rattle.sheet_bytes.specs.Frame.{Opens}
 use Rattle.sheet_bytes.specs.RuleFrame.{rule_frame}
 use Rattle.sheet_bytes.proofs.Framing as G
 use Rattle.sheet_bytes.proofs.RuleHand.{rule_regular}
-use Rattle.promises.specs.Sheet.{pair, sheet_features as features, sheet_sizes as sizes_of, sheet_count as count, node_place as place, sheet_feature as feature, sheet_width as width}
-use Rattle.promises.specs.Sheet.{nodes_end as end, Begins as Head}
+use Rattle.promises.specs.Sheet.{pair, sheet_features as features, sheet_sizes as sizes_of, node_place as place, sheet_feature as feature, sheet_width as width}
+use Rattle.promises.specs.Sheet.{Begins as Head}
 
 -- ---- the feature list
 pub opens : {s : List ℕ} → Head s → Opens rule_frame s
@@ -61,7 +61,3 @@ holds_none s at = record { holds = λ i h. absurd (omega arith) }
 
 pub holds_more : {s at : List ℕ} {i p : ℕ} → i < length at → p ≡ place s i → Holds s at i → Holds s (set at i p) (i + 1)
 holds_more {s} {at} {i} {p} l e h = record { holds = put_more 0 (λ j x. x ≡ place s j) at i p l h.holds e }
-
--- all nodes are passed
-pub all_passed : (s : List ℕ) {m i p : ℕ} → m ≡ count s → i ≤ m → m ≤ i → p ≡ place s i → p ≡ end s
-all_passed s {m} {i} e l h q = q ∙ ap (place s) (let x : i ≡ count s = omega arith in x)

@@ -1,6 +1,5 @@
 -- Contract between layers: where the nodes of a rule sheet begin, in an array; how many roots follow them. Assumes nothing.
-use Rattle.std.specs.Prelude.{◌≡◌, List, Bool, true, ℕ, ◌+◌, ◌≤◌, ◌<◌, length, get_or}
-use Rattle.settings.specs.Tells.{Tells}
+use Rattle.std.specs.Prelude.{◌≡◌, List, ℕ, ◌+◌, ◌≤◌, ◌<◌, length, get_or}
 use Rattle.promises.specs.Sheet.{sheet_count as count, node_place as place, sheet_feature as feature, sheet_features as features, nodes_end as end}
 use Rattle.sheet_bytes.specs.Frame as F
 use Rattle.sheet_bytes.specs.RuleFrame.{rule_frame}
@@ -22,8 +21,3 @@ pub record Placed (s at : List ℕ) : Type 0 where
 pub record Spans (s : List ℕ) (n : ℕ) : Type 0 where
   pub room : count s ≤ 4096
   pub lays : F.Lays rule_frame s n 0
-
--- the answer of `lay`: whether nodes and roots lie so, and then the places of the nodes
-pub record Laying (s at : List ℕ) (n : ℕ) (r : Bool) : Type 0 where
-  pub tells : Tells r (Spans s n)
-  pub places : r ≡ true → Holds s at (count s)

@@ -1,162 +1,105 @@
-// The sections, where each node begins, and what stands there.
-ghost use Rattle.std.specs.Prelude.{◌≡◌, ◌≤◌, ◌<◌, length};
-ghost use Rattle.settings.specs.Tells.{Tells};
-ghost use Rattle.sheet_bytes.specs.Frame.{Opens, Lays, root_spot};
+// Where each node begins, and what stands there.
+ghost use Rattle.std.specs.Prelude.{◌≡◌, ◌≤◌, ◌<◌, MatchOption};
+ghost use Rattle.std.proofs.Props.{props};
+ghost use Rattle.sheet_bytes.specs.Frame.{Lays, root_spot};
 ghost use Rattle.sheet_bytes.specs.RuleFrame.{rule_frame};
-ghost use Rattle.sheet_bytes.specs.Bytes.{Placed, Laying};
-ghost use Rattle.promises.specs.Sheet.{byte, triple as word, NewerSheet, sheet_features as features, sheet_size as size, sheet_count as count};
+ghost use Rattle.sheet_bytes.specs.Bytes.{Placed, Spans};
+ghost use Rattle.promises.specs.Sheet.{triple as word, sheet_count as count};
 ghost use Rattle.promises.specs.Sheet.{sheet_feature as feature, sheet_width as width, sheet_branch as branch};
 
-use crate::bytes::{index, narrow, pair_at, wide};
+use crate::bytes::pair_at;
+use crate::front::{BEFORE, COUNT, Head};
 use crate::hand::{BRANCH, spot, word_at};
-use settings::features_ok;
 
-// The first section has one byte, the edition.
-const FIRST: usize = 1;
-
-// A section begins with the count of its items, of two bytes.
-const COUNT: usize = 2;
-
-// Where the second section begins, that of the features.
-const SECOND: usize = COUNT + FIRST;
-
-// Where the sizes begin.
-pub const SIZES: usize = SECOND + COUNT;
-
-// What stands before the nodes, besides the sizes.
-const BEFORE: usize = SIZES + COUNT;
-
-// Whether a later edition wrote the sheet.
-pub fn newer(s: &[u8]) -> bool
-    ensures { Tells result (NewerSheet s.now) }
-{
-    if s.len() < SECOND {
-        return false;
-    }
-    if s[0] != 0 {
-        return false;
-    }
-    if s[1] != 1 {
-        return false;
-    }
-    if s[2] < 2 {
-        return false;
-    }
-    true
+// Bytes in which nodes lie one after the other up to the roots, which end them; and where each node begins.
+#[derive(Clone, Copy)]
+pub struct Laid<'a> {
+    pub bytes: &'a [u8],
+    pub places: &'a [u32; 4096],
+    pub roots: usize,
+    pub ghost placed: { Placed bytes.now places.now } by { Prim.hlevel props },
+    pub ghost lays: { Lays rule_frame bytes.now roots 0 } by { Prim.hlevel props },
+    pub ghost few: { roots ≤ 32 },
 }
 
-// Whether the sections before the nodes are good, whatever the edition.
-pub fn head_ok(s: &[u8]) -> bool
-    ensures { Tells result (Opens rule_frame s.now) }
-{
-    if s.len() < BEFORE {
-        return false;
+impl<'a> Laid<'a> {
+    // The sections before the nodes.
+    pub fn head(self) -> Head<'a>
+        ensures { result.bytes.now ≡ self.entry.bytes.now }
+    {
+        Head { bytes: self.bytes }
     }
-    if pair_at(s, 0) != FIRST {
-        return false;
+
+    // How many nodes the sheet has.
+    pub fn count(self) -> usize
+        ensures { (result ≡ count self.entry.bytes.now) × (result ≤ 4096) }
+    {
+        self.head().count()
     }
-    let n = pair_at(s, SECOND);
-    if s.len() < BEFORE + n {
-        return false;
+
+    // The branch word of root r.
+    pub fn root(self, r: usize) -> usize
+        requires { r < self.roots }
+        ensures { (result ≡ word self.entry.bytes.now (root_spot rule_frame self.entry.bytes.now r)) × (result < 16777216) }
+    {
+        word_at(self.bytes, spot(self.bytes.len() - BRANCH * self.roots, r))
     }
-    let from: usize = SIZES;
-    let to = SIZES + n;
-    features_ok(&s[from..to])
-}
 
-// Whether the edition is 1.
-pub fn first_edition(s: &[u8]) -> bool
-    requires { Opens rule_frame s.now }
-    ensures { Tells result (byte s.now 2 ≡ 1) }
-{
-    if s[2] != 1 {
-        return false;
+    // The feature of node i.
+    pub fn feature(self, i: usize) -> usize
+        requires { i < count self.bytes.now }
+        ensures { (result ≡ feature self.entry.bytes.now i) × (result < 16) }
+    {
+        usize::from(self.bytes[self.places[i] as usize])
     }
-    true
+
+    // How many branches node i has.
+    pub fn width(self, i: usize) -> usize
+        requires { i < count self.bytes.now }
+        ensures { (result ≡ width self.entry.bytes.now i) × (2 ≤ result) × (result ≤ 8) }
+    {
+        self.head().size(self.feature(i))
+    }
+
+    // The word of branch v of node i.
+    pub fn branch(self, i: usize, v: usize) -> usize
+        requires { (i < count self.bytes.now) × (v < width self.bytes.now i) }
+        ensures { (result ≡ branch self.entry.bytes.now i v) × (result < 16777216) }
+    {
+        word_at(self.bytes, spot(self.places[i] as usize + 1, v))
+    }
 }
 
-// How many features the sheet has.
-pub fn features_of(s: &[u8]) -> usize
-    requires { Opens rule_frame s.now }
-    ensures { (result ≡ features s.now) × (1 ≤ result) × (result ≤ 16) }
+// The bytes and the places of their nodes, where the nodes lie one after the other up to so many roots, which end the bytes.
+pub fn lay<'a>(head: Head<'a>, places: &'a mut [u32; 4096], roots: usize) -> Option<Laid<'a>>
+    requires { roots ≤ 32 }
+    ensures { MatchOption result (Spans head.entry.bytes.now roots → ⊥)
+        (λ laid. (laid.bytes.now ≡ head.entry.bytes.now) × (laid.roots ≡ roots)) }
 {
-    pair_at(s, SECOND)
-}
-
-// The size of feature k.
-pub fn size_at(s: &[u8], k: usize) -> usize
-    requires { (Opens rule_frame s.now) × (k < features s.now) }
-    ensures { (result ≡ size s.now k) × (2 ≤ result) × (result ≤ 8) }
-{
-    wide(s[SIZES + k])
-}
-
-// How many nodes the sheet has.
-pub fn count_of(s: &[u8]) -> usize
-    requires { Opens rule_frame s.now }
-    ensures { (result ≡ count s.now) × (result < 65536) }
-{
-    pair_at(s, SIZES + features_of(s))
-}
-
-// Whether the nodes lie one after the other up to so many roots, which end the sheet; then their places are noted.
-pub fn lay(s: &[u8], at: &mut [u32; 4096], roots: usize) -> bool
-    requires { (Opens rule_frame s.now) × (length at.old ≡ 4096) × (roots ≤ 32) }
-    ensures { Laying s.now at.new roots result }
-{
-    let n = features_of(s);
-    let m = count_of(s);
-    if 4096 < m {
-        return false;
+    let s = head.bytes;
+    let n = head.features();
+    let m = head.count();
+    if places.len() < m {
+        return None;
     }
     let mut p = BEFORE + n;
-    let mut i: usize = 0;
-    while i < m {
+    for i in 0..m {
         if s.len() <= p {
-            return false;
+            return None;
         }
-        let f = wide(s[p]);
+        let f = usize::from(s[p]);
         if n <= f {
-            return false;
+            return None;
         }
-        at[i] = narrow(p);
-        p = spot(p + 1, size_at(s, f));
-        i += 1;
+        places[i] = p as u32;
+        p = spot(p + 1, head.size(f));
     }
-    if s.len() != spot(p + COUNT, roots) {
-        return false;
+    if s.len() != spot(p + COUNT, roots) || pair_at(s, p) != roots {
+        return None;
     }
-    pair_at(s, p) == roots
-}
-
-// The branch word of root r, where so many roots end the sheet.
-pub fn root_at(s: &[u8], roots: usize, r: usize) -> usize
-    requires { (Lays rule_frame s.now roots 0) × (r < roots) × (roots ≤ 32) }
-    ensures { (result ≡ word s.now (root_spot rule_frame s.now r)) × (result < 16777216) }
-{
-    word_at(s, spot(s.len() - BRANCH * roots, r))
-}
-
-// The feature of node i.
-pub fn feature_at(s: &[u8], at: &[u32; 4096], i: usize) -> usize
-    requires { (Placed s.now at.now) × (i < count s.now) }
-    ensures { (result ≡ feature s.now i) × (result < 16) }
-{
-    wide(s[index(at[i])])
-}
-
-// How many branches node i has.
-pub fn width_at(s: &[u8], at: &[u32; 4096], i: usize) -> usize
-    requires { (Placed s.now at.now) × (i < count s.now) }
-    ensures { (result ≡ width s.now i) × (2 ≤ result) × (result ≤ 8) }
-{
-    size_at(s, feature_at(s, at, i))
-}
-
-// The word of branch v of node i.
-pub fn branch_at(s: &[u8], at: &[u32; 4096], i: usize, v: usize) -> usize
-    requires { (Placed s.now at.now) × (i < count s.now) × (v < width s.now i) }
-    ensures { (result ≡ branch s.now i v) × (result < 16777216) }
-{
-    word_at(s, spot(index(at[i]) + 1, v))
+    Some(Laid {
+        bytes: s,
+        places,
+        roots,
+    })
 }

@@ -3,13 +3,11 @@
 
 mod bytes; // bytes.rt: numbers in bytes
 mod hand; // hand.rt: a branch in bytes
-mod laying; // laying.rt: the sections, and where each node begins
+mod front; // front.rt: the sections before the nodes
+mod laying; // laying.rt: where each node begins
 
-pub use bytes::{index, narrow, wide};
-pub use laying::{
-    SIZES, branch_at, count_of, feature_at, features_of, first_edition, head_ok, lay, newer,
-    root_at, size_at, width_at,
-};
+pub use front::{Head, newer};
+pub use laying::{Laid, lay};
 
 // Phrase numbers are below this; as a branch of a sheet, NUMBERS + i is node i.
 pub const NUMBERS: usize = 65536;
