@@ -5,20 +5,12 @@ ghost use Rattle.sheet_bytes.specs.Sheet.{branch_bytes};
 ghost use Rattle.sheet_laying.specs.Laid.{Puts};
 ghost use Rattle.promises.specs.RuleWords.{decode};
 
-// A small number as a byte.
-fn byte(x: u32) -> u8
-    requires { x < 256 }
-    ensures { result ≡ x }
-{
-    x as u8
-}
-
 // Writes a number below 256 at p.
 pub fn put_byte(out: &mut [u8], p: usize, x: u32) -> usize
     requires { (p < length out.old) × (x < 256) }
     ensures { Puts (x ∷ []) out.old out.new p result }
 {
-    out[p] = byte(x);
+    out[p] = x as u8;
     p + 1
 }
 
