@@ -9,13 +9,13 @@ use Rattle.theory.specs.Walk.{scan, scans}
 use Rattle.theory.specs.Rules.{Branch}
 use Rattle.theory.proofs.Scanning.{scans_one}
 use Rattle.sheet_bytes.specs.Frame as F
-use Rattle.sheet_bytes.specs.Frame.{Lawful, Canonical, heads, root, roots_of}
+use Rattle.sheet_bytes.specs.Frame.{Lays, Lawful, Canonical, heads, root, roots_of}
 use Rattle.sheet_bytes.specs.RuleFrame.{rule_frame}
-use Rattle.sheet_bytes.specs.Bytes.{Spans}
+use Rattle.sheet_bytes.specs.Bytes.{Placed, Spans}
 use Rattle.sheet_bytes.proofs.Sections.{Bytes}
 use Rattle.sheet_bytes.proofs.Forms.{lawful_tidy}
 use Rattle.sheet_bytes.proofs.Places.{opens}
-use Rattle.sheet_check.specs.Diagram.{Downward}
+use Rattle.sheet_check.specs.Diagram.{Downward, Rooted}
 use Rattle.sheet_check.proofs.Wording.{words_lawful, lawful_downward, lawful_rooted, words_canonical, canonical_reduced, canonical_turn, one_word}
 use Rattle.promises.specs.Sheet.{byte, pair, triple as word, row, sheet_sizes as sizes_of, sheet_count as count, nodes_end as end, sheet_root as top}
 use Rattle.promises.specs.Sheet.{Begins as Head, Lies as Lie, SheetSits as Below, sheet_node as node_of, sheet_nodes as nodes_of, InOrder, GoodSheet as Good}
@@ -87,3 +87,8 @@ module _ {s : List ℕ} (B : Bytes s) (L : Lawful rule_frame s 1 0) (C : Canonic
         top = subst (Below s (count s) 0) (one_word s) ((lawful_rooted L).rooted 0 (omega arith));
         order = sym (order_one s L.lays.tops) ∙ (canonical_turn C).turn;
       }
+
+-- laid bytes of one root, of both forms and of edition 1 are good
+pub good_found : {s at : List ℕ} {n : ℕ} → Placed s at → Lays rule_frame s n 0 → n ≡ 1 → Downward s → Rooted s n → Bytes s → byte s 2 ≡ 1 → Canonical rule_frame s → Good s
+good_found {s} d l e w r B i C =
+    form_good B (subst (λ (n : ℕ). Lawful rule_frame s n 0) e (words_lawful d.opens l w r)) C i d.room

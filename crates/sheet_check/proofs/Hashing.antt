@@ -8,7 +8,7 @@ use native.Mathlib.Omega.{arith}
 use lib.ListN.{length, get_or, set, replicate}
 use lib.Seq.{get_or-set_same, get_or-set_other}
 use Rattle.sheet_check.specs.Chains.{hash_to, hash, Chain, Chained}
-use Rattle.promises.specs.Sheet.{sheet_size as size, sheet_feature as feature, sheet_width as width, sheet_branch as branch, SheetSame as Same, SheetAlone as New}
+use Rattle.promises.specs.Sheet.{sheet_size as size, sheet_feature as feature, sheet_width as width, sheet_branch as branch, SheetSame as Same}
 
 pub hash_zero : (s : List ℕ) (i : ℕ) → hash_to s i 0 ≡ feature s i
 unfolding hash_to
@@ -59,10 +59,6 @@ search_next {s} {heads} {links} {i} ch c d p q miss ed =
 -- the chain falls
 pub search_less : {s heads links : List ℕ} {i : ℕ} → Chained s heads links i → (c d : ℕ) → 0 < c → Searched s i c → d ≡ get_or links (c - 1) 0 → d < c
 search_less ch c d p q e = omega (arith, (ch.chain (c - 1) (omega (arith, q.inside))).within)
-
--- at the chain's end
-pub search_end : {s : List ℕ} {i c : ℕ} → c ≤ 0 → Searched s i c → New s i
-search_end h q = record { new = λ j l. q.none j (omega arith) l }
 
 -- ---- one more node chained
 zeros_of : (n h : ℕ) → ◌≡◌ {A = ℕ} (get_or (replicate n 0) h 0) 0

@@ -6,3 +6,4 @@ pub mod Goods
 pub mod Reading
 pub mod Writing
 pub mod Answering
+pub mod All

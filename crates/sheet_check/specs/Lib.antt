@@ -1,3 +1,3 @@
 pub mod Chains
 pub mod Diagram
-pub mod Checked
+pub mod Good

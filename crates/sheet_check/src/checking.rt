@@ -1,50 +1,49 @@
 // Canonical form, and the whole check of a sheet.
-ghost use Rattle.std.specs.Prelude.{◌≡◌, ◌≤◌, length};
+ghost use Rattle.std.specs.Prelude.{◌≡◌, MatchOption, IfOk};
 ghost use Rattle.settings.specs.Tells.{Tells};
-ghost use Rattle.sheet_bytes.specs.Frame.{Lawful, Canonical};
+ghost use Rattle.settings.specs.Refusals.{Ends, ending_of, taken};
+ghost use Rattle.sheet_bytes.specs.Frame.{Canonical};
 ghost use Rattle.sheet_bytes.specs.RuleFrame.{rule_frame};
-ghost use Rattle.sheet_bytes.specs.Bytes.{Placed};
-ghost use Rattle.sheet_check.specs.Checked.{Checks};
+ghost use Rattle.promises.specs.Sheet.{GoodSheet};
+ghost use Rattle.promises.specs.SheetDeeds.{sheet_cases};
 
-use crate::nodes::lawful;
+use crate::checked::Sheet;
+use crate::nodes::Lawful;
 use crate::order::in_order;
 use crate::twins::reduced;
-use settings::{Outcome, Refusal};
-use sheet_bytes::{ROOTS, first_edition, head_ok, lay, newer};
+use settings::Refusal;
+use sheet_bytes::{Head, ROOTS, lay, newer};
 
 // Whether bytes of lawful form have canonical form: no idle node, no twins, and the nodes in the walk's order.
-fn canonical(s: &[u8], at: &[u32; 4096], roots: usize) -> bool
-    requires { (Placed s.now at.now) × (Lawful rule_frame s.now roots 0) × (roots ≤ 32) }
-    ensures { Tells result (Canonical rule_frame s.now) }
+fn canonical(lawful: Lawful) -> bool
+    ensures { Tells result (Canonical rule_frame lawful.entry.laid.bytes.now) }
 {
-    if !reduced(s, at) {
-        return false;
-    }
-    in_order(s, at, roots)
+    reduced(lawful.laid) && in_order(&lawful)
 }
 
-// Whether the bytes are a sheet, a newer one, or none; the places of a sheet's nodes are noted.
-pub fn check(s: &[u8], at: &mut [u32; 4096]) -> Outcome
-    requires { length at.old ≡ 4096 }
-    ensures { Checks s.now at.new result }
+// The sheet that the bytes are, with the places of its nodes.
+pub fn find_sheet<'a>(bytes: &'a [u8], places: &'a mut [u32; 4096]) -> Option<Sheet<'a>>
+    ensures { MatchOption result (GoodSheet bytes.now → ⊥) (λ sheet. sheet.laid.bytes.now ≡ bytes.now) }
 {
-    if newer(s) {
-        return Outcome::Refused(Refusal::Newer);
+    let head = Head::open(bytes)?;
+    if !head.first_edition() {
+        return None;
     }
-    if !head_ok(s) {
-        return Outcome::Refused(Refusal::BadSheet);
+    let laid = lay(head, places, ROOTS)?;
+    let lawful = Lawful::of(laid)?;
+    if !canonical(lawful) {
+        return None;
     }
-    if !first_edition(s) {
-        return Outcome::Refused(Refusal::BadSheet);
+    Some(Sheet { laid })
+}
+
+// The sheet that the bytes are; or whether they are a newer one, or none.
+pub fn check<'a>(bytes: &'a [u8], places: &'a mut [u32; 4096]) -> Result<Sheet<'a>, Refusal>
+    ensures ends { Ends (sheet_cases bytes.now taken) (ending_of result) }
+    ensures same { IfOk result (λ sheet. sheet.laid.bytes.now ≡ bytes.now) }
+{
+    if newer(bytes) {
+        return Err(Refusal::Newer);
     }
-    if !lay(s, at, ROOTS) {
-        return Outcome::Refused(Refusal::BadSheet);
-    }
-    if !lawful(s, at, ROOTS) {
-        return Outcome::Refused(Refusal::BadSheet);
-    }
-    if !canonical(s, at, ROOTS) {
-        return Outcome::Refused(Refusal::BadSheet);
-    }
-    Outcome::Taken
+    find_sheet(bytes, places).ok_or(Refusal::BadSheet)
 }

@@ -1,80 +1,57 @@
 // Lawful form: each branch of a node, and each root, ends or goes to a node where it may.
-ghost use Rattle.std.specs.Prelude.{◌≤◌, ◌<◌};
+ghost use Rattle.std.specs.Prelude.{◌≡◌, ◌≤◌, ◌<◌, MatchOption};
+ghost use Rattle.std.proofs.Props.{props};
 ghost use Rattle.settings.specs.Tells.{Tells};
-ghost use Rattle.sheet_bytes.specs.Frame.{Lays, Lawful};
+ghost use Rattle.sheet_bytes.specs.Frame as Frame;
 ghost use Rattle.sheet_bytes.specs.RuleFrame.{rule_frame};
-ghost use Rattle.sheet_bytes.specs.Bytes.{Placed};
-ghost use Rattle.sheet_check.specs.Diagram.{Rooted};
+ghost use Rattle.sheet_check.specs.Diagram.{Downward, Rooted};
 ghost use Rattle.promises.specs.Sheet.{sheet_count as count, SheetSits as Below, SheetLower as Lower};
 
-use sheet_bytes::{NUMBERS, branch_at, count_of, feature_at, root_at, width_at};
+use sheet_bytes::{Laid, NUMBERS};
 
-// Branches of a sheet are below this.
-const BRANCHES: usize = 131072;
+// Laid bytes of lawful form.
+#[derive(Clone, Copy)]
+pub struct Lawful<'a> {
+    pub laid: Laid<'a>,
+    pub ghost downward: { Downward laid.bytes.now } by { Prim.hlevel props },
+    pub ghost rooted: { Rooted laid.bytes.now laid.roots } by { Prim.hlevel props },
+}
 
 // Whether w is a phrase, or a node before i of feature k or higher.
-fn below(s: &[u8], at: &[u32; 4096], i: usize, k: usize, w: usize) -> bool
-    requires { (Placed s.now at.now) × (i ≤ count s.now) }
-    ensures { Tells result (Below s.now i k w) }
+fn below(laid: Laid, i: usize, k: usize, w: usize) -> bool
+    requires { i ≤ count laid.bytes.now }
+    ensures { Tells result (Below laid.entry.bytes.now i k w) }
 {
-    if BRANCHES <= w {
-        return false;
-    }
-    if w < NUMBERS {
-        return true;
-    }
-    let j = w - NUMBERS;
-    if i <= j {
-        return false;
-    }
-    k <= feature_at(s, at, j)
+    w < NUMBERS || (w - NUMBERS < i && k <= laid.feature(w - NUMBERS))
 }
 
 // Whether each branch of node i is a phrase or an earlier node of a higher feature.
-fn lower(s: &[u8], at: &[u32; 4096], i: usize) -> bool
-    requires { (Placed s.now at.now) × (i < count s.now) }
-    ensures { Tells result (Lower s.now i) }
+fn lower(laid: Laid, i: usize) -> bool
+    requires { i < count laid.bytes.now }
+    ensures { Tells result (Lower laid.entry.bytes.now i) }
 {
-    let f = feature_at(s, at, i);
-    let z = width_at(s, at, i);
-    let mut v: usize = 0;
-    while v < z {
-        if !below(s, at, i, f + 1, branch_at(s, at, i, v)) {
-            return false;
-        }
-        v += 1;
-    }
-    true
+    let k = laid.feature(i) + 1;
+    (0..laid.width(i)).all(|v| below(laid, i, k, laid.branch(i, v)))
 }
 
 // Whether each root is a phrase or a node.
-fn roots_ok(s: &[u8], at: &[u32; 4096], roots: usize) -> bool
-    requires { (Placed s.now at.now) × (Lays rule_frame s.now roots 0) × (roots ≤ 32) }
-    ensures { Tells result (Rooted s.now roots) }
+fn roots_ok(laid: Laid) -> bool
+    ensures { Tells result (Rooted laid.entry.bytes.now laid.entry.roots) }
 {
-    let m = count_of(s);
-    let mut r: usize = 0;
-    while r < roots {
-        if !below(s, at, m, 0, root_at(s, roots, r)) {
-            return false;
-        }
-        r += 1;
-    }
-    true
+    let m = laid.count();
+    (0..laid.roots).all(|r| below(laid, m, 0, laid.root(r)))
 }
 
-// Whether well-laid bytes have lawful form: each branch and each root goes where it may.
-pub fn lawful(s: &[u8], at: &[u32; 4096], roots: usize) -> bool
-    requires { (Placed s.now at.now) × (Lays rule_frame s.now roots 0) × (roots ≤ 32) }
-    ensures { Tells result (Lawful rule_frame s.now roots 0) }
-{
-    let m = count_of(s);
-    let mut i: usize = 0;
-    while i < m {
-        if !lower(s, at, i) {
-            return false;
+impl<'a> Lawful<'a> {
+    // The laid bytes, where they have lawful form: each branch and each root goes where it may.
+    pub fn of(laid: Laid<'a>) -> Option<Lawful<'a>>
+        ensures { MatchOption result (Frame.Lawful rule_frame laid.entry.bytes.now laid.entry.roots 0 → ⊥)
+            (λ lawful. (lawful.laid.bytes.now ≡ laid.entry.bytes.now) × (lawful.laid.roots ≡ laid.entry.roots)) }
+    {
+        if (0..laid.count()).all(|i| lower(laid, i)) && roots_ok(laid) {
+            Some(Lawful { laid })
+        } else {
+            None
         }
-        i += 1;
     }
-    roots_ok(s, at, roots)
 }

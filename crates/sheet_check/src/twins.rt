@@ -1,107 +1,75 @@
 // No node is idle, and no two are equal: each is searched for among the earlier nodes of its hash. Linear in the bytes, if the hash spreads the nodes.
 ghost use Rattle.std.specs.Prelude.{◌≡◌, ◌<◌};
 ghost use Rattle.settings.specs.Tells.{Tells};
-ghost use Rattle.sheet_bytes.specs.Bytes.{Placed};
 ghost use Rattle.sheet_check.specs.Chains.{hash, Chained};
 ghost use Rattle.sheet_check.specs.Diagram.{Reduced};
 ghost use Rattle.promises.specs.Sheet.{sheet_count as count, SheetAlike as Alike, SheetSame as Same, SheetAlone as New};
 
-use sheet_bytes::{branch_at, count_of, feature_at, index, narrow, width_at};
+use sheet_bytes::Laid;
 
 // Whether the branches of node i are all equal.
-fn alike(s: &[u8], at: &[u32; 4096], i: usize) -> bool
-    requires { (Placed s.now at.now) × (i < count s.now) }
-    ensures { Tells result (Alike s.now i) }
+fn alike(laid: Laid, i: usize) -> bool
+    requires { i < count laid.bytes.now }
+    ensures { Tells result (Alike laid.entry.bytes.now i) }
 {
-    let z = width_at(s, at, i);
-    let first = branch_at(s, at, i, 0);
-    let mut v: usize = 0;
-    while v < z {
-        if branch_at(s, at, i, v) != first {
-            return false;
-        }
-        v += 1;
-    }
-    true
+    let z = laid.width(i);
+    let first = laid.branch(i, 0);
+    (0..z).all(|v| laid.branch(i, v) == first)
 }
 
 // Whether nodes i and j are equal.
-fn same(s: &[u8], at: &[u32; 4096], i: usize, j: usize) -> bool
-    requires { (Placed s.now at.now) × (i < count s.now) × (j < count s.now) }
-    ensures { Tells result (Same s.now i j) }
+fn same(laid: Laid, i: usize, j: usize) -> bool
+    requires { (i < count laid.bytes.now) × (j < count laid.bytes.now) }
+    ensures { Tells result (Same laid.entry.bytes.now i j) }
 {
-    if feature_at(s, at, i) != feature_at(s, at, j) {
-        return false;
-    }
-    let z = width_at(s, at, i);
-    let mut v: usize = 0;
-    while v < z {
-        if branch_at(s, at, i, v) != branch_at(s, at, j, v) {
-            return false;
-        }
-        v += 1;
-    }
-    true
+    laid.feature(i) == laid.feature(j)
+        && (0..laid.width(i)).all(|v| laid.branch(i, v) == laid.branch(j, v))
 }
 
 // The hash of node i.
-fn hash_of(s: &[u8], at: &[u32; 4096], i: usize) -> usize
-    requires { (Placed s.now at.now) × (i < count s.now) }
-    ensures { (result ≡ hash s.now i) × (result < 4096) }
+fn hash_of(laid: Laid, i: usize) -> usize
+    requires { i < count laid.bytes.now }
+    ensures { (result ≡ hash laid.entry.bytes.now i) × (result < 4096) }
 {
-    let z = width_at(s, at, i);
-    let mut h = feature_at(s, at, i);
-    let mut v: usize = 0;
-    while v < z {
-        h = (h * 2654435761 + branch_at(s, at, i, v)) % 4294967296;
-        v += 1;
+    let mut h = laid.feature(i);
+    for v in 0..laid.width(i) {
+        h = (h * 2654435761 + laid.branch(i, v)) % 4294967296;
     }
     h / 1048576
 }
 
 // Whether no earlier node is equal to node i of hash h.
-fn fresh(
-    s: &[u8],
-    at: &[u32; 4096],
-    heads: &[u32; 4096],
-    links: &[u32; 4096],
-    i: usize,
-    h: usize,
-) -> bool
-    requires { (Placed s.now at.now) × (i < count s.now) × (Chained s.now heads.now links.now i) × (h ≡ hash s.now i) × (h < 4096) }
-    ensures { Tells result (New s.now i) }
+fn fresh(laid: Laid, heads: &[u32; 4096], links: &[u32; 4096], i: usize, h: usize) -> bool
+    requires { (i < count laid.bytes.now) × (Chained laid.bytes.now heads.now links.now i) × (h ≡ hash laid.bytes.now i) × (h < 4096) }
+    ensures { Tells result (New laid.entry.bytes.now i) }
 {
-    let mut c = index(heads[h]);
+    let mut c = heads[h] as usize;
     while 0 < c {
         let j = c - 1;
-        if same(s, at, j, i) {
+        if same(laid, j, i) {
             return false;
         }
-        c = index(links[j]);
+        c = links[j] as usize;
     }
     true
 }
 
 // Whether no node is idle and no two are equal, in one pass.
-pub fn reduced(s: &[u8], at: &[u32; 4096]) -> bool
-    requires { Placed s.now at.now }
-    ensures { Tells result (Reduced s.now) }
+pub fn reduced(laid: Laid) -> bool
+    ensures { Tells result (Reduced laid.entry.bytes.now) }
 {
-    let m = count_of(s);
     let mut heads = [0u32; 4096];
     let mut links = [0u32; 4096];
-    let mut i: usize = 0;
-    while i < m {
-        if alike(s, at, i) {
+    for i in 0..laid.count() {
+        if alike(laid, i) {
             return false;
         }
-        let h = hash_of(s, at, i);
-        if !fresh(s, at, &heads, &links, i, h) {
+        let h = hash_of(laid, i);
+        if !fresh(laid, &heads, &links, i, h) {
             return false;
         }
         links[i] = heads[h];
-        heads[h] = narrow(i + 1);
-        i += 1;
+        heads[h] = i as u32 + 1;
     }
     true
 }

@@ -3,7 +3,7 @@ use Rattle.sheet_check.proofs.Hashing.{Searched}
 use Rattle.sheet_check.proofs.twins.fresh.Given as goal
 
 abbrev pub invariant-loop-c : goal.invariant-loop-c
-invariant-loop-c l = Searched l.s l.i l.c
+invariant-loop-c l = Searched l.laid.bytes.now l.i l.c
 
 abbrev pub decreases-loop-c : goal.decreases-loop-c
 decreases-loop-c l = l.c
