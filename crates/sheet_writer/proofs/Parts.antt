@@ -14,6 +14,8 @@ use Rattle.rule_words.specs.Words.{branches}
 use Rattle.sheet_bytes.specs.Sections.{two, section, branches_bytes, node_bytes, nodes_bytes, sheet_byte_list}
 use Rattle.sheet_bytes.specs.Sheet.{branch_bytes, sheet_of}
 use Rattle.sheet_laying.specs.Laid.{Laid, Puts}
+use Rattle.std.specs.Prelude as rattle
+use Rattle.std.specs.Prelude.{Some, None}
 use Rattle.rule_numbering.specs.Numbering.{member, renumbered, node_in, numbered}
 use Rattle.sheet_laying.proofs.Putting.{puts_same}
 use Rattle.sheet_writer.proofs.Joining.{branches_snoc, length_branches, nodes_snoc, length_node}
@@ -130,23 +132,26 @@ module _ (w : List ℕ) (g : Rule) (N : List Node) (b : Branch) (e : build 0 (si
   sheet_long : length (sheet_of (sizes w) g) ≡ 12 + features w + length (nodes_bytes branch_bytes N)
   sheet_long = omega (arith, ap length sheet_is, length-append (front (sizes w)) (back N b), length_front w, length_back N b)
 
-  pub laid_short : {out : List ℕ} → length out < 12 + features w + length (nodes_bytes branch_bytes N) → Laid (sheet_of (sizes w) g) out out 0
+  pub laid_short : {out : List ℕ} → length out < 12 + features w + length (nodes_bytes branch_bytes N) → Laid (sheet_of (sizes w) g) out out None
   laid_short {out} h = record { short = λ l. (refl, refl); fits = λ l. absurd (omega (arith, sheet_long)) }
 
   pub laid_whole : {out out' : List ℕ} {r : ℕ} → 12 + features w + length (nodes_bytes branch_bytes N) ≤ length out → Puts (front (sizes w) ++ back N b) out out' 0 r →
-      Laid (sheet_of (sizes w) g) out out' r
+      Laid (sheet_of (sizes w) g) out out' (Some r)
   laid_whole {out} {out'} {r} h p =
       let q = puts_same (sym sheet_is) p in
       let l : 0 + length (sheet_of (sizes w) g) ≤ length out = omega (arith, sheet_long) in
       record {
         short = λ x. absurd (omega (arith, sheet_long));
         fits = λ x. (
-          omega (arith, q.ends),
+          (let e : r ≡ length (sheet_of (sizes w) g) = omega (arith, q.ends) in ap (λ (n : ℕ). let o : rattle.Option ℕ = Some n in o) e),
           q.bytes ∙ sets-eq (sheet_of (sizes w) g) out 0 l
               ∙ ap (λ (k : ℕ). sheet_of (sizes w) g ++ drop k out) (let z : 0 + length (sheet_of (sizes w) g) ≡ length (sheet_of (sizes w) g) = omega arith in z),
         );
       }
 
--- 0 is answered only where the output is too short: a sheet has bytes
-pub zero_tells : {s out out' : List ℕ} {r : ℕ} → 0 < length s → Laid s out out' r → r ≡ 0 → length out < length s
-zero_tells {s} {out} h l e = ⊎_elim (λ q. q) (λ q. absurd (omega (arith, (l.fits q).0))) (split (length out) (length s))
+-- none is answered only where the output is too short, and a number only where it is not
+pub none_tells : {s out out' : List ℕ} → Laid s out out' None → length out < length s
+none_tells {s} {out} l = ⊎_elim (λ q. q) (λ q. let z : ◌≡◌ {A = ℕ} 0 1 = (let e = (l.fits q).0 in cc) in absurd (omega arith)) (split (length out) (length s))
+
+pub some_tells : {s out out' : List ℕ} {r : ℕ} → Laid s out out' (Some r) → length s ≤ length out
+some_tells {s} {out} l = ⊎_elim (λ q. let z : ◌≡◌ {A = ℕ} 0 1 = (let e = (l.short q).0 in cc) in absurd (omega arith)) (λ q. q) (split (length out) (length s))

@@ -14,8 +14,8 @@ use crate::writing::{put_back, put_front, sheet_length};
 use rule_numbering::number_run;
 use rule_words::root_word;
 
-// Writes the sheet of the place's rule and answers its length; where the output is shorter, writes nothing and answers 0.
-pub fn put_sheet(t: &[u32], place: usize, out: &mut [u8]) -> usize
+// Writes the sheet of the place's rule and answers its length; where the output is shorter, writes nothing.
+pub fn put_sheet(t: &[u32], place: usize, out: &mut [u8]) -> Option<usize>
     requires { (Sound t.now) × (place < 32) }
     ensures { Laid (sheet_of (sizes t.now) (rule_of t.now place)) out.old out.new result }
 {
@@ -23,8 +23,8 @@ pub fn put_sheet(t: &[u32], place: usize, out: &mut [u8]) -> usize
     let c = number_run(t, &mut notes, place, 1);
     let n = sheet_length(t, &notes, c);
     if out.len() < n {
-        return 0;
+        return None;
     }
     let p = put_front(t, out);
-    put_back(t, &notes, c, root_word(t, place), out, p)
+    Some(put_back(t, &notes, c, root_word(t, place), out, p))
 }

@@ -10,18 +10,16 @@ ghost use Rattle.promises.specs.RuleWords.{decode};
 
 use rule_numbering::{node_of, renumber, width};
 use sheet_laying::{put_branch, put_byte, put_two};
-use table_words::{features_word, narrow, record_word, size_word, wide};
+use table_words::{features_word, record_word, size_word};
 
 // How many bytes the sheet has whose c nodes have numbers.
 pub fn sheet_length(t: &[u32], notes: &[u32; 8192], c: usize) -> usize
     requires { (Walkable t.now) × (Noted t.now notes.now c) }
     ensures { result ≡ 12 + features t.now + length (nodes_bytes branch_bytes (numbered t.now notes.now c)) }
 {
-    let mut n = 12 + wide(features_word(t));
-    let mut j: usize = 0;
-    while j < c {
-        n = n + 1 + 3 * width(t, node_of(notes, j));
-        j += 1;
+    let mut n = 12 + features_word(t) as usize;
+    for j in 0..c {
+        n += 1 + 3 * width(t, node_of(notes, j));
     }
     n
 }
@@ -31,12 +29,9 @@ fn put_sizes(t: &[u32], out: &mut [u8], p: usize) -> usize
     requires { (Walkable t.now) × (p + features t.now ≤ length out.old) }
     ensures { Puts (sizes t.now) out.old out.new p result }
 {
-    let n = wide(features_word(t));
     let mut q = p;
-    let mut k: usize = 0;
-    while k < n {
+    for k in 0..features_word(t) as usize {
         q = put_byte(out, q, size_word(t, k));
-        k += 1;
     }
     q
 }
@@ -57,13 +52,10 @@ fn put_node(t: &[u32], notes: &[u32; 8192], c: usize, i: usize, out: &mut [u8], 
     requires { (Walkable t.now) × (Noted t.now notes.now c) × (i < count t.now) × (p + length (node_bytes branch_bytes (node_in t.now notes.now i)) ≤ length out.old) }
     ensures { Puts (node_bytes branch_bytes (node_in t.now notes.now i)) out.old out.new p result }
 {
-    let m = width(t, i);
     let mut q = put_byte(out, p, record_word(t, i, 0));
-    let mut v: usize = 0;
-    while v < m {
+    for v in 0..width(t, i) {
         let x = renumber(notes, record_word(t, i, 1 + v));
         q = put_branch(out, q, x);
-        v += 1;
     }
     q
 }
@@ -74,10 +66,8 @@ fn put_nodes(t: &[u32], notes: &[u32; 8192], c: usize, out: &mut [u8], p: usize)
     ensures { Puts (nodes_bytes branch_bytes (numbered t.now notes.now c)) out.old out.new p result }
 {
     let mut q = p;
-    let mut j: usize = 0;
-    while j < c {
+    for j in 0..c {
         q = put_node(t, notes, c, node_of(notes, j), out, q);
-        j += 1;
     }
     q
 }
@@ -90,7 +80,7 @@ pub fn put_back(t: &[u32], notes: &[u32; 8192], c: usize, b: u32, out: &mut [u8]
         (nodes_bytes branch_bytes (numbered t.now notes.now c)) ++ section 1
         (branches_bytes branch_bytes (decode (renumbered notes.now b) ∷ []))) out.old out.new p result }
 {
-    let q = put_two(out, p, narrow(c));
+    let q = put_two(out, p, c as u32);
     let s = put_nodes(t, notes, c, out, q);
     let e = put_two(out, s, 1);
     put_branch(out, e, renumber(notes, b))

@@ -7,9 +7,6 @@ use Rattle.sheet_writer.proofs.Parts.{begun_none, begun_more, begun_all, length_
 use Rattle.promises.specs.Words.{size, feature}
 use Rattle.sheet_writer.proofs.writing.put_node.Goals as goal
 
-pub record_word-requires : goal.record_word-requires
-record_word-requires c = let s = c.requires.0 in (omega (arith, s.room, c.requires.2), omega (arith, s.most, c.requires.2), omega arith)
-
 pub put_byte-q-requires : goal.put_byte-q-requires
 put_byte-q-requires c =
     let s = c.requires.0 in (
@@ -18,29 +15,24 @@ put_byte-q-requires c =
     )
 
 pub loop-v-init : goal.loop-v-init
-loop-v-init c = (c.width-m.ensures.0, omega arith, puts_same (begun_none c.args.t.now c.args.notes.now c.args.i) (puts_none _ _), refl)
-
-pub record_word-requires-in-loop-v : goal.record_word-requires-in-loop-v
-record_word-requires-in-loop-v c =
-    let s = c.requires.0 in let l = c.loop-v in
-    (omega (arith, s.room, c.requires.2, c.width-m.ensures.1), omega (arith, s.most, c.requires.2), omega (arith, c.width-m.ensures.1))
+loop-v-init c = record { puts = puts_same (begun_none c.args.t.now c.args.notes.now c.args.i) (puts_none _ _); long = refl }
 
 pub renumber-x-requires : goal.renumber-x-requires
 renumber-x-requires c =
     let s = c.requires.0 in let l = c.loop-v in
-    let hv : l.v < size c.args.t.now (feature c.args.t.now c.args.i) = omega arith in
+    let hv : l.v < size c.args.t.now (feature c.args.t.now c.args.i) = omega (arith, c.width-v-end.ensures.0) in
     let b = branch_below s c.args.i l.v c.requires.2 hv in
     (c.requires.1.long, omega (arith, c.record_word-in-loop-v.ensures, s.most, c.requires.2), word_small s c.requires.1 c.record_word-in-loop-v.result (omega (arith, c.record_word-in-loop-v.ensures, c.requires.2)))
 
 pub put_branch-q-requires : goal.put_branch-q-requires
 put_branch-q-requires c =
     let s = c.requires.0 in let l = c.loop-v in
-    let hv : l.v < size c.args.t.now (feature c.args.t.now c.args.i) = omega arith in
+    let hv : l.v < size c.args.t.now (feature c.args.t.now c.args.i) = omega (arith, c.width-v-end.ensures.0) in
     let b = branch_below s c.args.i l.v c.requires.2 hv in (
       omega (
         arith,
-        l.invariant.2.ends,
-        l.invariant.3,
+        l.invariant.puts.ends,
+        l.invariant.long,
         c.put_byte-q.ensures.ends,
         puts_long c.put_byte-q.ensures,
         c.requires.3,
@@ -52,21 +44,16 @@ put_branch-q-requires c =
 
 pub loop-v-preserved : goal.loop-v-preserved
 loop-v-preserved c =
-    let l = c.loop-v in (
-      l.invariant.0,
-      omega arith,
-      puts_same (begun_more c.args.t.now c.args.notes.now c.args.i l.v)
-          (puts_after l.invariant.2 (rw (c.renumber-x.ensures, c.record_word-in-loop-v.ensures) at
-          c.put_branch-q.ensures)),
-      puts_long c.put_branch-q.ensures ∙ l.invariant.3,
-    )
-
-pub shape_of-out : goal.shape_of-out
-shape_of-out c = c.loop-v.invariant.3 ∙ puts_long c.put_byte-q.ensures
+    let l = c.loop-v in record {
+      puts = puts_same (begun_more c.args.t.now c.args.notes.now c.args.i l.v)
+          (puts_after l.invariant.puts (rw (c.renumber-x.ensures, c.record_word-in-loop-v.ensures) at
+          c.put_branch-q.ensures));
+      long = puts_long c.put_branch-q.ensures ∙ l.invariant.long;
+    }
 
 pub returns : goal.returns
 returns c =
     let l = c.loop-v in
-    let e : l.v ≡ size c.args.t.now (feature c.args.t.now c.args.i) = omega arith in
+    let e : l.v ≡ size c.args.t.now (feature c.args.t.now c.args.i) = omega (arith, c.width-v-end.ensures.0) in
     puts_same (begun_all c.args.t.now c.args.notes.now c.args.i) (puts_after
-    (rw c.record_word.ensures at c.put_byte-q.ensures) (rw e at l.invariant.2))
+    (rw c.record_word.ensures at c.put_byte-q.ensures) (rw e at l.invariant.puts))

@@ -1,13 +1,8 @@
 -- `sheet_writer::writing::put_node` meets its contract: the feature, and the first v branches after it (begun). Assumes nothing.
-use Rattle.std.proofs.Common.{◌≡◌, ◌-◌, ◌≤◌, length}
+use Rattle.std.proofs.Common.{◌≡◌, length}
 use Rattle.sheet_laying.specs.Laid.{Puts}
 use Rattle.sheet_writer.proofs.Parts.{begun}
-use Rattle.promises.specs.Words.{size, feature}
 use Rattle.sheet_writer.proofs.writing.put_node.Given as goal
 
 abbrev pub invariant-loop-v : goal.invariant-loop-v
-invariant-loop-v l =
-    (l.m ≡ size l.t (feature l.t l.i)) × (l.v ≤ l.m) × Puts (begun l.t l.notes l.i l.v) l.initial.out l.out l.initial.q l.q × (length l.out ≡ length l.initial.out)
-
-abbrev pub decreases-loop-v : goal.decreases-loop-v
-decreases-loop-v l = l.m - l.v
+invariant-loop-v l = record { puts : Puts (begun l.t l.notes l.i l.v) l.initial.out l.out l.initial.q l.q; long : length l.out ≡ length l.initial.out }

@@ -1,5 +1,5 @@
 -- `sheet_writer::writing::put_nodes` meets its contract: the first j nodes stand one after the other. Assumes nothing.
-use Rattle.std.proofs.Common.{◌≡◌, refl, sym, ap, ℕ, ◌+◌, arith}
+use Rattle.std.proofs.Common.{refl, sym, ap, ℕ, ◌+◌, arith}
 use mathlib.Core.Path.{◌∙◌}
 use Rattle.rule_numbering.proofs.Numbers.{noted_most}
 use Rattle.sheet_writer.proofs.Parts.{length_in, bytes_none, bytes_more, length_more, length_fewer}
@@ -8,7 +8,7 @@ use Rattle.promises.specs.Words.{size, feature}
 use Rattle.sheet_writer.proofs.writing.put_nodes.Goals as goal
 
 pub loop-j-init : goal.loop-j-init
-loop-j-init c = (omega arith, puts_same (sym (bytes_none c.args.t.now c.args.notes.now)) (puts_none _ _), refl)
+loop-j-init c = record { puts = puts_same (sym (bytes_none c.args.t.now c.args.notes.now)) (puts_none _ _); long = refl }
 
 pub node_of-requires : goal.node_of-requires
 node_of-requires c = let l = c.loop-j in (c.requires.1.long, omega (arith, c.requires.0.most, noted_most c.requires.0 c.requires.1))
@@ -21,8 +21,8 @@ put_node-q-requires c =
       omega (arith, c.node_of.ensures, c.requires.1.inside l.j (omega arith)),
       omega (
         arith,
-        l.invariant.1.ends,
-        l.invariant.2,
+        l.invariant.puts.ends,
+        l.invariant.long,
         c.requires.2,
         length_in w n c.node_of.result,
         length_more w n l.j,
@@ -33,15 +33,8 @@ put_node-q-requires c =
 
 pub loop-j-preserved : goal.loop-j-preserved
 loop-j-preserved c =
-    let l = c.loop-j in (
-      omega arith,
-      puts_same (bytes_more c.args.t.now c.args.notes.now l.j)
-          (puts_after l.invariant.1 (rw c.node_of.ensures at c.put_node-q.ensures)),
-      puts_long c.put_node-q.ensures ∙ l.invariant.2,
-    )
-
-pub shape_of-out : goal.shape_of-out
-shape_of-out c = c.loop-j.invariant.2
-
-pub returns : goal.returns
-returns c = let l = c.loop-j in let e : l.j ≡ c.args.c = omega arith in rw e at l.invariant.1
+    let l = c.loop-j in record {
+      puts = puts_same (bytes_more c.args.t.now c.args.notes.now l.j)
+          (puts_after l.invariant.puts (rw c.node_of.ensures at c.put_node-q.ensures));
+      long = puts_long c.put_node-q.ensures ∙ l.invariant.long;
+    }

@@ -9,7 +9,7 @@ use Rattle.promises.specs.Words.{features, size, sizes}
 use Rattle.sheet_writer.proofs.writing.put_sizes.Goals as goal
 
 pub loop-k-init : goal.loop-k-init
-loop-k-init c = (c.wide-n.ensures.0 ∙ c.features_word.ensures, omega arith, rw tab_none (puts_none _ _), refl)
+loop-k-init c = record { puts = rw tab_none (puts_none _ _); long = refl }
 
 pub size_word-requires : goal.size_word-requires
 size_word-requires c = let s = c.requires.0 in omega (arith, few s, s.room)
@@ -17,19 +17,17 @@ size_word-requires c = let s = c.requires.0 in omega (arith, few s, s.room)
 pub put_byte-q-requires : goal.put_byte-q-requires
 put_byte-q-requires c =
     let s = c.requires.0 in let l = c.loop-k in
-    let h : l.k < features c.args.t.now = omega arith in
-    (omega (arith, l.invariant.2.ends, length_tab (size c.args.t.now) l.k, l.invariant.3, c.requires.1), omega (arith, c.size_word.ensures, size_most s l.k h))
+    let h : l.k < features c.args.t.now = omega (arith, c.features_word-k-end.ensures) in
+    (omega (arith, l.invariant.puts.ends, length_tab (size c.args.t.now) l.k, l.invariant.long, c.requires.1), omega (arith, c.size_word.ensures, size_most s l.k h))
 
 pub loop-k-preserved : goal.loop-k-preserved
 loop-k-preserved c =
-    let l = c.loop-k in (
-      l.invariant.0,
-      omega arith,
-      rw add-one (puts_same (sym (tab_snoc (size c.args.t.now) l.k))
-          (puts_after l.invariant.2 (rw c.size_word.ensures at c.put_byte-q.ensures))),
-      puts_long c.put_byte-q.ensures ∙ l.invariant.3,
-    )
+    let l = c.loop-k in record {
+      puts = rw add-one (puts_same (sym (tab_snoc (size c.args.t.now) l.k))
+          (puts_after l.invariant.puts (rw c.size_word.ensures at c.put_byte-q.ensures)));
+      long = puts_long c.put_byte-q.ensures ∙ l.invariant.long;
+    }
 
 pub returns : goal.returns
 unfolding sizes
-returns c = let l = c.loop-k in let e : l.k ≡ features c.args.t.now = omega arith in rw e at l.invariant.2
+returns c = let l = c.loop-k in let e : l.k ≡ features c.args.t.now = omega (arith, c.features_word-k-end.ensures) in rw e at l.invariant.puts
