@@ -3,58 +3,44 @@
 
 ghost use Rattle.std.specs.Prelude.{◌≡◌};
 ghost use Rattle.rule_nodes.specs.Nodes.{Holds, Result};
-ghost use Rattle.sheet_check.specs.Diagram.{Ready};
 ghost use Rattle.sheet_reader.specs.Reader.{Asks, Takes};
 ghost use Rattle.promises.specs.Words.{sizes};
 ghost use Rattle.promises.specs.Sheet.{sheet_sizes as sizes_of, sheet_rule as rule_of};
 
-use rule_nodes::{Answer, make};
-use sheet_bytes::{NUMBERS, ROOTS, branch_at, feature_at, root_at, width_at};
-use table_words::narrow;
+use rule_nodes::make;
+use sheet_bytes::NUMBERS;
+use sheet_check::Sheet;
 
 // The table's branch for the sheet's branch word b. Each node of the sheet is walked once, and its branch noted.
-fn take_branch(
-    t: &mut [u32],
-    s: &[u8],
-    at: &[u32; 4096],
-    notes: &mut [u32; 4096],
-    b: usize,
-) -> Answer
-    requires { Asks t.old s.now at.now notes.old b }
-    ensures { Takes t.old t.new s.now notes.new b result }
+// A note is a word, 0 where there is none: an array of Option<u32> would take twice the 16,384 bytes of stack (fixed memory).
+fn take_branch(t: &mut [u32], sheet: Sheet, notes: &mut [u32; 4096], b: usize) -> Option<u32>
+    requires { Asks t.old sheet.laid.bytes.now notes.old b }
+    ensures { Takes t.old t.new sheet.entry.laid.bytes.now notes.new b result }
 {
     if b < NUMBERS {
-        return Answer::Is(narrow(b));
+        return Some(b as u32);
     }
     let i = b - NUMBERS;
     let known = notes[i];
     if 0 < known {
-        return Answer::Is(known - 1);
+        return Some(known - 1);
     }
-    let k = feature_at(s, at, i);
-    let m = width_at(s, at, i);
+    let k = sheet.laid.feature(i);
     let mut list = [0u32; 12];
-    let mut v: usize = 0;
-    while v < m {
-        let c = branch_at(s, at, i, v);
-        let Answer::Is(r) = take_branch(t, s, at, notes, c) else {
-            return Answer::NoRoom;
-        };
+    for v in 0..sheet.laid.width(i) {
+        let r = take_branch(t, sheet, notes, sheet.laid.branch(i, v))?;
         list[v] = r;
-        v += 1;
     }
-    let Answer::Is(r) = make(t, k, list) else {
-        return Answer::NoRoom;
-    };
+    let r = make(t, k, list)?;
     notes[i] = r + 1;
-    Answer::Is(r)
+    Some(r)
 }
 
-// The table's branch for the root of a good sheet over the table's features.
-pub fn take_in(t: &mut [u32], s: &[u8], at: &[u32; 4096]) -> Answer
-    requires { (Holds t.old) × (Ready s.now at.now) × (sizes t.old ≡ sizes_of s.now) }
-    ensures { Result t.old t.new 0 (rule_of s.now) result }
+// The table's branch for the root of a sheet over the table's features.
+pub fn take_in(t: &mut [u32], sheet: Sheet) -> Option<u32>
+    requires { (Holds t.old) × (sizes t.old ≡ sizes_of sheet.laid.bytes.now) }
+    ensures { Result t.old t.new 0 (rule_of sheet.entry.laid.bytes.now) result }
 {
     let mut notes = [0u32; 4096];
-    take_branch(t, s, at, &mut notes, root_at(s, ROOTS, 0))
+    take_branch(t, sheet, &mut notes, sheet.root())
 }
