@@ -1,25 +1,18 @@
--- What the look up of no values tells of a sheet, and the places of a good sheet's nodes. Assumes nothing.
-use mathlib.Core.Path.{◌≡◌, refl, subst}
-use mathlib.Core.Bool.{Bool, true, false}
+-- What the look up of no values tells of a sheet. Assumes nothing.
+use mathlib.Core.Path.{◌≡◌, refl}
 use mathlib.Core.List.{List, [], ◌∷◌}
 use Prim.Native.Nat.{ℕ, ◌≤◌}
 use native.Mathlib.Omega.{arith}
 use lib.ListN.{length}
 use Rattle.theory.specs.Settings.{Valid}
-use Rattle.settings.specs.Tells.{Tells}
 use Rattle.settings.specs.Refusals.{Ends, taken}
 use Rattle.settings.specs.declared.refusals.Refusal.TheVariants.{Newer, BadSheet}
-use Rattle.settings.specs.declared.refusals.Outcome.{Outcome}
-use Rattle.settings.specs.declared.refusals.Outcome.TheVariants.{Taken, Refused}
+use Rattle.settings.specs.Refusals.{Taken, Refused}
 use Rattle.promises.specs.Sheet.{sheet_sizes, GoodSheet}
 use Rattle.promises.specs.Deed.{Meets}
 use Rattle.promises.specs.SheetDeeds.{sheet_cases, look_up_in}
 use Rattle.promises.specs.ForC.{heard, Hears, tell_returned}
 use Rattle.table_calls.proofs.Like.{clear, rest}
-use Rattle.sheet_bytes.specs.Bytes.{Spans, Laying}
-use Rattle.sheet_bytes.proofs.Opening.{spans_placed}
-use Rattle.sheet_check.specs.Diagram.{Ready}
-use Rattle.sheet_check.proofs.Goods.{good_spans, good_form}
 use Rattle.sheets.proofs.Stable.{good_stable}
 use Rattle.sheets.proofs.Theorems.{returns_newer, returns_bad, returns_argument}
 
@@ -43,13 +36,5 @@ module _ {s : List ℕ} {r : ℕ} (a : Hears (Meets (look_up_in s []) tt tt) (te
   tells_good n b = (λ x. absurd (n (returns_newer a x)), λ x. (λ y. absurd (b (returns_bad a x y)), λ g. refl))
 
 -- a sheet that is not refused is good
-pub good_taken : {s : List ℕ} {o : Outcome} → Ends (sheet_cases s taken) o → o ≡ Taken → GoodSheet s
-good_taken {s} t e = good_stable (clear (rest (subst (Ends (sheet_cases s taken)) e t)))
-
--- the nodes of a good sheet lie one after the other, so their places are noted
-pub good_ready : {s at : List ℕ} {r : Bool} → GoodSheet s → Laying s at 1 r → Ready s at
-good_ready {s} {at} {r} g l = record { good = g; laid = spans_placed (good_form g).0.opens (good_spans g) (l.places (so r l.tells)) }
-  where
-    so : (t : Bool) → Tells t (Spans s 1) → t ≡ true
-    so true h = refl
-    so false h = absurd (h (good_spans g))
+pub good_taken : {s : List ℕ} → Ends (sheet_cases s taken) Taken → GoodSheet s
+good_taken t = good_stable (clear (rest t))

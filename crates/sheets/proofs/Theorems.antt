@@ -14,8 +14,9 @@ use Rattle.theory.proofs.Ranges.{valid_decided}
 use Rattle.settings.specs.Refusals.{Ends, ◌when◌else◌, taken}
 use Rattle.settings.specs.declared.refusals.Refusal.{Refusal}
 use Rattle.settings.specs.declared.refusals.Refusal.TheVariants.{BadArgument}
-use Rattle.settings.specs.declared.refusals.Outcome.{Outcome}
-use Rattle.settings.specs.declared.refusals.Outcome.TheVariants.{Taken, Refused}
+use Rattle.settings.specs.Refusals.{Outcome, Taken, Refused, ending_of, number_of}
+use Rattle.std.specs.Prelude.{Result, Ok, Err}
+use Rattle.promises.specs.RuleDeeds.{looked}
 use Rattle.settings.proofs.Endings.{not_taken, one_number, ends_unique}
 use Rattle.promises.specs.declared.Looked.{Looked}
 use Rattle.promises.specs.Sheet.{NewerSheet, sheet_sizes, sheet_count, sheet_rule, GoodSheet}
@@ -62,11 +63,15 @@ longest {s} g =
     omega (arith, o.lie.ends, o.lie.room, place_most o.head (sheet_count s) o.lie.known)
 
 -- ---- what C gets, case by case
-module _ {s t : List ℕ} {r : ℕ} (a : Hears (Meets (look_up_in s t) tt tt) (tell_returned []) (heard r [] [])) where
-  got : {o : Outcome} → a.answer.outcome ≡ o → r ≡ returned o a.answer.number
-  got e = a.number ∙ ap (λ (o : Outcome). returned o a.answer.number) e
+number_there : (r : Result Looked Refusal) → ending_of r ≡ Taken → returned r ≡ (looked.value r).0.end
+number_there (Ok v) e = refl
+number_there (Err x) e = not_taken e
 
-  abbrev bytes : Ends (sheet_cases s (BadArgument when (Valid (sheet_sizes s) t → ⊥) else taken)) a.answer.outcome
+module _ {s t : List ℕ} {r : ℕ} (a : Hears (Meets (look_up_in s t) tt tt) (tell_returned []) (heard r [] [])) where
+  got : {x : Refusal} → ending_of a.answer ≡ Refused x → r ≡ 65536 + number_of x
+  got {x} e = a.number ∙ ap returned (a.keeps.refused x e)
+
+  abbrev bytes : Ends (sheet_cases s (BadArgument when (Valid (sheet_sizes s) t → ⊥) else taken)) (ending_of a.answer)
   bytes = a.keeps.ends.1 (λ n. n tt)
 
   pub returns_newer : NewerSheet s → r ≡ 65536 + 3
@@ -76,7 +81,7 @@ module _ {s t : List ℕ} {r : ℕ} (a : Hears (Meets (look_up_in s t) tt tt) (t
   returns_bad n b = got ((bytes.1 n).0 b)
 
   module _ (g : GoodSheet s) where
-    abbrev later : Ends (BadArgument when (Valid (sheet_sizes s) t → ⊥) else taken) a.answer.outcome
+    abbrev later : Ends (BadArgument when (Valid (sheet_sizes s) t → ⊥) else taken) (ending_of a.answer)
     later = (bytes.1 (λ n. newer_not n g)).1 (λ b. b g)
 
     pub returns_argument : (Valid (sheet_sizes s) t → ⊥) → r ≡ 65536 + 6
@@ -85,27 +90,27 @@ module _ {s t : List ℕ} {r : ℕ} (a : Hears (Meets (look_up_in s t) tt tt) (t
     pub returns_number : Valid (sheet_sizes s) t → r ≡ (sheet_rule s t).end
     returns_number v =
         let e = later.1 (λ n. n v) in
-        got e ∙ ap (λ (x : Phrase). x.end) (a.keeps.gives e).0
+        a.number ∙ number_there a.answer e ∙ ap (λ (x : Phrase). x.end) (a.keeps.gives e).0
 
 -- ---- LOOK UP OF MANY: each as look up of its row
 module _ {s t out out' : List ℕ} {o : Outcome} (a : Meets (look_up_all_in s t out) tt tt (o, out')) where
   abbrev row_at : ℕ → List ℕ
   row_at = row_of (length (sheet_sizes s)) t
 
-  module _ (i : ℕ) (h : i < length out) {r : Looked} (b : Meets (look_up_in s (row_at i)) tt tt r) where
+  module _ (i : ℕ) (h : i < length out) {r : Result Looked Refusal} (b : Meets (look_up_in s (row_at i)) tt tt r) where
     -- taken: so is the look up of the row, and its number stands in the row's word
     module _ (e : o ≡ Taken) where
       done : Ends (refusals (look_up_all_in s t out) tt) Taken
       done = subst (Ends (refusals (look_up_all_in s t out) tt)) e a.ends
 
-      pub row_taken : r.outcome ≡ Taken
+      pub row_taken : ending_of r ≡ Taken
       row_taken = (((b.ends.1 (λ n. n tt)).1 (clear (rest done))).1 (clear (rest (rest done)))).1 (λ n. clear (rest (rest (rest done))) (λ x. n (x.each i h)))
 
-      pub row_number : get_or out' i 0 ≡ r.number
-      row_number = ap (λ (l : List ℕ). get_or l i 0) (a.gives e) ∙ row_word (number_in s t) (length out) i h ∙ sym (ap (λ (x : Phrase). x.end) (b.gives row_taken).0)
+      pub row_number : get_or out' i 0 ≡ returned r
+      row_number = ap (λ (l : List ℕ). get_or l i 0) (a.gives e) ∙ row_word (number_in s t) (length out) i h ∙ sym (number_there r row_taken ∙ ap (λ (x : Phrase). x.end) (b.gives row_taken).0)
 
     -- a row whose look up is refused refuses all, with the same number
-    pub row_refused : (x : Refusal) → r.outcome ≡ Refused x → o ≡ Refused x
+    pub row_refused : (x : Refusal) → ending_of r ≡ Refused x → o ≡ Refused x
     row_refused x e = ends_unique (refusals (look_up_all_in s t out) tt) o (Refused x) a.ends (front.0, λ k. ((front.1 k).0, λ n. (((front.1 k).1 n).0, λ g. later (((front.1 k).1 n).1 g))))
       where
         front : Ends (refusals (look_up_in s (row_at i)) tt) (Refused x)
@@ -119,11 +124,11 @@ module _ {s t out out' : List ℕ} {o : Outcome} (a : Meets (look_up_all_in s t 
             go (no v) = f.0 v
 
   -- taken exactly if the look up of every row is, where there is a row and no byte is missing or left over
-  module _ (l : length t ≡ length out * length (sheet_sizes s)) (some : 1 ≤ length out) (r : ℕ → Looked) (b : (i : ℕ) → i < length out → Meets (look_up_in s (row_at i)) tt tt (r i)) where
-    pub all_taken : (o ≡ Taken) ↔ ((i : ℕ) → i < length out → (r i).outcome ≡ Taken)
+  module _ (l : length t ≡ length out * length (sheet_sizes s)) (some : 1 ≤ length out) (r : ℕ → Result Looked Refusal) (b : (i : ℕ) → i < length out → Meets (look_up_in s (row_at i)) tt tt (r i)) where
+    pub all_taken : (o ≡ Taken) ↔ ((i : ℕ) → i < length out → ending_of (r i) ≡ Taken)
     all_taken = ((λ e i h. row_taken i h (b i h) e), back)
       where
-        back : ((i : ℕ) → i < length out → (r i).outcome ≡ Taken) → o ≡ Taken
+        back : ((i : ℕ) → i < length out → ending_of (r i) ≡ Taken) → o ≡ Taken
         back f =
             let d : (i : ℕ) → i < length out → Ends (refusals (look_up_in s (row_at i)) tt) Taken = λ i h. subst (Ends (refusals (look_up_in s (row_at i)) tt)) (f i h) (b i h).ends in
             let d₀ = d 0 (omega (arith, some)) in
@@ -135,5 +140,4 @@ pub row_returned : {s t out out' : List ℕ} {r : ℕ} → Hears (Meets (look_up
     → Hears (Meets (look_up_in s (row_of (length (sheet_sizes s)) t i)) tt tt) (tell_returned []) (heard n [] []) → get_or out' i 0 ≡ n
 row_returned a e i h b =
     let d : a.answer.0 ≡ Taken = one_number (sym a.number ∙ e) in
-    let q : b.answer.outcome ≡ Taken = row_taken a.keeps i h b.keeps d in
-    ap (λ (l : List ℕ). get_or l i 0) a.out ∙ row_number a.keeps i h b.keeps d ∙ sym (b.number ∙ ap (λ (u : Outcome). returned u b.answer.number) q)
+    ap (λ (l : List ℕ). get_or l i 0) a.out ∙ row_number a.keeps i h b.keeps d ∙ sym b.number

@@ -1,58 +1,48 @@
 -- `sheets::call_look_up::walk` meets its contract: the branch word stands on the way of the setting with the count, and falls. Assumes nothing.
-use Rattle.std.proofs.Common.{refl, arith}
-use mathlib.Core.Path.{◌∙◌}
+use Rattle.std.proofs.Common.{arith}
 use Rattle.sheet_bytes.proofs.Opening.{open_list}
-use Rattle.sheet_check.proofs.Wording.{one_word}
-use Rattle.sheet_check.proofs.Goods.{good_spans}
 use Rattle.sheets.proofs.Finding.{find_start, find_end, find_asked, find_node, find_room, find_feature, find_value, find_on, find_less}
 use Rattle.sheets.proofs.call_look_up.walk.Goals as goal
 
-pub root_at-b-requires : goal.root_at-b-requires
-root_at-b-requires c = ((good_spans c.requires.0.good).lays, omega arith, omega arith)
-
 pub loop-b-init : goal.loop-b-init
-loop-b-init c = find_start c.requires.0.good c.args.t.now c.requires.1 c.root_at-b.result (c.root_at-b.ensures.0 ∙ one_word _)
+loop-b-init c = find_start c.args.sheet.good c.args.setting.now c.requires c.root-b.result c.root-b.ensures.0
 
-pub feature_at-k-requires : goal.feature_at-k-requires
-feature_at-k-requires c =
-    let l = c.loop-b in (c.requires.0.laid, find_node c.requires.0.good c.args.t.now c.requires.1 l.asked l.b (omega arith) l.invariant)
+pub feature-k-requires : goal.feature-k-requires
+feature-k-requires c = let l = c.loop-b in find_node c.args.sheet.good c.args.setting.now c.requires l.asked l.b (omega arith) l.invariant
 
-pub bounds-t-k : goal.bounds-t-k
-bounds-t-k c =
-    let l = c.loop-b in find_feature c.requires.0.good c.args.t.now c.requires.1 l.asked l.b (omega arith) l.invariant
-    c.feature_at-k.result c.feature_at-k.ensures.0
+pub bounds-setting-k : goal.bounds-setting-k
+bounds-setting-k c =
+    let l = c.loop-b in find_feature c.args.sheet.good c.args.setting.now c.requires l.asked l.b (omega arith) l.invariant c.feature-k.result c.feature-k.ensures.0
 
-pub branch_at-b-requires : goal.branch_at-b-requires
-branch_at-b-requires c =
+pub branch-b-requires : goal.branch-b-requires
+branch-b-requires c =
     let l = c.loop-b in (
-      c.requires.0.laid,
-      find_node c.requires.0.good c.args.t.now c.requires.1 l.asked l.b (omega arith) l.invariant,
-      find_value c.requires.0.good c.args.t.now c.requires.1 l.asked l.b (omega arith) l.invariant c.feature_at-k.result
-          c.feature_at-k.ensures.0 c.wide.result c.wide.ensures.0,
+      find_node c.args.sheet.good c.args.setting.now c.requires l.asked l.b (omega arith) l.invariant,
+      find_value c.args.sheet.good c.args.setting.now c.requires l.asked l.b (omega arith) l.invariant c.feature-k.result c.feature-k.ensures.0 c.from.result
+          c.from.ensures,
     )
 
 pub overflow_add-asked : goal.overflow_add-asked
 overflow_add-asked c =
     let l = c.loop-b in
-    let n = find_room c.requires.0.good c.args.t.now c.requires.1 l.asked l.b (omega arith) l.invariant in
-    omega (arith, n, (open_list c.requires.0.laid.opens).few)
+    let n = find_room c.args.sheet.good c.args.setting.now c.requires l.asked l.b (omega arith) l.invariant in
+    omega (arith, n, (open_list c.args.sheet.laid.placed.opens).few)
 
 pub loop-b-smaller : goal.loop-b-smaller
 loop-b-smaller c =
     let l = c.loop-b in
-    find_less c.requires.0.good c.args.t.now c.requires.1 l.asked l.b (omega arith) l.invariant c.feature_at-k.result
-    c.feature_at-k.ensures.0 c.wide.result c.wide.ensures.0 c.branch_at-b.result c.branch_at-b.ensures.0
+    find_less c.args.sheet.good c.args.setting.now c.requires l.asked l.b (omega arith) l.invariant c.feature-k.result
+    c.feature-k.ensures.0 c.from.result c.from.ensures c.branch-b.result c.branch-b.ensures.0
 
 pub loop-b-preserved : goal.loop-b-preserved
 loop-b-preserved c =
     let l = c.loop-b in
-    find_on c.requires.0.good c.args.t.now c.requires.1 l.asked l.b (omega arith) l.invariant c.feature_at-k.result
-    c.feature_at-k.ensures.0 c.wide.result c.wide.ensures.0 c.branch_at-b.result c.branch_at-b.ensures.0
+    find_on c.args.sheet.good c.args.setting.now c.requires l.asked l.b (omega arith) l.invariant c.feature-k.result
+    c.feature-k.ensures.0 c.from.result c.from.ensures c.branch-b.result c.branch-b.ensures.0
 
 pub returns : goal.returns
 returns c =
     let l = c.loop-b in (
-      refl,
-      c.narrow.ensures ∙ find_end c.requires.0.good c.args.t.now c.requires.1 l.asked l.b (omega arith) l.invariant,
-      find_asked c.requires.0.good c.args.t.now c.requires.1 l.asked l.b (omega arith) l.invariant,
+      find_end c.args.sheet.good c.args.setting.now c.requires l.asked l.b (omega arith) l.invariant,
+      find_asked c.args.sheet.good c.args.setting.now c.requires l.asked l.b (omega arith) l.invariant,
     )

@@ -3,7 +3,7 @@ use Rattle.sheets.proofs.Finding.{Way}
 use Rattle.sheets.proofs.call_look_up.walk.Given as goal
 
 abbrev pub invariant-loop-b : goal.invariant-loop-b
-invariant-loop-b l = Way l.s l.t l.asked l.b
+invariant-loop-b l = Way l.sheet.laid.bytes.now l.setting l.asked l.b
 
 abbrev pub decreases-loop-b : goal.decreases-loop-b
 decreases-loop-b l = l.b
