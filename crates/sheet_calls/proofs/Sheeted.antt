@@ -1,6 +1,5 @@
 -- Each place of a sound table has a sheet, and write lays it into the output or finds no space. Assumes nothing.
 use mathlib.Core.Path.{◌≡◌, refl, sym, ap, subst}
-use mathlib.Core.Logic.{⊎_elim}
 use mathlib.Core.List.{List, [], ◌∷◌, ◌++◌}
 use Prim.Native.Nat.{ℕ, zero, suc, ◌≤◌, ◌<◌}
 use native.Mathlib.Omega.{arith}
@@ -10,7 +9,6 @@ use Rattle.theory.specs.Rests.{OfSome, IsRest, Rest}
 use Rattle.theory.specs.Rules.{rules, Rule}
 use Rattle.theory.specs.Tally.{tally}
 use Rattle.theory.proofs.Counting.{counts_le, tally_counts}
-use Rattle.table_words.proofs.Tab.{split}
 use Rattle.rule_words.proofs.Bounding.{rule_small}
 use Rattle.rule_words.proofs.Reading.{at_rules}
 use Rattle.promises.specs.Words.{sizes}
@@ -23,10 +21,19 @@ use Rattle.promises.specs.SheetDeeds.{SheetFor}
 use Rattle.rule_calls.proofs.Sounding.{sound_list}
 use Rattle.rule_calls.proofs.Theorems.{copy_fits}
 use Rattle.sheet_bytes.specs.Sheet.{sheet_of, IsSheet}
-use Rattle.sheet_check.proofs.Reading.{sheet_good}
 use Rattle.sheets.proofs.Edge.{sheet_for, room_for}
 use Rattle.sheet_laying.specs.Laid.{Laid}
-use Rattle.sheet_writer.proofs.Parts.{zero_tells}
+use Rattle.sheet_writer.proofs.Parts.{none_tells, some_tells}
+use Rattle.std.specs.Prelude.{Option, Some, None, Result, Err}
+use Rattle.std.specs.Option.{ok_or}
+use Rattle.settings.specs.Refusals.{Outcome, Taken}
+use Rattle.settings.specs.declared.refusals.Refusal.{Refusal}
+use Rattle.settings.specs.declared.refusals.Refusal.TheVariants.{NoSpace}
+use Rattle.settings.proofs.Endings.{stop, pass}
+use Rattle.promises.specs.Deed.{Meets}
+use Rattle.promises.specs.SheetDeeds.{write_sheet}
+use Rattle.table_calls.specs.Door.{Enters}
+use Rattle.table_calls.proofs.Meeting.{let_in, refuses, takes}
 
 -- the last of a list
 get_or_last : (gs : List Rule) (g : Rule) → get_or (gs ++ (g ∷ [])) (length gs) zero_fun ≡ g
@@ -74,19 +81,22 @@ module _ {w : List ℕ} {p : ℕ} (s : RuleSound w) (h : p < 32) where
   no_place_for l x = omega (arith, l, (room_for.0 x).1, ap length edge_sheet.bytes)
 
   -- ---- what write laid into the output
-  module _ {out out' : List ℕ} {n : ℕ} (l : Laid (sheet_at w p) out out' n) where
-    some_bytes : 1 ≤ length (sheet_at w p)
-    some_bytes = omega (arith, (sheet_good place_sheet).ordered.lie.ends)
-
+  module _ {out out' : List ℕ} where
     -- nothing: it is too short
-    short : n < 1 → length out < length (sheet_at w p)
-    short z = zero_tells some_bytes l (omega arith)
-
-    pub laid_none : n < 1 → (((x : List ℕ) × SheetFor (sizes w) (on (state_of ruled w) p) (length out) x) → ⊥) × (out' ≡ out)
-    laid_none z = (no_place_for (short z), (l.short (short z)).1)
+    pub laid_none : Laid (sheet_at w p) out out' None → (((x : List ℕ) × SheetFor (sizes w) (on (state_of ruled w) p) (length out) x) → ⊥) × (out' ≡ out)
+    laid_none l = (no_place_for (none_tells l), (l.short (none_tells l)).1)
 
     -- or the sheet
-    pub laid_sheet : 1 ≤ n → (x : List ℕ) × SheetFor (sizes w) (on (state_of ruled w) p) (length out) x × (n ≡ length x) × (out' ≡ x ++ drop (length x) out)
-    laid_sheet z =
-        let f : length (sheet_at w p) ≤ length out = ⊎_elim (λ a. absurd (omega (arith, z, (l.short a).0))) (λ a. a) (split (length out) (length (sheet_at w p))) in
-        (sheet_at w p, place_for f, (l.fits f).0, (l.fits f).1)
+    pub laid_sheet : {n : ℕ} → Laid (sheet_at w p) out out' (Some n) → (x : List ℕ) × SheetFor (sizes w) (on (state_of ruled w) p) (length out) x × (n ≡ length x) × (out' ≡ x ++ drop (length x) out)
+    laid_sheet {n} l =
+        let f = some_tells l in
+        let e = (l.fits f).0 in
+        (sheet_at w p, place_for f, cc, (l.fits f).1)
+
+-- WRITE past the door: what was laid decides
+pub written : {w out out' : List ℕ} {p : ℕ} {o : Outcome} → Enters RuleSound 32 (p ∷ []) w o → o ≡ Taken → (r : Option ℕ) → Laid (sheet_at w p) out out' r → Meets (write_sheet p out) w w (ok_or r NoSpace, out')
+written {w} {out} {p = p} e t (Some n) l =
+    let x = laid_sheet (e.sound t) ((e.there t).each 0 (omega arith)) l in takes refl (let_in e t (pass (λ n. n (x.0, x.1)) refl)) refl x
+written {w} {out} {p = p} e t None l =
+    let n = laid_none (e.sound t) ((e.there t).each 0 (omega arith)) l in
+    refuses refl (ap (λ (l : List ℕ). let r : Result ℕ Refusal × List ℕ = (Err NoSpace, l) in r) n.1) (let_in e t (stop n.0))

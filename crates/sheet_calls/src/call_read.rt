@@ -7,62 +7,43 @@ ghost use Rattle.promises.specs.Sheet.{sheet_sizes, sheet_rule};
 ghost use Rattle.promises.specs.Deed.{Meets};
 ghost use Rattle.promises.specs.SheetDeeds.{read_sheet};
 ghost use Rattle.rule_settling.specs.Settling.{Puts};
-ghost use Rattle.sheet_bytes.specs.Frame.{Opens};
-ghost use Rattle.sheet_bytes.specs.RuleFrame.{rule_frame};
-ghost use Rattle.sheet_check.specs.Diagram.{Ready};
 
 use rule_calls::door;
 use rule_settling::settle;
-use settings::{Outcome, Refusal};
-use sheet_bytes::{features_of, size_at};
-use sheet_check::check;
+use settings::Refusal;
+use sheet_bytes::Head;
+use sheet_check::{Sheet, check};
 use sheet_reader::take_in;
-use table_words::{count_word, features_word, size_word, wide};
+use table_words::{count_word, features_word, size_word};
 
 // Whether the sheet's feature list is the table's.
-fn same_list(t: &[u32], sheet: &[u8]) -> bool
-    requires { (RuleSound t.now) × (Opens rule_frame sheet.now) }
-    ensures { Tells result (sheet_sizes sheet.now ≡ sizes t.now) }
+fn same_list(t: &[u32], head: Head) -> bool
+    requires { RuleSound t.now }
+    ensures { Tells result (sheet_sizes head.entry.bytes.now ≡ sizes t.now) }
 {
-    let n = features_of(sheet);
-    if n != wide(features_word(t)) {
-        return false;
-    }
-    let mut k: usize = 0;
-    while k < n {
-        if size_at(sheet, k) != wide(size_word(t, k)) {
-            return false;
-        }
-        k += 1;
-    }
-    true
+    let n = head.features();
+    n == features_word(t) as usize && (0..n).all(|k| head.size(k) == size_word(t, k) as usize)
 }
 
-// The rule of a good sheet over the table's features becomes the rule of the place.
-fn put_read(t: &mut [u32], place: usize, sheet: &[u8], at: &[u32; 4096]) -> Outcome
-    requires { (RuleSound t.old) × (place < 32) × (Ready sheet.now at.now) × (sheet_sizes sheet.now ≡ sizes t.old) }
-    ensures { Puts place (sheet_rule sheet.now) t.old t.new result }
+// The rule of a sheet over the table's features becomes the rule of the place.
+fn put_read(t: &mut [u32], place: usize, sheet: Sheet) -> Result<(), Refusal>
+    requires { (RuleSound t.old) × (place < 32) × (sheet_sizes sheet.laid.bytes.now ≡ sizes t.old) }
+    ensures { Puts place (sheet_rule sheet.entry.laid.bytes.now) t.old t.new result }
 {
-    let used = wide(count_word(t));
-    let r = take_in(t, sheet, at);
+    let used = count_word(t) as usize;
+    let r = take_in(t, sheet);
     settle(t, place, used, r)
 }
 
 // The rule of the sheet becomes the rule of the place.
-pub fn read(t: &mut [u32], place: usize, sheet: &[u8]) -> Outcome
+pub fn read(t: &mut [u32], place: usize, sheet: &[u8]) -> Result<(), Refusal>
     ensures { Meets (read_sheet place sheet.now) t.old t.new result }
 {
-    let o = door(t, &[place]);
-    if let Outcome::Refused(x) = o {
-        return Outcome::Refused(x);
+    door(t, &[place])?;
+    let mut places = [0u32; 4096];
+    let sheet = check(sheet, &mut places)?;
+    if !same_list(t, sheet.laid.head()) {
+        return Err(Refusal::OtherFeatures);
     }
-    let mut at = [0u32; 4096];
-    let checked = check(sheet, &mut at);
-    if let Outcome::Refused(x) = checked {
-        return Outcome::Refused(x);
-    }
-    if !same_list(t, sheet) {
-        return Outcome::Refused(Refusal::OtherFeatures);
-    }
-    put_read(t, place, sheet, &at)
+    put_read(t, place, sheet)
 }
