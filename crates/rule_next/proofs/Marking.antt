@@ -19,6 +19,7 @@ use Rattle.table_words.proofs.Tab.{split}
 use Rattle.rule_words.proofs.Reading.{decode_phrase}
 use Rattle.settings.specs.Tells.{Tells}
 use Rattle.rule_count.specs.Figures.{answered}
+use Rattle.rule_count.specs.declared.NodeAnswers.{NodeAnswers}
 use Rattle.rule_count.specs.declared.Wanted.TheVariants.{Exactly}
 use Rattle.rule_count.proofs.Asking.{answered_tells}
 use Rattle.rule_next.specs.Marks.{Leads, Spot, Marks, rule_from, Smallest}
@@ -35,17 +36,17 @@ pub spot_small : {w : List ℕ} {k b : ℕ} → Spot w k b → b < 65536 + count
 spot_small {w} {k} {b} s = ⊎_elim (λ h. omega (arith, h)) (λ h. omega (arith, h, (spot_is s h).0)) (split b 65536)
 
 -- the marks tell whether a branch leads to x
-marks_tell : {w : List ℕ} {k b : ℕ} {has : List Bool} (x : ℕ) → Spot w k b → Marks w x has → Tells (answered has (Exactly x) b) (Leads w x k b)
-marks_tell {w} {k} {b} {has} x s q = answered_tells s.sound (Exactly x) (count w) k b has (le_refl _) q (record { below = spot_small s; above = λ h. (spot_is s h).1 })
+marks_tell : {w : List ℕ} {k b : ℕ} {a : NodeAnswers} (x : ℕ) → Spot w k b → Marks w x a → Tells (answered a.met (Exactly x) b) (Leads w x k b)
+marks_tell {w} {k} {b} {a} x s q = answered_tells s.sound (Exactly x) (count w) k b a.met (le_refl _) q.1 (record { below = spot_small s; above = λ h. (spot_is s h).1 })
 
 -- ---- the values of a feature in turn
 module _ {w : List ℕ} {k b : ℕ} (s : Spot w k b) (h : k < features w) (x : ℕ) where
   -- the marks tell whether a value leads to x
-  pub value_tells : {has : List Bool} (v c : ℕ) (r : Bool) → decode c ≡ next (nodes w) k (decode b) v → r ≡ answered has (Exactly x) c → Marks w x has
+  pub value_tells : {a : NodeAnswers} (v c : ℕ) (r : Bool) → decode c ≡ next (nodes w) k (decode b) v → r ≡ answered a.met a.wanted c → Marks w x a
       → Tells r (Given (drop (k + 1) (sizes w)) (held v (rule_from w k b)) x)
-  value_tells {has} v c r e t q =
+  value_tells {a} v c r e t q =
       let p = spot_next s v c e h in
-      rw t (subst (λ (g : Rule). Tells (answered has (Exactly x) c) (Given (drop (k + 1) (sizes w)) g x)) (rule_next_lem s v c e) (marks_tell x p q))
+      rw (t, q.0) (subst (λ (g : Rule). Tells (answered a.met (Exactly x) c) (Given (drop (k + 1) (sizes w)) g x)) (rule_next_lem s v c e) (marks_tell x p q))
 
   -- the branch of a value that leads to x does
   pub leads_next : (v c : ℕ) → decode c ≡ next (nodes w) k (decode b) v → Given (drop (k + 1) (sizes w)) (held v (rule_from w k b)) x → Leads w x (k + 1) c

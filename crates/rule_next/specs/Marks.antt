@@ -1,11 +1,12 @@
 -- Contract between layers: which branches of a rule table lead to a number: what the pass over the nodes tells. Assumes nothing.
-use Rattle.std.specs.Prelude.{Bool, Option, Some, None, List, ℕ, ◌+◌, ◌≤◌, ◌<◌, drop}
+use Rattle.std.specs.Prelude.{◌≡◌, Option, Some, None, List, ℕ, ◌+◌, ◌≤◌, ◌<◌, drop}
 use Rattle.theory.specs.Counted.{Given}
 use Rattle.theory.specs.Diagrams.{value}
 use Rattle.theory.specs.Functions.{held}
 use Rattle.theory.specs.Rules.{Rule}
 use Rattle.theory.specs.WellFormed.{Ok}
 use Rattle.rule_count.specs.Figures.{Answered}
+use Rattle.rule_count.specs.declared.NodeAnswers.{NodeAnswers}
 use Rattle.rule_count.specs.declared.Wanted.TheVariants.{Exactly}
 use Rattle.promises.specs.Words.{features, size, count, sizes}
 use Rattle.promises.specs.RuleWords.{decode, rule_node_list as nodes}
@@ -25,9 +26,9 @@ pub record Spot (w : List ℕ) (k b : ℕ) : Type 0 where
   pub good : Ok (nodes w) k (decode b)
   pub up_to : k ≤ features w
 
--- the list tells of each node whether it leads to x
-abbrev pub Marks : List ℕ → ℕ → List Bool → Type 0
-Marks w x has = Answered w (Exactly x) (count w) has
+-- the answers tell of each node whether it leads to x
+abbrev pub Marks : List ℕ → ℕ → NodeAnswers → Type 0
+Marks w x a = (a.wanted ≡ Exactly x) × Answered w (Exactly x) (count w) a.met
 
 -- r is the smallest value of feature k, from v on, whose branch leads to x
 pub record Least (w : List ℕ) (x k b v r : ℕ) : Type 0 where

@@ -10,7 +10,7 @@ ghost use Rattle.promises.specs.Words.{features, size, sizes};
 ghost use Rattle.promises.specs.RuleWords.{rule_of};
 ghost use Rattle.promises.specs.RuleSound.{RuleSound as Sound};
 
-use rule_count::{Wanted, answers, branch_meets};
+use rule_count::{NodeAnswers, Wanted, answers};
 use rule_nodes::child_of;
 use rule_words::root_word;
 use settings::Setting;
@@ -20,22 +20,18 @@ use table_words::{features_word, size_word};
 #[derive(Clone, Copy)]
 struct Search<'a> {
     t: &'a [u32],
-    has: &'a [bool],
+    leads: &'a NodeAnswers,
     number: u32,
 }
 
 impl Search<'_> {
     // The smallest value of feature k, from the given one on, whose branch leads to the number.
     fn smallest(&self, k: usize, b: u32, from: usize) -> Option<usize>
-        requires { (Spot self.now.t.now k b) × (k < features self.now.t.now) × (from ≤ size self.now.t.now k) × (Marks self.now.t.now self.now.number self.now.has.now) }
+        requires { (Spot self.now.t.now k b) × (k < features self.now.t.now) × (from ≤ size self.now.t.now k) × (Marks self.now.t.now self.now.number self.now.leads.now) }
         ensures { Smallest self.now.t.now self.now.number k b from result }
     {
         for v in from..size_word(self.t, k) as usize {
-            if branch_meets(
-                self.has,
-                Wanted::Exactly(self.number),
-                child_of(self.t, k, b, v),
-            ) {
+            if self.leads.branch_meets(child_of(self.t, k, b, v)) {
                 return Some(v);
             }
         }
@@ -45,7 +41,7 @@ impl Search<'_> {
     // The first of all settings of the features from k on that the branch gives the number, in the places of those features.
     // It calls itself at the next feature: at most as deep as there are features.
     fn complete(&self, k: usize, b: u32, from: [u8; 16]) -> [u8; 16]
-        requires { (Spot self.now.t.now k b) × (Marks self.now.t.now self.now.number self.now.has.now) × (Leads self.now.t.now self.now.number k b) }
+        requires { (Spot self.now.t.now k b) × (Marks self.now.t.now self.now.number self.now.leads.now) × (Leads self.now.t.now self.now.number k b) }
         ensures { Completes self.now.t.now self.now.number k b from result }
     {
         if features_word(self.t) as usize <= k {
@@ -60,7 +56,7 @@ impl Search<'_> {
     // The first setting of the features from k on, at or after that of the places, that the branch gives the number.
     // First with the same value of feature k, then with the smallest greater one that leads to the number.
     fn seek(&self, k: usize, b: u32, from: [u8; 16]) -> Option<[u8; 16]>
-        requires { (Spot self.now.t.now k b) × (Marks self.now.t.now self.now.number self.now.has.now) × (Valid (drop k (sizes self.now.t.now)) (slice k (features self.now.t.now) from)) }
+        requires { (Spot self.now.t.now k b) × (Marks self.now.t.now self.now.number self.now.leads.now) × (Valid (drop k (sizes self.now.t.now)) (slice k (features self.now.t.now) from)) }
         ensures { Seeks self.now.t.now self.now.number k b from result }
     {
         if features_word(self.t) as usize <= k {
@@ -82,11 +78,11 @@ pub fn first_with(t: &[u32], place: usize, number: u32, setting: &[u8]) -> Optio
     requires { (Sound t.now) × (place < 32) × (Valid (sizes t.now) setting.now) }
     ensures { Answers (sizes t.now) (rule_of t.now place) number setting.now result }
 {
-    let has = answers(t, Wanted::Exactly(number));
+    let leads = answers(t, Wanted::Exactly(number));
     let from = Setting::of(setting).values;
     let search = Search {
         t,
-        has: &has,
+        leads: &leads,
         number,
     };
     let values = search.seek(0, root_word(t, place), from)?;

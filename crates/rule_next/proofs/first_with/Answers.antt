@@ -7,7 +7,7 @@ pub seek-requires : goal.seek-requires
 seek-requires c =
     let a = c.args in let p = c.requires in (
       spot_root p.0 a.place c.root_word.result p.1 c.root_word.ensures,
-      c.answers-has.ensures,
+      c.answers-leads.ensures,
       rw c.of.ensures (seek_start p.0 a.place a.number a.setting.now p.2),
     )
 

@@ -12,7 +12,7 @@ child_of-requires c = let p = c.requires in (spot_place p.0, p.1, omega arith)
 pub branch_meets-requires : goal.branch_meets-requires
 branch_meets-requires c =
     let p = c.requires in let h = p.0.sound.header in
-    omega (arith, p.3.long, h.most, h.within, spot_small (spot_next p.0 c.loop-v.v c.child_of.result c.child_of.ensures p.1))
+    omega (arith, p.3.1.long, h.most, h.within, spot_small (spot_next p.0 c.loop-v.v c.child_of.result c.child_of.ensures p.1))
 
 pub returns-then-branch_meets : goal.returns-then-branch_meets
 returns-then-branch_meets c =
