@@ -1,10 +1,9 @@
 -- `cost_engine::rest_result`, `fill_branches` and `branch_result` meet their contracts: the remaining features fall; the first v branches are filled, and the memory is right for
 -- the table so far. Assumes nothing.
-use Rattle.std.proofs.Common.{◌≡◌, refl, sym, ◌+◌, arith, ℤ}
+use Rattle.std.proofs.Common.{◌≡◌, refl, sym, ◌+◌, arith}
 use mathlib.Core.Path.{subst, ◌∙◌}
 use Rattle.table_words.proofs.Words.{kept_features, kept_size}
 use Rattle.table_notes.specs.Plain.{plain}
-use Rattle.table_notes.proofs.Plain.{length_plain}
 use Rattle.cost_nodes.proofs.Filling.{gives_is, gives_none, fill_start, fill_more, fill_stop, stop_result, fill_armed, fill_make, filled, not_filled, filling_ext}
 use Rattle.cost_nodes.proofs.Stepping.{good_small}
 use Rattle.theory.proofs.Growing.{make_grows}
@@ -13,7 +12,6 @@ use Rattle.table_memory.proofs.Building.{noted_result}
 use Rattle.table_memory.proofs.Remembering.{noted_hit}
 use Rattle.table_notes.proofs.Far.{grown_windowed}
 use Rattle.cost_notes.proofs.Reading.{plain_head}
-use Rattle.cost_engine.specs.Joint.{Operands}
 use Rattle.cost_engine.specs.Memory.{Still}
 use Rattle.cost_engine.proofs.Recalling.{recalled_result, result_recalled, right_here, right_more}
 use Rattle.cost_engine.proofs.Walking.{first_place, second_place, operands_more, operands_end, at_gap, still_left, skip_most, operands_skip, joint_skip, operands_step, joint_held, operands_ext, joint_ends, sum_fits, joint_raised, joint_stopped}
@@ -23,23 +21,10 @@ use Rattle.cost_engine.proofs.+branch_result_fill_branches_rest_result.Goals as 
 pub branch_result-gap_word-g-requires : goal.branch_result-gap_word-g-requires
 branch_result-gap_word-g-requires t c = operands_more _ _ _ _ _ _ c.requires.0.rest
 
-pub branch_result-rest_result-requires : goal.branch_result-rest_result-requires
-branch_result-rest_result-requires t c = (
-  omega arith,
-  (
-    subst (λ (z : ℤ). Operands (plain c.args.t.now) c.args.o c.args.k c.args.a.to c.args.b.to z)
-        (sym c.gap_word-g.ensures) c.requires.0.rest,
-    c.requires.1,
-  ),
-)
-
 pub branch_result-returns-in_err-rest : goal.branch_result-returns-in_err-rest
 branch_result-returns-in_err-rest t c =
     let r = at_gap (plain c.args.t.now) _ _ _ _ _ _ _ c.rest_result.result c.gap_word-g.ensures c.rest_result.ensures.0 in
     rw c.from_residual.ensures (joint_stopped (plain c.args.t.now) _ _ _ _ _ _ _ c.requires.0 _ (gives_none c.in_err-rest.was r), tt)
-
-pub branch_result-ahead_word-requires : goal.branch_result-ahead_word-requires
-branch_result-ahead_word-requires t c = c.requires.0.lead
 
 pub branch_result-sum_word-requires : goal.branch_result-sum_word-requires
 branch_result-sum_word-requires t c =
@@ -53,10 +38,6 @@ branch_result-returns t c =
           (gives_is c.in_ok-rest.was r),
       subst (Still _ _ _) c.in_ok-rest.was c.rest_result.ensures.1,
     )
-
-pub fill_branches-size_word-m-requires : goal.fill_branches-size_word-m-requires
-fill_branches-size_word-m-requires t c =
-    omega (arith, c.requires.0.holds.laid.laid.few, c.requires.2, c.requires.0.holds.laid.laid.room, length_plain c.args.t.now)
 
 pub fill_branches-loop-v-init : goal.fill_branches-loop-v-init
 fill_branches-loop-v-init t c =
@@ -83,9 +64,6 @@ fill_branches-arm_in-b-requires t c =
       omega (arith, kept_features _ _ kp, c.requires.2),
       omega (arith, kept_size _ _ kp c.requires.0.holds.laid.laid.few c.args.k c.requires.2, l.invariant.0),
     )
-
-pub fill_branches-overflow_add-k : goal.fill_branches-overflow_add-k
-fill_branches-overflow_add-k t c = omega (arith, c.requires.0.holds.laid.laid.few, c.requires.2)
 
 pub fill_branches-branch_result-requires : goal.fill_branches-branch_result-requires
 fill_branches-branch_result-requires t c =
@@ -116,10 +94,6 @@ fill_branches-returns-in_err-c t c =
       tt,
     )
 
-pub fill_branches-bounds-arms-v : goal.fill_branches-bounds-arms-v
-fill_branches-bounds-arms-v t c =
-    omega (arith, c.requires.0.holds.laid.laid.large c.args.k c.requires.2, c.loop-v.invariant.0, c.loop-v.invariant.1.long)
-
 pub fill_branches-loop-v-preserved : goal.fill_branches-loop-v-preserved
 fill_branches-loop-v-preserved t c =
     let l = c.loop-v in
@@ -131,12 +105,6 @@ fill_branches-loop-v-preserved t c =
           c.branch_result.ensures.0 c.in_ok-c.was,
       subst (Still _ _ _) c.in_ok-c.was c.branch_result.ensures.1,
     )
-
-pub fill_branches-returns : goal.fill_branches-returns
-fill_branches-returns t c =
-    let l = c.loop-v in
-    let e : l.v ≡ size (plain c.args.t.now) c.args.k = omega (arith, l.invariant.0) in
-    (rw e at l.invariant.1, l.invariant.2)
 
 pub rest_result-overflow_add-x : goal.rest_result-overflow_add-x
 rest_result-overflow_add-x t c =
@@ -162,14 +130,6 @@ pub rest_result-returns-then-k-m : goal.rest_result-returns-then-k-m
 rest_result-returns-then-k-m t c =
     let l = c.lowest-m.ensures in
     (joint_skip _ _ _ _ _ _ l.0 l.1 _ c.requires.0 (omega (arith, c.if-k-m)) _ c.rest_result.result c.rest_result.ensures.0, c.rest_result.ensures.1)
-
-pub rest_result-overflow_add-tag : goal.rest_result-overflow_add-tag
-rest_result-overflow_add-tag t c =
-    let hk = still_left _ _ _ _ _ _ c.requires.0 c.if-x-y-eq0.false in
-    omega (arith, c.requires.0.holds.laid.laid.few)
-
-pub rest_result-recall_in-requires : goal.rest_result-recall_in-requires
-rest_result-recall_in-requires t c = c.requires.1.room
 
 pub rest_result-returns-in-Some : goal.rest_result-returns-in-Some
 rest_result-returns-in-Some t c =

@@ -5,7 +5,6 @@ use Rattle.table_notes.proofs.Windows.{lent_cleared}
 use Rattle.cost_words.proofs.Packing.{int_zero}
 use Rattle.table_memory.proofs.Remembering.{noted_none}
 use Rattle.cost_nodes.specs.Nodes.{Result}
-use Rattle.cost_engine.specs.Memory.{Still}
 use Rattle.cost_engine.proofs.Walking.{start, joint_start, joinable_plain, joint_cleared}
 use mathlib.Core.Path.{subst}
 use Rattle.promises.specs.CostWords.{cost_branch as branch}
@@ -28,9 +27,6 @@ returns-in_default c =
     (joint_cleared c.args.t.now _ _ _ c.args.o (branch c.args.a.to c.args.a.adds) (branch c.args.b.to c.args.b.adds) w.result
     c.requires.first.rest n.same c.clear_far.ensures
     (joint_start _ _ _ _ _ _ (joinable_plain c.args.t.now _ c.args.o _ _ c.requires n.same) _ int_zero _ w.result w.ensures.0))
-
-pub clear_window-requires : goal.clear_window-requires
-clear_window-requires c = (subst (Still _ _ _) c.in-Some.is c.branch_result.ensures.1).room
 
 pub returns : goal.returns
 returns c =

@@ -4,7 +4,7 @@ use mathlib.Core.Path.{◌∙◌}
 use Rattle.cost_notes.proofs.Reading.{plain_head}
 use Rattle.cost_nodes.proofs.Stepping.{good_small}
 use Rattle.cost_range.proofs.Ending.{ends_are, ends_lost, folds_more}
-use Rattle.cost_range.proofs.Noting.{noted_more, features_over, first_over, second_over, step_over, branches_over}
+use Rattle.cost_range.proofs.Noting.{noted_more, features_over, step_over, branches_over}
 use Rattle.table_memory.proofs.Remembering.{noted_hit}
 use Rattle.cost_range.proofs.Walking.{pair_left, pair_from_lem, pair_jump, all_folded, one_lost, reaches_jump, base_lost, rest_lost, low_lost, high_lost, both_stand, right_here}
 use Rattle.cost_range.proofs.Meeting.{first_ended, second_ended}
@@ -14,9 +14,6 @@ use Rattle.cost_range.proofs.+branch_ends_fold_branches_rest_ends.Goals.{rest_en
 pub branch_ends-returns-in_err-base : goal.branch_ends-returns-in_err-base
 branch_ends-returns-in_err-base t c =
     rw c.from_residual.ensures (base_lost _ _ _ c.args.a.adds _ c.args.b.adds c.requires.0 c.args.minus c.in_err-base.ensures, refl, c.requires.1)
-
-pub branch_ends-rest_ends-requires : goal.branch_ends-rest_ends-requires
-branch_ends-rest_ends-requires t c = (omega arith, (c.requires.0, c.requires.1))
 
 pub branch_ends-returns-in_err-rest : goal.branch_ends-returns-in_err-rest
 branch_ends-returns-in_err-rest t c =
@@ -44,9 +41,6 @@ branch_ends-returns t c =
     let q = ends_are z.result c.in_ok-rest.was z.ensures.0 in
     (both_stand _ _ _ c.args.a.adds _ c.args.b.adds c.requires.0 c.args.minus _ c.in_ok-rest.rest c.in_ok-base.ensures q _ _ c.in_ok-low.ensures c.in_ok-high.ensures, z.ensures.1, z.ensures.2)
 
-pub fold_branches-size_word-m-requires : goal.fold_branches-size_word-m-requires
-fold_branches-size_word-m-requires t c = omega (arith, c.requires.1.room.roomy.room, c.requires.2, c.requires.0.holds.laid.laid.few)
-
 pub fold_branches-loop-v-init : goal.fold_branches-loop-v-init
 fold_branches-loop-v-init t c = (
   c.size_word-m.ensures ∙ sym (plain_head _ _ (omega (arith, c.requires.2, c.requires.0.holds.laid.laid.few))),
@@ -54,14 +48,6 @@ fold_branches-loop-v-init t c = (
   refl,
   c.requires.1,
 )
-
-pub fold_branches-arm_in-a-requires : goal.fold_branches-arm_in-a-requires
-fold_branches-arm_in-a-requires t c =
-    let l = c.loop-v in first_over l.invariant.2 _ _ _ c.requires.0 c.requires.2 l.v (omega (arith, l.invariant.0))
-
-pub fold_branches-arm_in-b-requires : goal.fold_branches-arm_in-b-requires
-fold_branches-arm_in-b-requires t c =
-    let l = c.loop-v in second_over l.invariant.2 _ _ _ c.requires.0 c.requires.2 l.v (omega (arith, l.invariant.0))
 
 pub fold_branches-branch_ends-requires : goal.fold_branches-branch_ends-requires
 fold_branches-branch_ends-requires t c =
@@ -132,9 +118,6 @@ rest_ends-overflow_cast-tag t c =
     let hj = pair_left _ _ _ _ c.requires.0 m.result m.ensures.0 m.ensures.1 c.if-x-eq0.false in
     omega (arith, c.requires.0.holds.laid.laid.few)
 
-pub rest_ends-recall_in-requires : goal.rest_ends-recall_in-requires
-rest_ends-recall_in-requires t c = c.requires.1.room
-
 pub rest_ends-returns-in-Some : goal.rest_ends-returns-in-Some
 rest_ends-returns-in-Some t c =
     let m = c.lowest-j in
@@ -163,9 +146,6 @@ rest_ends-returns-in_err-ends t c =
     let hj = pair_left _ _ _ _ p j m.ensures.0 m.ensures.1 c.if-x-eq0.false in
     let kj = pair_from_lem _ _ _ _ p j m.ensures.0 m.ensures.1 m.ensures.2 in
     rw c.from_residual.ensures (reaches_jump _ _ _ _ p c.args.minus j m.ensures.0 m.ensures.1 kj hj None (ends_lost z.result c.in_err-ends.was z.ensures.0), z.ensures.1, z.ensures.2)
-
-pub rest_ends-remember_in-requires : goal.rest_ends-remember_in-requires
-rest_ends-remember_in-requires t c = (c.fold_branches.ensures.2.room, omega arith)
 
 pub rest_ends-returns : goal.rest_ends-returns
 rest_ends-returns t c =

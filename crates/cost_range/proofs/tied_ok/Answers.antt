@@ -3,11 +3,8 @@ use Rattle.std.proofs.Common.{refl}
 use Rattle.settings.proofs.Answers.{sure, retell}
 use Rattle.cost_nodes.proofs.Reading.{pos_from}
 use Rattle.cost_range.proofs.Meeting.{span_side, met_within}
-use Rattle.cost_range.proofs.Ranging.{ends_tell, operand_pair}
+use Rattle.cost_range.proofs.Ranging.{ends_tell}
 use Rattle.cost_range.proofs.tied_ok.Goals as goal
-
-pub whole_ends-requires : goal.whole_ends-requires
-whole_ends-requires c = (operand_pair _ c.args.a.to c.args.a.adds c.args.b.to c.args.b.adds c.requires.0 c.requires.1, c.requires.0.rest)
 
 pub returns-then-ends_inside : goal.returns-then-ends_inside
 returns-then-ends_inside c =

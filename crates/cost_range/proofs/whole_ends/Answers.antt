@@ -12,9 +12,6 @@ branch_ends-r-requires c =
       noted_none _ _ _ _ _ n (lent_cleared c.args.s.now c.clear.new.s (c.begin-lent.result - 0) (omega (arith, n.fits)) c.clear.auto.s c.clear.ensures),
     )
 
-pub clear_window-requires : goal.clear_window-requires
-clear_window-requires c = c.branch_ends-r.ensures.2.room
-
 pub returns : goal.returns
 returns c =
     let z = c.branch_ends-r in let e = c.begin-lent.ensures.same in (
