@@ -13,11 +13,12 @@ use Rattle.theory_costs.proofs.Relative.{offs}
 use Rattle.settings.proofs.Endings.{stop}
 use Rattle.settings.specs.Refusals.{Ends}
 use Rattle.settings.specs.declared.refusals.Refusal.TheVariants.{Range}
-use Rattle.settings.specs.declared.refusals.Outcome.{Outcome}
-use Rattle.settings.specs.declared.refusals.Outcome.TheVariants.{Refused}
+use Rattle.settings.specs.Refusals.{Outcome}
+use Rattle.settings.specs.Refusals.{Refused}
 use Rattle.cost_words.proofs.Reading.{at_costs}
 use Rattle.cost_nodes.specs.Nodes.{Result}
-use Rattle.cost_nodes.specs.declared.Answer.{Answer}
+use Rattle.std.specs.Prelude.{Option}
+use Rattle.cost_words.specs.declared.Arm.{Arm}
 use Rattle.cost_engine.specs.Joint.{op_of, together, Joinable}
 use Rattle.cost_engine.specs.declared.operators.Operator.{Operator}
 use Rattle.cost_engine.specs.declared.operators.Operator.TheVariants.{Scale}
@@ -64,7 +65,7 @@ module _ {w u : List ℕ} (e : u ≡ w) (o : Operator) (b c : Branch costs) wher
   pub joinable_again : Joinable w o b c → Joinable u o b c
   joinable_again j = rw e j
 
-  pub result_again : (t : List ℕ) (a : Answer) → Result u t 0 (together o (meaning (nodes u) b) (meaning (nodes u) c)) a → Result w t 0 (together o (meaning (nodes w) b) (meaning (nodes w) c)) a
+  pub result_again : (t : List ℕ) (a : Option Arm) → Result u t 0 (together o (meaning (nodes u) b) (meaning (nodes u) c)) a → Result w t 0 (together o (meaning (nodes w) b) (meaning (nodes w) c)) a
   result_again t a r = subst (λ (z : List ℕ). Result z t 0 (together o (meaning (nodes z) b) (meaning (nodes z) c)) a) e r
 
 -- ---- the branches b and c of places p and q

@@ -4,7 +4,7 @@ use Rattle.theory.specs.Functions.{Agree}
 use Rattle.theory.specs.Costs.{Cost}
 use Rattle.settings.specs.Refusals.{Cases, ◌when◌else◌, taken}
 use Rattle.settings.specs.declared.refusals.Refusal.TheVariants.{Range, NoRoom}
-use Rattle.settings.specs.declared.refusals.Outcome.{Outcome}
+use Rattle.settings.specs.Refusals.{Outcome}
 use Rattle.cost_calls.specs.Writing.{Writes}
 use Rattle.cost_settling.specs.Settling.{Exceeds}
 use Rattle.promises.specs.Range.{LeavesRange}

@@ -11,67 +11,60 @@ ghost use Rattle.cost_operations.specs.Pricing.{Listed, Worded};
 
 use cost_amounts::{amount_ok, word_of};
 use cost_calls::door;
-use cost_nodes::make;
+use cost_nodes::{Arm, make};
 use cost_settling::settle;
-use settings::{Outcome, Refusal};
-use table_words::{count_word, features_word, size_word, wide};
+use settings::Refusal;
+use table_words::{count_word, features_word, size_word};
 
 // Whether each price lies within ±1,000,000,000.
 fn prices_ok(prices: &[i64]) -> bool
     ensures { Tells result (Priced prices.now) }
 {
-    let mut v: usize = 0;
-    while v < prices.len() {
-        if !amount_ok(prices[v]) {
-            return false;
-        }
-        v += 1;
-    }
-    true
+    prices.iter().all(|price| amount_ok(*price))
 }
 
-// The words that stand for the prices.
-fn words_of(prices: &[i64]) -> [u32; 8]
+// Whether there is a price for each value of a feature of the table, all in range.
+fn prices_fit(t: &[u32], feature: usize, prices: &[i64]) -> bool
+    requires { CostSound t.now }
+    ensures { Tells result (Listed feature prices.now t.now) }
+{
+    feature < features_word(t) as usize
+        && prices.len() == size_word(t, feature) as usize
+        && prices_ok(prices)
+}
+
+// The branches that go to the end and add the prices.
+fn arms_of(prices: &[i64]) -> [Arm; 8]
     requires { (Priced prices.now) × (length prices.now ≤ 8) }
     ensures { Worded prices.now result }
 {
-    let mut list = [0u32; 8];
-    let mut v: usize = 0;
-    while v < prices.len() {
-        list[v] = word_of(prices[v]);
-        v += 1;
+    let mut arms = [Arm { to: 0, adds: 0 }; 8];
+    for (v, price) in prices.iter().enumerate() {
+        arms[v] = Arm {
+            to: 0,
+            adds: word_of(*price),
+        };
     }
-    list
+    arms
 }
 
 // The price list becomes the cost of the place.
-fn put_prices(t: &mut [u32], place: usize, feature: usize, prices: &[i64]) -> Outcome
+fn put_prices(t: &mut [u32], place: usize, feature: usize, prices: &[i64]) -> Result<(), Refusal>
     requires { (CostSound t.old) × (place < 16) × (Listed feature prices.now t.old) }
     ensures { Puts place (priced feature prices.now) t.old t.new result }
 {
-    let used = wide(count_word(t));
-    let goes = [0u32; 8];
-    let adds = words_of(prices);
-    let r = make(t, feature, &goes, &adds);
+    let used = count_word(t) as usize;
+    let r = make(t, feature, &arms_of(prices));
     settle(t, place, used, r)
 }
 
 // The cost of the place becomes the price of the feature's value.
-pub fn price(t: &mut [u32], place: usize, feature: usize, prices: &[i64]) -> Outcome
+pub fn price(t: &mut [u32], place: usize, feature: usize, prices: &[i64]) -> Result<(), Refusal>
     ensures { Meets (D.price place feature prices.now) t.old t.new result }
 {
-    let o = door(t, &[place]);
-    if let Outcome::Refused(x) = o {
-        return Outcome::Refused(x);
-    }
-    if wide(features_word(t)) <= feature {
-        return Outcome::Refused(Refusal::BadArgument);
-    }
-    if prices.len() != wide(size_word(t, feature)) {
-        return Outcome::Refused(Refusal::BadArgument);
-    }
-    if !prices_ok(prices) {
-        return Outcome::Refused(Refusal::BadArgument);
+    door(t, &[place])?;
+    if !prices_fit(t, feature, prices) {
+        return Err(Refusal::BadArgument);
     }
     put_prices(t, place, feature, prices)
 }

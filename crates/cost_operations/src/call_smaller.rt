@@ -4,10 +4,16 @@ ghost use Rattle.promises.specs.CostDeeds as D;
 
 use crate::joining::join_places;
 use cost_engine::Operator;
-use settings::Outcome;
+use settings::Refusal;
 
 // The cost of the place becomes the smaller of those of two places.
-pub fn smaller(t: &mut [u32], scratch: &mut [u32], place: usize, a: usize, b: usize) -> Outcome
+pub fn smaller(
+    t: &mut [u32],
+    scratch: &mut [u32],
+    place: usize,
+    a: usize,
+    b: usize,
+) -> Result<(), Refusal>
     ensures { Meets (D.smaller place a b) t.old t.new result }
 {
     join_places(t, scratch, place, Operator::Smaller, a, b)

@@ -14,8 +14,8 @@ use cost_engine::{Operator, join_costs};
 use cost_nodes::{Arm, arm_of};
 use cost_range::in_range;
 use cost_settling::settle;
-use settings::{Outcome, Refusal};
-use table_words::{capacity_word, count_word, wide};
+use settings::Refusal;
+use table_words::{capacity_word, count_word};
 
 // The joint cost of two branches becomes that of the place. Its range is found by reading, before any room is taken; both walks remember in `scratch`
 // or in the far records.
@@ -26,15 +26,15 @@ fn put_joint_in(
     o: Operator,
     a: Arm,
     b: Arm,
-) -> Outcome
+) -> Result<(), Refusal>
     requires { (CostSound t.old) × (place < 16) × (Operable t.old o (branch a.to a.adds) (branch b.to b.adds)) }
     ensures { Joins place (together o (meaning (nodes t.old) (branch a.to a.adds)) (meaning (nodes t.old) (branch b.to b.adds)))
         t.old t.new result }
 {
     if !in_range(t, scratch, o, a, b) {
-        return Outcome::Refused(Refusal::Range);
+        return Err(Refusal::Range);
     }
-    let used = wide(count_word(t));
+    let used = count_word(t) as usize;
     let r = join_costs(t, scratch, o, a, b);
     settle(t, place, used, r)
 }
@@ -47,16 +47,13 @@ pub fn put_joint(
     o: Operator,
     a: Arm,
     b: Arm,
-) -> Outcome
+) -> Result<(), Refusal>
     requires { (CostSound t.old) × (place < 16) × (Operable t.old o (branch a.to a.adds) (branch b.to b.adds)) }
     ensures { Joins place (together o (meaning (nodes t.old) (branch a.to a.adds)) (meaning (nodes t.old) (branch b.to b.adds)))
         t.old t.new result }
 {
-    if capacity_word(t) < 384 {
-        if scratch.len() < 6144 {
-            let mut own = [0u32; 6144];
-            return put_joint_in(t, &mut own, place, o, a, b);
-        }
+    if capacity_word(t) < 384 && scratch.len() < 6144 {
+        return put_joint_in(t, &mut [0; 6144], place, o, a, b);
     }
     put_joint_in(t, scratch, place, o, a, b)
 }
@@ -69,14 +66,11 @@ pub fn join_places(
     o: Operator,
     a: usize,
     b: usize,
-) -> Outcome
+) -> Result<(), Refusal>
     requires { Factored o }
     ensures { Meets (join (op_of o) place a b) t.old t.new result }
 {
-    let d = door(t, &[place, a, b]);
-    if let Outcome::Refused(x) = d {
-        return Outcome::Refused(x);
-    }
+    door(t, &[place, a, b])?;
     let x = arm_of(t, a);
     let y = arm_of(t, b);
     put_joint(t, scratch, place, o, x, y)

@@ -1,10 +1,9 @@
 -- `cost_operations::call_scale::scale` meets its contract: the door, the factor tested, and it comes through as its word. Assumes nothing.
 use Rattle.std.proofs.Common.{arith, to_z-of_z, refl, sym}
 use Rattle.cost_operations.proofs.Operands.{operable, scale_agrees, range_ends}
-use Rattle.cost_calls.proofs.Sounding.{sound_long}
 use Rattle.table_calls.proofs.Drawn.{wrote}
 use Rattle.cost_calls.proofs.Edge.{drawn}
-use Rattle.table_calls.proofs.Meeting.{turned_away, let_in, refuses}
+use Rattle.table_calls.proofs.Meeting.{let_in, refuses}
 use Rattle.promises.specs.CostOperations.{scaled}
 use Rattle.promises.specs.CostDeeds.{cost_looked, costed}
 use Rattle.promises.specs.CostDeeds as D
@@ -13,45 +12,32 @@ use Rattle.promises.specs.Table.{state_of}
 use Rattle.promises.specs.Range.{cost_most}
 use Rattle.promises.specs.Integers.{Fit}
 use Rattle.settings.proofs.Endings.{stop, pass}
-use Rattle.settings.proofs.Answers.{denied, granted}
 use mathlib.Core.Path.{subst, ◌∙◌}
 use Rattle.cost_operations.proofs.call_scale.scale.Goals as goal
-
-pub returns-in-Refused : goal.returns-in-Refused
-returns-in-Refused c = refuses refl refl (turned_away c.door-o.ensures c.in-Refused.is)
 
 pub returns-then-not-amount_ok : goal.returns-then-not-amount_ok
 returns-then-not-amount_ok c =
     let e = to_z-of_z c.ranges.factor in
-    refuses refl refl (let_in c.door-o.ensures c.in_default.is
-    (stop (λ f. denied c.amount_ok.result c.if-not-amount_ok.true-raw c.amount_ok.ensures (subst (Fit cost_most) (sym e) f))))
-
-pub arm_of-x-requires : goal.arm_of-x-requires
-arm_of-x-requires c =
-    let e = c.door-o.ensures in let t = c.in_default.is in
-    (omega (arith, sound_long (e.sound t)), (e.there t).each 1 (omega arith))
-
-pub word_of-requires : goal.word_of-requires
-word_of-requires c = granted c.amount_ok.result c.if-not-amount_ok.false-raw c.amount_ok.ensures
+    refuses refl refl (let_in c.door.ensures c.in_ok-door.was (stop (λ f. c.if-not-amount_ok.ensures (subst (Fit cost_most) (sym e) f))))
 
 pub put_joint-requires : goal.put_joint-requires
 put_joint-requires c =
-    let e = c.door-o.ensures in
-    let t = c.in_default.is in
+    let e = c.door.ensures in
+    let t = c.in_ok-door.was in
     let h = (e.there t).each 1 (omega arith) in (
       e.sound t,
       (e.there t).each 0 (omega arith),
       operable (e.sound t) _ _ _ c.args.a c.args.a c.arm_of-x.ensures
           c.arm_of-x.ensures h h (subst (Fit cost_most) (sym c.word_of.ensures)
-          (granted c.amount_ok.result c.if-not-amount_ok.false-raw c.amount_ok.ensures)),
+          c.if-not-amount_ok.ensures),
     )
 
 pub returns : goal.returns
 returns c =
-    let e = c.door-o.ensures in
-    let t = c.in_default.is in
+    let e = c.door.ensures in
+    let t = c.in_ok-door.was in
     let i = to_z-of_z c.ranges.factor in
-    let f : Fit cost_most c.args.factor = subst (Fit cost_most) i (granted c.amount_ok.result c.if-not-amount_ok.false-raw c.amount_ok.ensures) in
+    let f : Fit cost_most c.args.factor = subst (Fit cost_most) i c.if-not-amount_ok.ensures in
     let h = scaled c.args.factor (on (state_of costed c.args.t.now) c.args.a) in
     let x = c.put_joint.ensures.joins h (scale_agrees c.args.t.now _ c.args.a _ c.args.factor c.arm_of-x.ensures
     (c.word_of.ensures ∙ i) ((e.there t).each 1 (omega arith))) in

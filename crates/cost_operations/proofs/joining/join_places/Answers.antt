@@ -1,32 +1,20 @@
 -- `cost_operations::joining::join_places` meets its contract: the door, and the branches of the places are the operands. Assumes nothing.
 use Rattle.std.proofs.Common.{arith, refl}
 use Rattle.cost_operations.proofs.Operands.{operable, places_agree, range_ends}
-use Rattle.cost_calls.proofs.Sounding.{sound_long}
 use Rattle.table_calls.proofs.Drawn.{wrote}
 use Rattle.cost_calls.proofs.Edge.{drawn}
 use Rattle.cost_engine.specs.Joint.{op_of}
-use Rattle.table_calls.proofs.Meeting.{turned_away, let_in, refuses}
+use Rattle.table_calls.proofs.Meeting.{let_in}
 use Rattle.promises.specs.CostOperations.{joined}
 use Rattle.promises.specs.CostDeeds.{cost_looked, costed, join}
 use Rattle.promises.specs.State.{on}
 use Rattle.promises.specs.Table.{state_of}
 use Rattle.cost_operations.proofs.joining.join_places.Goals as goal
 
-pub returns-in-Refused : goal.returns-in-Refused
-returns-in-Refused c = refuses refl refl (turned_away c.door-d.ensures c.in-Refused.is)
-
-pub arm_of-x-requires : goal.arm_of-x-requires
-arm_of-x-requires c = let e = c.door-d.ensures in let t = c.in_default.is in (omega (arith, sound_long (e.sound t)), (e.there t).each 1 (omega arith))
-
-pub arm_of-y-requires : goal.arm_of-y-requires
-arm_of-y-requires c =
-    let e = c.door-d.ensures in let t = c.in_default.is in
-    (omega (arith, sound_long (e.sound t)), (e.there t).each 2 (omega arith))
-
 pub put_joint-requires : goal.put_joint-requires
 put_joint-requires c =
-    let e = c.door-d.ensures in
-    let t = c.in_default.is in (
+    let e = c.door.ensures in
+    let t = c.in_ok-door.was in (
       e.sound t,
       (e.there t).each 0 (omega arith),
       operable (e.sound t) c.args.o _ _ c.args.a c.args.b c.arm_of-x.ensures
@@ -35,8 +23,8 @@ put_joint-requires c =
 
 pub returns : goal.returns
 returns c =
-    let e = c.door-d.ensures in
-    let t = c.in_default.is in
+    let e = c.door.ensures in
+    let t = c.in_ok-door.was in
     let z = state_of costed c.args.t.now in
     let h = joined (op_of c.args.o) (on z c.args.a) (on z c.args.b) in
     let x = c.put_joint.ensures.joins h (places_agree (e.sound t) c.args.o _ _ c.args.a c.args.b c.arm_of-x.ensures
