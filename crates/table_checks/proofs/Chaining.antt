@@ -2,7 +2,7 @@
 use mathlib.Core.Path.{◌≡◌, sym, ap, subst, ◌∙◌}
 use mathlib.Core.Logic.{⊎_elim}
 use mathlib.Core.List.{List}
-use Prim.Native.Nat.{ℕ, ◌+◌, ◌-◌, ◌≤◌, ◌<◌}
+use Prim.Native.Nat.{ℕ, zero, suc, ◌+◌, ◌-◌, ◌≤◌, ◌<◌}
 use native.Mathlib.Omega.{arith}
 use native.Mathlib.Numerals.{add-one}
 use lib.ListN.{length, get_or, set, length-set}
@@ -10,8 +10,13 @@ use lib.Seq.{get_or-set_same, get_or-set_other}
 use Rattle.table_words.proofs.Tab.{same, split}
 use Rattle.table_words.proofs.Words.{hash_ext}
 use Rattle.table_words.proofs.Chains.{last_none, last_here, last_not, Last, last_is}
-use Rattle.promises.specs.Words.{feature, body, link, hash_of, hash_at, last_of}
+use Rattle.promises.specs.Words.{word, feature, body, link, hash_of, hash_at, last_of}
 use Rattle.promises.specs.Sound.{Same, Alone, Linked}
+
+-- twins agree word by word
+pub same_word : (w : List ℕ) (i j : ℕ) → Same w i j → (v : ℕ) → v < 13 → word w i v ≡ word w j v
+same_word w i j s zero h = s.feature
+same_word w i j s (suc v) h = let e : suc v ≡ 1 + v = omega arith in rw e (s.each v (omega arith))
 
 -- twins have one hash
 pub same_hash : (w : List ℕ) (i j : ℕ) → Same w i j → hash_at w i ≡ hash_at w j

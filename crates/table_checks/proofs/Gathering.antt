@@ -1,16 +1,17 @@
--- The bits of words put together are 0 exactly if all of the words are. Assumes nothing.
+-- The bits of words put together are 0 exactly if all of the words are; and two words have no bit that differs exactly if they are one. Assumes nothing.
 use mathlib.Core.Path.{◌≡◌, subst, sym, ◌∙◌}
 use mathlib.Core.Logic.{⊎_elim}
 use mathlib.Core.List.{List}
 use Prim.Native.Nat.{ℕ, ◌+◌, ◌≤◌, ◌<◌}
 use native.Mathlib.Omega.{arith}
-use lib.Bits.{bit_or, or_add_and, or_zero_r, and_le_l, and_le_r}
+use lib.Bits.{bit_or, bit_xor, or_add_and, or_zero_r, and_le_l, and_le_r, xor_add_and, xor_self}
 use lib.Dec.{eqb}
 use lib.ListN.{get_or}
-use Rattle.table_words.proofs.Tab.{same, split}
+use Rattle.table_words.proofs.Tab.{same}
 use Rattle.settings.specs.Tells.{Tells}
 use Rattle.settings.proofs.Answers.{tells_eqb}
-use Rattle.promises.specs.Words.{Zeros}
+use Rattle.promises.specs.Words.{bucket}
+use Rattle.table_checks.specs.Chained.{Headed}
 
 -- s tells, as the bits put together, of the words f from a to j: 0 exactly if they are
 pub record Gathered (f : ℕ → ℕ) (a j s : ℕ) : Type 0 where
@@ -33,9 +34,16 @@ gathered_more f a j s y ey p =
           subst (λ (u : ℕ). bit_or s u ≡ 0) (sym (ey ∙ z j p.from (omega arith))) (or_zero_r s ∙ p.none (λ x h g. z x h (omega arith)));
     }
 
--- where they end: at b, or at a where there is nothing to put together
-pub gathered_all : (w : List ℕ) (a b j s : ℕ) → b ≤ j → (b < j → j ≤ a) → Gathered (λ x. get_or w x 0) a j s → Tells (eqb s 0) (Zeros w a b)
-gathered_all w a b j s l n p =
+-- ---- words that differ
+xor_one : (a b : ℕ) → bit_xor a b ≡ 0 → a ≡ b
+xor_one a b e = omega (arith, e, xor_add_and a b, and_le_l a b, and_le_r a b)
+
+one_xor : (a b : ℕ) → a ≡ b → bit_xor a b ≡ 0
+one_xor a b e = subst (λ (u : ℕ). bit_xor a u ≡ 0) e (xor_self a)
+
+-- the bits by which chain heads differ from a list
+pub headed_all : (w last : List ℕ) (s : ℕ) → Gathered (λ x. bit_xor (bucket w x) (get_or last x 0)) 0 4096 s → Tells (eqb s 0) (Headed w last)
+headed_all w last s p =
     tells_eqb s 0
-    (λ e. record { zeros = λ x h g. p.each e x h (omega arith) })
-    (λ z. p.none (λ x h g. ⊎_elim (λ q. z.zeros x h q) (λ q. absurd (omega (arith, n (omega arith)))) (split x b)))
+    (λ e. record { heads = λ x h. xor_one (bucket w x) (get_or last x 0) (p.each e x (omega arith) h) })
+    (λ z. p.none (λ x g h. one_xor (bucket w x) (get_or last x 0) (z.heads x h)))

@@ -12,8 +12,8 @@ ghost use Rattle.promises.specs.Sound.{Sizes, Header, Same, Alone, Linked, Chain
 
 pub use following::{lower, order_ok, roots_ok};
 use table_words::{
-    CHAINS, NODES, RECORDS, capacity_word, count_word, features_word, hash_at, head_word,
-    record_word,
+    CHAINS, NODES, RECORDS, bucket_word, capacity_word, count_word, features_word, hash_at,
+    head_word, record_word,
 };
 
 // Whether the words from a to b are 0: they are exactly if no bit is set in any. No early exit, so that the loop can be vectorised.
@@ -83,14 +83,17 @@ pub fn sits(t: &[u32], first: u32, m: usize, k: usize, b: u32) -> bool
     j < m && k <= record_word(t, j, 0) as usize
 }
 
-// Whether nodes i and j have the same feature and body.
+// Whether nodes i and j have the same feature and body: word by word, since nodes that are no twins differ early (`==` of slices is slower there).
 pub fn same(t: &[u32], i: usize, j: usize) -> bool
     requires { (Framed t.now) × (i < count t.now) × (j < count t.now) }
     ensures { Tells result (Same t.now i j) }
 {
-    let a = RECORDS + 16 * i;
-    let b = RECORDS + 16 * j;
-    t[a..a + 13] == t[b..b + 13]
+    for v in 0..13 {
+        if record_word(t, i, v) != record_word(t, j, v) {
+            return false;
+        }
+    }
+    true
 }
 
 // Whether node i has no twin before it: only nodes of its chain can be one.
@@ -109,12 +112,16 @@ pub fn alone(t: &[u32], i: usize) -> bool
     true
 }
 
-// Whether the chain heads are those of the list, compared many at a time.
+// Whether the chain heads are those of the list: no bit of any differs. No early exit, so that the loop can be vectorised (`==` of slices is slower).
 pub fn heads_ok(t: &[u32], last: &[u32]) -> bool
     requires { (8192 ≤ length t.now) × (length last.now ≡ 4096) }
     ensures { Tells result (Headed t.now last.now) }
 {
-    &t[CHAINS..RECORDS] == last
+    let mut bits = 0;
+    for h in 0..4096 {
+        bits |= bucket_word(t, h) ^ last[h];
+    }
+    bits == 0
 }
 
 // Whether the chains are those of the nodes, and no node has a twin.

@@ -5,11 +5,7 @@ use mathlib.Core.List.{List}
 use Prim.Native.Nat.{ℕ, ◌+◌, ◌*◌, ◌/◌, ◌≤◌, ◌<◌}
 use native.Mathlib.Nat.{div-add-mod', mul-le-mul_left, mul-le-mul_right}
 use native.Mathlib.Omega.{arith}
-use Rattle.std.proofs.Common.{true, eqb}
-use Rattle.std.proofs.lemmas.Slice.Eq.{slice_eq-Decides}
-use Rattle.std.proofs.lemmas.Bool.Decides.{Decides-eqb}
-use Rattle.std.specs.Cmp.Lexicographic.{pointwise}
-use lib.ListN.{length, get_or, take, drop, set, length-drop, length-set}
+use lib.ListN.{length, get_or, drop, set, length-drop, length-set}
 use lib.Seq.{length-take-le, get_or-take, get_or-drop, get_or-set_same, get_or-set_other, ext_get_or}
 use Rattle.table_words.proofs.Tab.{split, same}
 use Rattle.table_memory.specs.Memory.{noted, key_at, Inside, Entry, Stored}
@@ -44,11 +40,6 @@ key_is n s i key e h w =
 
 pub key_like : (n : ℕ) (s s' : List ℕ) (i : ℕ) → Inside n s i → Inside n s' i → ((j : ℕ) → j < n → noted n s' i j ≡ noted n s i j) → key_at n s' i ≡ key_at n s i
 key_like n s s' i h h' w = key_is n s' i (key_at n s i) (length_key n s i h) h' (λ j l. w j l ∙ sym (at_key n s i j l))
-
--- the words of an entry, compared with a key at once
-pub key_found : (s key : List ℕ) (i m : ℕ) → m ≡ length key → true ≡ pointwise eqb (take m (drop ((length key + 2) * i) s)) key → key_at (length key) s i ≡ key
-unfolding key_at
-key_found s key i m e h = subst (λ (x : ℕ). take x (drop ((length key + 2) * i) s) ≡ key) e ((slice_eq-Decides Decides-eqb (take m (drop ((length key + 2) * i) s)) key true h).0 refl)
 
 -- ---- stores
 -- entry b is written: t has its key, and the words of the result follow; the others are as they were

@@ -10,7 +10,7 @@ use Rattle.table_words.specs.Words.{Kept}
 use Rattle.table_words.proofs.Tab.{split}
 use Rattle.table_notes.specs.Plain.{Cleared, plain}
 use Rattle.table_notes.specs.Far.{far, window, memory, Aside, Windowed, Begun}
-use Rattle.table_notes.proofs.Far.{memory_far, memory_scratch, aside_memory, grown_windowed, length_far, far_part, back_plain, back_memory, back_windowed}
+use Rattle.table_notes.proofs.Far.{memory_far, aside_memory, grown_windowed, length_far, far_part, back_plain, back_memory, back_windowed}
 use Rattle.table_memory.specs.Memory.{noted, key_at, Inside, Remembers, Entry, Recalls, Stored, Noted}
 use Rattle.std.proofs.Common.{Option, Some}
 use Rattle.table_memory.proofs.Entries.{at_key, key_like}
@@ -84,19 +84,12 @@ stored_far w s ys from m key x y d a e h st =
       back_windowed w ys m d.roomy f l d e,
     )
 
--- .. or in the scratch
-pub stored_scratch : (w s s' key : List ℕ) (x y : ℕ) → window w ≡ 0 → Stored s s' key x y → Stored (memory w s) (memory w s') key x y
-stored_scratch w s s' key x y h st = rw (memory_scratch w s (omega arith), memory_scratch w s' (omega arith)) st
-
 -- what is recalled is what the memory has
 pub recalls_far : (w s : List ℕ) (from m : ℕ) (key : List ℕ) (r : Option (ℕ × ℕ)) → Windowed w → from ≡ 8192 + 16 * capacity w → m ≡ window w → 0 < m → Recalls (take m (drop from w)) key r
     → Recalls (memory w s) key r
 recalls_far w s from m key r d a e h q =
     subst (λ (u : List ℕ). Recalls u key r)
     (far_part w m from a (omega (arith, d.short)) ∙ ap (λ (i : ℕ). take i (far w)) e ∙ sym (memory_far w s (omega arith))) q
-
-pub recalls_scratch : (w s key : List ℕ) (r : Option (ℕ × ℕ)) → window w ≡ 0 → Recalls s key r → Recalls (memory w s) key r
-recalls_scratch w s key r h q = subst (λ (u : List ℕ). Recalls u key r) (sym (memory_scratch w s (omega arith))) q
 
 module _ {n : ℕ} {R : List ℕ → List ℕ → ℕ → ℕ → Type 0} where
   -- at the beginning, from a table at rest

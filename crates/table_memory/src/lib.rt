@@ -25,18 +25,19 @@ fn slot_of(slots: usize, o: u32, key: &[u32]) -> usize
     slot_at(h, slots)
 }
 
-// What entry i remembers, where it is for this key.
+// What entry i remembers, where it is for this key: word by word, since another key mostly differs at once (`==` of slices is slower there).
 fn recall_at(s: &[u32], i: usize, key: &[u32]) -> Option<(u32, u32)>
     requires { Inside (length key.now) s.now i }
     ensures { Recalls s.now key.now result }
 {
     let n = key.len();
     let base = (n + 2) * i;
-    if &s[base..base + n] == key {
-        Some((s[base + n], s[base + (n + 1)]))
-    } else {
-        None
+    for j in 0..n {
+        if s[base + j] != key[j] {
+            return None;
+        }
     }
+    Some((s[base + n], s[base + (n + 1)]))
 }
 
 // Makes entry i remember the result's words x and y for this key.

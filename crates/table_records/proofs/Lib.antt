@@ -1,7 +1,6 @@
 pub mod Writing
 pub mod Laying
 pub mod Undoing
-pub mod Matching
 pub mod Searching
 pub mod Making
 pub mod Restoring

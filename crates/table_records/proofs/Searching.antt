@@ -9,8 +9,7 @@ use Rattle.table_words.proofs.Tab.{split, same}
 use Rattle.table_words.proofs.Words.{hash_small}
 use Rattle.table_words.proofs.Chains.{Last, last_is}
 use Rattle.table_records.specs.Laid.{Laid}
-use Rattle.table_records.specs.Changes.{RecordIs, Finds}
-use Rattle.std.proofs.Common.{Some, None}
+use Rattle.table_records.specs.Changes.{RecordIs}
 use Rattle.table_records.proofs.Laying.{hash_is}
 use Rattle.promises.specs.Words.{count, link, bucket, hash_of, hash_at}
 
@@ -48,11 +47,3 @@ module _ (w : List ℕ) (k : ℕ) (l : List ℕ) (ok : Laid w) where
 
   pub search_less : (c : ℕ) → 0 < c → Searched w k l c → link w (c - 1) < c
   search_less c p s = omega (arith, (linked (c - 1) (omega (arith, s.within))).within)
-
--- it is the record before c ..
-pub search_found : (w : List ℕ) (k : ℕ) (l : List ℕ) (c : ℕ) → 0 < c → Searched w k l c → RecordIs w (c - 1) k l → Finds w k l (Some (c - 1))
-search_found w k l c p s is = (omega (arith, s.within), is)
-
--- .. or the chain ended
-pub search_none : (w : List ℕ) (k : ℕ) (l : List ℕ) (c : ℕ) → c ≡ 0 → Searched w k l c → Finds w k l None
-search_none w k l c z s = λ i h is. s.none i (omega arith) h is

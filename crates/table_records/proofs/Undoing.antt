@@ -1,5 +1,5 @@
 -- Rolling back, and that it undoes exactly: a laid table is told by its frame and the bodies of its records. Assumes nothing.
-use mathlib.Core.Path.{◌≡◌, refl, sym, ap, ◌∙◌}
+use mathlib.Core.Path.{◌≡◌, sym, ap, ◌∙◌}
 use mathlib.Core.Logic.{⊎_elim}
 use mathlib.Core.List.{List}
 use Prim.Native.Nat.{ℕ, suc, ◌+◌, ◌-◌, ◌*◌, ◌/◌, ◌%◌, ◌<◌}
@@ -9,15 +9,12 @@ use lib.ListN.{get_or}
 use lib.Seq.{ext_get_or}
 use Rattle.table_words.specs.Words.{Kept}
 use Rattle.table_words.proofs.Tab.{split, same}
-use Rattle.table_words.proofs.Words.{kept_capacity, kept_refl, kept_trans, hash_at_ext}
+use Rattle.table_words.proofs.Words.{kept_capacity, kept_trans, hash_at_ext}
 use Rattle.table_words.proofs.Chains.{last_ext}
 use Rattle.table_records.specs.Laid.{Laid}
 use Rattle.table_records.specs.Changes.{Popped, Rolled}
 use Rattle.table_records.proofs.Laying.{popped_kept, popped_laid}
 use Rattle.promises.specs.Words.{word, head, capacity, count, link, hash_at, last_of}
-
-pub roll_none : (w : List ℕ) (n : ℕ) → Laid w → n ≡ count w → Rolled w w n
-roll_none w n ok e = record { kept = kept_refl w; laid = ok; fewer = sym e; old = λ i j a b. refl }
 
 pub roll_more : (w t t' : List ℕ) (m : ℕ) → Rolled w t m → 0 < m → Popped t t' (count t - 1) → Rolled w t' (m - 1)
 roll_more w t t' m r l p =

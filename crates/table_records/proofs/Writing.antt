@@ -1,24 +1,13 @@
 -- What the stores of `push` and `pop` leave. Assumes nothing.
 use mathlib.Core.Path.{◌≡◌, ap, ◌∙◌}
-use mathlib.Core.Logic.{⊎_elim}
 use mathlib.Core.List.{List}
 use Prim.Native.Nat.{ℕ, zero, suc, ◌+◌, ◌*◌, ◌≤◌, ◌<◌}
 use native.Mathlib.Omega.{arith}
 use lib.ListN.{length, get_or, set, length-set}
 use lib.Seq.{get_or-set_same, get_or-set_other}
 use Rattle.table_words.specs.Words.{listed}
-use Rattle.table_words.proofs.Tab.{same}
 use Rattle.table_records.specs.Changes.{Pushed, Popped, pair_of}
 use Rattle.promises.specs.Words.{word, head, count, hash_of, hash_at}
-
--- one more of a run of stores
-pub run_more : (t l : List ℕ) (b v : ℕ) → b + v < length t
-    → ((u : ℕ) → u < v → get_or t (b + u) 0 ≡ get_or l u 0)
-    → (u : ℕ) → u < v + 1 → get_or (set t (b + v) (get_or l v 0)) (b + u) 0 ≡ get_or l u 0
-run_more t l b v fits h u lt = ⊎_elim
-    (λ e. rw e (get_or-set_same t (b + v) (get_or l v 0) 0 fits))
-    (λ n. get_or-set_other t (b + v) (b + u) (get_or l v 0) 0 (omega (arith, n)) ∙ h u (omega (arith, n)))
-    (same u v)
 
 -- ---- push: t is w after the feature's store and the body's run; then the link, the chain head and the count are stored
 module _ (w t l : List ℕ) (k k' i n' h nx x y : ℕ) (ei : i ≡ count w) (en : n' ≡ i + 1) (ek : k' ≡ k)

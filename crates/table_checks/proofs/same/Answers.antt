@@ -1,7 +1,7 @@
--- `table_checks::same` meets its contract: the features and the bodies are the same words. Assumes nothing.
-use Rattle.std.proofs.Common.{arith, refl}
-use Rattle.table_checks.proofs.Compared.{same_tells}
+-- `table_checks::same` meets its contract: the words passed are equal. Assumes nothing.
+use Rattle.std.proofs.Common.{◌∙◌, sym, arith}
+use Rattle.table_checks.proofs.Chaining.{same_word}
 use Rattle.table_checks.proofs.same.Goals as goal
 
-pub returns : goal.returns
-returns c = same_tells c.args.t.now c.args.i c.args.j _ _ _ _ c.eq.result (omega arith) (omega arith) refl refl (omega arith) (omega arith) c.eq.ensures
+pub returns-then-record_word : goal.returns-then-record_word
+returns-then-record_word c = λ z. c.if-record_word.true (c.record_word.ensures ∙ same_word _ _ _ z c.loop-v.v (omega arith) ∙ sym c.record_word-in-loop-v.ensures)
