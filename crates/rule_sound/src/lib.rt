@@ -16,9 +16,13 @@ fn alike(t: &[u32], i: usize) -> bool
     requires { (Header 1 t.now) × (i < count t.now) × (feature t.now i < features t.now) }
     ensures { Tells result (Alike t.now i) }
 {
-    let from = RECORDS + 16 * i + 1;
-    let branches = &t[from..from + width(t, i)];
-    branches.iter().all(|branch| *branch == branches[0])
+    let first = record_word(t, i, 1);
+    for v in 1..width(t, i) {
+        if record_word(t, i, 1 + v) != first {
+            return false;
+        }
+    }
+    true
 }
 
 // Whether the body of node i has 0 only past s branches, and so have its spare words.
