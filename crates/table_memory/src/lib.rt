@@ -40,14 +40,16 @@ fn recall_at(s: &[u32], i: usize, key: &[u32]) -> Option<(u32, u32)>
     Some((s[base + n], s[base + (n + 1)]))
 }
 
-// Makes entry i remember the result's words x and y for this key.
+// Makes entry i remember the result's words x and y for this key: few words, for which `copy_from_slice` is slower than a loop.
 fn remember_at(s: &mut [u32], i: usize, key: &[u32], x: u32, y: u32)
     requires { Inside (length key.now) s.old i }
     ensures { Stored s.old s.new key.now x y }
 {
     let n = key.len();
     let base = (n + 2) * i;
-    s[base..base + n].copy_from_slice(key);
+    for (j, x) in key.iter().enumerate() {
+        s[base + j] = *x;
+    }
     s[base + n] = x;
     s[base + (n + 1)] = y;
 }
