@@ -1,5 +1,5 @@
 -- `cost_nodes::find` meets its contract: equal branches need no node; else the records tell whether the node is there. Assumes nothing.
-use Rattle.std.proofs.Common.{arith, ℕ, ◌≡◌, sym, ap}
+use Rattle.std.proofs.Common.{ℕ, ◌≡◌, sym, ap}
 use Rattle.settings.proofs.Answers.{sure, sure_not}
 use Rattle.cost_nodes.specs.Nodes.{AllSame}
 use Rattle.cost_nodes.proofs.Making.{found_same, found_node, found_none}
@@ -7,9 +7,6 @@ use mathlib.Core.Path.{subst, ◌∙◌}
 use Rattle.promises.specs.Words.{size}
 use Rattle.promises.specs.CostWords.{target}
 use Rattle.cost_nodes.proofs.find.Goals as goal
-
-pub all_same-requires : goal.all_same-requires
-all_same-requires c = omega (arith, c.requires.0.laid.laid.large c.args.k c.requires.1)
 
 pub returns-then-all_same : goal.returns-then-all_same
 returns-then-all_same c =
@@ -19,9 +16,6 @@ returns-then-all_same c =
     let e : c.size_word.result ≡ size w k = c.size_word.ensures in
     found_same w k l c.requires.0 c.requires.1 c.requires.2 c.target_at.result (c.target_at.ensures ∙ ap target c.half_of.ensures)
     (subst (λ (n : ℕ). AllSame n l) e (sure c.if-all_same.true c.all_same.ensures))
-
-pub overflow_cast-result : goal.overflow_cast-result
-overflow_cast-result c = omega (arith, c.in_ok-i.ensures.0, c.requires.0.laid.laid.within, c.requires.0.laid.laid.most)
 
 pub returns-in_err-i : goal.returns-in_err-i
 returns-in_err-i c =

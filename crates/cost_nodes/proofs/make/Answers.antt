@@ -6,11 +6,6 @@ use Rattle.cost_nodes.specs.Nodes.{Lowered}
 use Rattle.promises.specs.Words.{size}
 use Rattle.cost_nodes.proofs.make.Goals as goal
 
-pub lowered-requires : goal.lowered-requires
-lowered-requires c =
-    let e : c.size_word-m.result ≡ size c.args.t.now c.args.k = c.size_word-m.ensures in
-    (omega (arith, c.requires.0.laid.laid.large c.args.k c.requires.1), (λ v h. c.requires.2.near v (omega arith)), λ v h g. c.requires.2.pad v (omega arith) g)
-
 pub packed_body-list-requires : goal.packed_body-list-requires
 packed_body-list-requires c = λ u h.
     omega (arith, c.lowered.ensures.targets u h, small_target c.args.t.now c.args.k c.args.arms.now c.requires.0 c.requires.2 u h)
@@ -37,19 +32,6 @@ sides_of-requires c =
     let lo : Lowered (size w k) b r = subst (λ (n : ℕ). Lowered n b r) em c.lowered.ensures in
     bodied w k b r l c.requires.0 c.requires.1 c.requires.2 lo c.packed_body-list.ensures _ (omega (arith, c.requires.0.laid.laid.large k c.requires.1))
     (omega (arith, c.requires.0.laid.laid.large k c.requires.1))
-
-pub push-i-requires : goal.push-i-requires
-push-i-requires c = (
-  c.requires.0.laid.laid,
-  omega (arith, c.if-count_word-capacity_word.true, c.capacity_word.ensures, c.count_word.ensures),
-  omega (arith, c.requires.1, c.requires.0.laid.laid.few),
-)
-
-pub overflow_cast-i : goal.overflow_cast-i
-overflow_cast-i c = omega (arith, c.push-i.ensures.0, c.requires.0.laid.laid.within, c.requires.0.laid.laid.most)
-
-pub target_word-to-requires : goal.target_word-to-requires
-target_word-to-requires c = omega (arith, c.push-i.ensures.0, c.requires.0.laid.laid.within, c.requires.0.laid.laid.most)
 
 pub returns-then-count_word-capacity_word : goal.returns-then-count_word-capacity_word
 returns-then-count_word-capacity_word c =
@@ -88,9 +70,6 @@ returns-in_default c =
     let ab = c.in_default.ensures in
     made_none w k b r l c.requires.0 c.requires.1 c.requires.2 lo c.packed_body-list.ensures ab
     (omega (arith, c.if-count_word-capacity_word.false, c.capacity_word.ensures, c.count_word.ensures))
-
-pub target_word-to-requires-2 : goal.target_word-to-requires-2
-target_word-to-requires-2 c = c.in-Some.ensures.1
 
 pub returns : goal.returns
 returns c =
