@@ -14,21 +14,21 @@ use settings::outcome_number;
 pub fn lampgrotto_open(t: &mut [u32], features: &[u8], capacity: usize) -> u32
     ensures { Hears (Meets (D.open_table ruled features.now capacity (length t.old)) t.old t.new) (tell_ending []) (heard result [] []) }
 {
-    outcome_number(rule_calls::open(t, features, capacity))
+    outcome_number(&rule_calls::open(t, features, capacity))
 }
 
 // The rule of the place becomes the constant number.
 pub fn lampgrotto_constant(t: &mut [u32], place: usize, number: u32) -> u32
     ensures { Hears (Meets (D.constant ruled place (says number)) t.old t.new) (tell_ending []) (heard result [] []) }
 {
-    outcome_number(rule_calls::constant(t, place, number))
+    outcome_number(&rule_calls::constant(t, place, number))
 }
 
 // The rule of the place becomes that of another.
 pub fn lampgrotto_copy(t: &mut [u32], place: usize, from: usize) -> u32
     ensures { Hears (Meets (D.copy ruled place from) t.old t.new) (tell_ending []) (heard result [] []) }
 {
-    outcome_number(rule_calls::copy(t, place, from))
+    outcome_number(&rule_calls::copy(t, place, from))
 }
 
 // The rule of the place becomes 1 where the feature's value is in the set of bits, else 0; the result is how many values the set has.
@@ -41,10 +41,9 @@ pub fn lampgrotto_literal(
 ) -> u32
     ensures { Hears (Meets (R.literal place feature bits) t.old t.new) (tell_spelled out.old) (heard result out.new []) }
 {
-    let r = rule_operations::literal(t, place, feature, bits);
-    put(out, r.size);
-    let o = r.outcome;
-    outcome_number(o)
+    let answer = rule_operations::literal(t, place, feature, bits);
+    put(out, &[answer.unwrap_or_default()]);
+    outcome_number(&answer)
 }
 
 // The rule of the place becomes, at each setting, that of the branches whose index is the selector's number.
@@ -57,7 +56,7 @@ pub fn lampgrotto_case(
 ) -> u32
     ensures { Hears (Meets (R.case place selector branches.now) t.old t.new) (tell_ending []) (heard result [] []) }
 {
-    outcome_number(rule_operations::case(t, scratch, place, selector, branches))
+    outcome_number(&rule_operations::case(t, scratch, place, selector, branches))
 }
 
 // The rule of the place becomes the operator of two others: 1 smaller, 2 larger, 3 equal, 4 less, 5 differ.
@@ -71,7 +70,7 @@ pub fn lampgrotto_apply(
 ) -> u32
     ensures { Hears (Meets (R.apply place operator a b) t.old t.new) (tell_ending []) (heard result [] []) }
 {
-    outcome_number(rule_operations::apply(t, scratch, place, operator, a, b))
+    outcome_number(&rule_operations::apply(t, scratch, place, operator, a, b))
 }
 
 // The rule of the place becomes another with the feature held at the value.
@@ -84,7 +83,7 @@ pub fn lampgrotto_restrict(
 ) -> u32
     ensures { Hears (Meets (R.restrict place from feature value) t.old t.new) (tell_ending []) (heard result [] []) }
 {
-    outcome_number(rule_operations::restrict(t, place, from, feature, value))
+    outcome_number(&rule_operations::restrict(t, place, from, feature, value))
 }
 
 // The rule of the place becomes another with a feature removed: 0, the one other number over its values, or 65,535 where two differ.
@@ -97,5 +96,5 @@ pub fn lampgrotto_forget(
 ) -> u32
     ensures { Hears (Meets (R.forget place from feature) t.old t.new) (tell_ending []) (heard result [] []) }
 {
-    outcome_number(rule_operations::forget(t, scratch, place, from, feature))
+    outcome_number(&rule_operations::forget(t, scratch, place, from, feature))
 }
