@@ -220,8 +220,11 @@ rest_result-combine-requires-then-features_word-m t c = c.requires.0.two
 
 pub rest_result-returns-then-features_word-m : goal.rest_result-returns-then-features_word-m
 rest_result-returns-then-features_word-m t c =
-    let e : c.features_word.result ≡ features (plain c.args.t.now) = c.features_word.ensures ∙ plain_features c.args.t.now in
-    (joint_phrases _ _ _ _ c.args.k c.lowest-m.result _ c.args.ops.now c.requires.0 c.lowest-m.ensures (omega arith) (c.combine-then-features_word-m.ensures ∙ op_of_list _ c.args.ops.now), c.requires.1)
+    let e : c.features_word.result ≡ features (plain c.args.t.now) = c.features_word.ensures ∙ plain_features c.args.t.now in (
+      joint_phrases _ _ _ _ c.args.k c.lowest-m.result _ c.args.ops.now c.requires.0 c.lowest-m.ensures (omega arith)
+          (c.combine-then-features_word-m.ensures ∙ op_of_list _ c.args.ops.now),
+      c.requires.1,
+    )
 
 pub rest_result-node_result-requires : goal.rest_result-node_result-requires
 rest_result-node_result-requires t c =

@@ -20,4 +20,5 @@ decreases-fill_branches l = 3 * (features (plain l.t.now) - l.k) - 2
 abbrev pub invariant-fill_branches-loop-v : goal.invariant-fill_branches-loop-v
 invariant-fill_branches-loop-v l =
     Filling (plain l.initial.t) (plain l.t) l.k
-    (joint (plain l.initial.t) (number_of l.operator) (forgotten_by l.operator) (length l.ops) l.k l.ops) l.v l.list × Noted l.t (number_of l.operator) (forgotten_by l.operator) (length l.ops) l.s × (length l.next ≡ length l.ops)
+    (joint (plain l.initial.t) (number_of l.operator) (forgotten_by l.operator) (length l.ops) l.k l.ops) l.v l.list
+    × Noted l.t (number_of l.operator) (forgotten_by l.operator) (length l.ops) l.s × (length l.next ≡ length l.ops)
