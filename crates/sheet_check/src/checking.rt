@@ -22,7 +22,7 @@ fn canonical(lawful: Lawful) -> bool
 }
 
 // The sheet that the bytes are, with the places of its nodes.
-pub fn find_sheet<'a>(bytes: &'a [u8], places: &'a mut [u32; 4096]) -> Option<Sheet<'a>>
+fn find_sheet<'a>(bytes: &'a [u8], places: &'a mut [u32; 4096]) -> Option<Sheet<'a>>
     ensures { MatchOption result (GoodSheet bytes.now → ⊥) (λ sheet. sheet.laid.bytes.now ≡ bytes.now) }
 {
     let head = Head::open(bytes)?;

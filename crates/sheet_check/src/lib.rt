@@ -8,4 +8,4 @@ mod checking; // checking.rt: canonical form, and the whole check
 mod checked; // checked.rt: bytes that passed the check
 
 pub use checked::Sheet;
-pub use checking::{check, find_sheet};
+pub use checking::check;

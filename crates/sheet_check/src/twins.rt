@@ -38,7 +38,8 @@ fn hash_of(laid: Laid, i: usize) -> usize
     h / 1048576
 }
 
-// Whether no earlier node is equal to node i of hash h.
+// Whether no earlier node is equal to node i of hash h. The chains are words as the tables' are, 0 or a node's index and 1: an array of
+// Option<u32> would take twice the 32,768 bytes of stack (fixed memory), and the loop follows a chain.
 fn fresh(laid: Laid, heads: &[u32; 4096], links: &[u32; 4096], i: usize, h: usize) -> bool
     requires { (i < count laid.bytes.now) × (Chained laid.bytes.now heads.now links.now i) × (h ≡ hash laid.bytes.now i) × (h < 4096) }
     ensures { Tells result (New laid.entry.bytes.now i) }

@@ -12,6 +12,9 @@ use rule_numbering::{node_of, renumber, width};
 use sheet_laying::{put_branch, put_byte, put_two};
 use table_words::{features_word, record_word, size_word};
 
+// The table, the notes and c are no struct that keeps their facts: Walkable and Noted hold by cases (Under, Has), so that a ghost field has them
+// truncated alone, and each proof would open them again, as it now takes them from its `requires`.
+
 // How many bytes the sheet has whose c nodes have numbers.
 pub fn sheet_length(t: &[u32], notes: &[u32; 8192], c: usize) -> usize
     requires { (Walkable t.now) × (Noted t.now notes.now c) }
