@@ -12,11 +12,10 @@ use Rattle.table_notes.specs.Far.{memory, Windowed}
 use Rattle.table_notes.proofs.Plain.{plain_of}
 use Rattle.table_memory.specs.Memory.{Stored}
 use Rattle.table_memory.proofs.Remembering.{noted_stored}
-use Rattle.cost_nodes.specs.Nodes.{Place}
 use Rattle.cost_range.specs.Ends.{Reaches, Pair, of_targets, of_branches, Right, Noted}
 use Rattle.cost_words.specs.declared.sides.Span.{Span}
-use Rattle.cost_range.proofs.Walking.{first_place, second_place, pair_step, branches_at}
-use Rattle.promises.specs.Words.{features, size, sizes}
+use Rattle.cost_range.proofs.Walking.{pair_step, branches_at}
+use Rattle.promises.specs.Words.{features, sizes}
 use Rattle.promises.specs.CostWords.{target, cost_branch as branch, cost_node_list as nodes}
 
 -- one result more, right for the table w without notes
@@ -29,12 +28,6 @@ pub features_over : {w u : List ℕ} → u ≡ w → features u ≡ features w
 features_over e = ap (λ (z : List ℕ). features z) e
 
 module _ {w u : List ℕ} (e : u ≡ w) (k x y : ℕ) (p : Pair w k x y) (hk : k < features w) where
-  pub first_over : (v : ℕ) → v < size w k → Place u k x × (k < features u) × (v < size u k)
-  first_over v h = rw e (first_place w k x y p, hk, h)
-
-  pub second_over : (v : ℕ) → v < size w k → Place u k y × (k < features u) × (v < size u k)
-  second_over v h = rw e (second_place w k x y p, hk, h)
-
   module _ (v xa a yb b : ℕ) (ea : branch xa a ≡ branch_at (nodes u) k (target x) v) (eb : branch yb b ≡ branch_at (nodes u) k (target y) v) where
     first_arm : branch xa a ≡ branch_at (nodes w) k (target x) v
     first_arm = subst (λ (z : List ℕ). branch xa a ≡ branch_at (nodes z) k (target x) v) e ea

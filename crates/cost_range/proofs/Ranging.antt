@@ -25,10 +25,9 @@ use Rattle.cost_nodes.proofs.Reading.{pos_from, holds_passed}
 use Rattle.cost_notes.specs.Operand.{Operand}
 use Rattle.cost_engine.specs.Joint.{together, Joinable}
 use Rattle.cost_engine.specs.declared.operators.Operator.{Operator}
-use Rattle.cost_engine.specs.declared.operators.Operator.TheVariants.{Scale}
 use Rattle.cost_engine.proofs.Operating.{below, above}
-use Rattle.cost_range.specs.Ends.{Spans, Reaches, Inside, Pair}
-use Rattle.cost_range.specs.Operable.{Factored, Operable}
+use Rattle.cost_range.specs.Ends.{Spans, Reaches, Inside}
+use Rattle.cost_range.specs.Operable.{Operable}
 use Rattle.cost_words.specs.declared.sides.Span.{Span}
 use Rattle.promises.specs.CostSound.{extreme, kept, side_of}
 use Rattle.promises.specs.Integers.{rise, fall, Fit, int}
@@ -113,12 +112,6 @@ module _ (w : List ℕ) (x a : ℕ) (o : Operand w (branch x a)) (up : Bool) (b 
   end_side r e = e ∙ end_is
 
 -- ---- the operations
-pub operand_pair : (w : List ℕ) (x a y b : ℕ) → Operand w (branch x a) → Operand w (branch y b) → Pair w 0 x y
-operand_pair w x a y b p q = record { holds = p.holds; narrow = p.narrow; up_to = omega arith; first = p.ok; second = q.ok }
-
-pub factor_fits : {w : List ℕ} {o : Operator} {b c : Branch costs} → Operable w o b c → (n : ℕ) → o ≡ Scale n → Fit cost_most (int n)
-factor_fits p n e = subst Factored e p.factor_in
-
 -- what is told of one operator's result, for the operator that it is
 pub told : (S : List ℕ) (f g : Cost) (o u : Operator) → o ≡ u → (r : Bool) → Tells r (Within cost_most S (together u f g)) → Tells r (Within cost_most S (together o f g))
 told S f g o u e r h = subst (λ (q : Operator). Tells r (Within cost_most S (together q f g))) (sym e) h

@@ -3,7 +3,7 @@ use Rattle.std.specs.Prelude.{Some, None}
 use mathlib.Core.Path.{◌≡◌, sym, ap, subst, ◌∙◌}
 use mathlib.Core.Bool.{Bool, true, false}
 use mathlib.Core.List.{List}
-use Prim.Native.Nat.{ℕ, zero, suc, ◌+◌, ◌-◌, ◌<◌}
+use Prim.Native.Nat.{ℕ, zero, suc, ◌+◌, ◌<◌}
 use native.Mathlib.Numerals.{add-one}
 use native.Mathlib.Omega.{arith}
 use lib.IntN.{ℤ, ◌+ℤ◌}
@@ -13,11 +13,10 @@ use Rattle.table_words.specs.Words.{listed}
 use Rattle.cost_words.specs.Sides.{end_of, Keeps, Wider, arm_sum, ArmSums, Sides}
 use Rattle.cost_words.specs.Sums.{Stands}
 use Rattle.cost_words.specs.declared.sides.Span.{Span}
-use Rattle.cost_words.proofs.Packing.{target_end, target_node, int_zero}
+use Rattle.cost_words.proofs.Packing.{target_end, int_zero}
 use Rattle.promises.specs.Integers.{Fit, int}
 use Rattle.promises.specs.Range.{add_most}
 use Rattle.promises.specs.CostSound.{across, kept, side_of}
-use Rattle.promises.specs.Words.{word}
 use Rattle.promises.specs.CostWords.{target, goes, added}
 
 -- what holds of both words
@@ -32,23 +31,6 @@ keeps_end w x e = record { keeps = both (λ up r. int r ≡ kept_at (kept up w) 
     none : (up : Bool) → int 2147483648 ≡ kept_at (kept up w) (target x)
     none up = int_zero ∙ sym (ap (kept_at (kept up w)) (target_end x e))
 
-pub keeps_node : (w : List ℕ) (x j a b : ℕ) → 0 < x → j ≡ x - 1 → a ≡ word w j 14 → b ≡ word w j 15 → Keeps w x a b
-keeps_node w x j a b h e ea eb =
-    let q : x ≡ suc j = omega arith in
-    record {
-      keeps = both (λ up r. int r ≡ kept_at (kept up w) (target x)) a b
-          (ap int ea ∙ sym (ap (kept_at (kept false w)) (target_node x j q)))
-          (ap int eb ∙ sym (ap (kept_at (kept true w)) (target_node x j q)));
-    }
-
--- ---- the further of two
-pub both_wider : (a b c d e f : ℕ) → int e ≡ side_of false (int a) (int c) → int f ≡ side_of true (int b) (int d) → Wider a b c d e f
-both_wider a b c d e f p q = record { wider = go }
-  where
-    go : (up : Bool) → int (end_of up e f) ≡ side_of up (int (end_of up a b)) (int (end_of up c d))
-    go true = q
-    go false = p
-
 module _ (w l : List ℕ) where
   -- ---- the sums along branch v, from the words a and b that are kept for its target word x
   module _ (v x a b : ℕ) (e : x ≡ goes (listed l) v) (k : Keeps w x a b) where
@@ -61,10 +43,6 @@ module _ (w l : List ℕ) where
 
     pub high_lost : Stands (int (added (listed l) v) +ℤ int b) None → ArmSums w l v None
     high_lost s f = s (subst (Fit add_most) (sym (arm_is true)) (f true))
-
-    -- .. or none
-    pub arm_stands : (c d : ℕ) → Stands (int (added (listed l) v) +ℤ int a) (Some c) → Stands (int (added (listed l) v) +ℤ int b) (Some d) → ArmSums w l v (Some (record { low = c; high = d }))
-    arm_stands c d p q = both (λ up r. int r ≡ arm_sum up w l v) c d (p ∙ arm_is false) (q ∙ arm_is true)
 
   -- ---- branches in turn
   pub side_one : (a : Span) → ArmSums w l 0 (Some a) → (up : Bool) → int (end_of up a.low a.high) ≡ across (side_of up) (arm_sum up w l) 1
@@ -79,7 +57,3 @@ module _ (w l : List ℕ) where
   -- one is lost, ..
   pub side_lost : (m v : ℕ) → v < m → ArmSums w l v None → Sides w l m None
   side_lost m v h s f = s (λ up. f up v h)
-
-  -- .. or none
-  pub side_all : (m v : ℕ) (a : Span) → v ≡ m → ((up : Bool) → int (end_of up a.low a.high) ≡ across (side_of up) (arm_sum up w l) v) → Sides w l m (Some a)
-  side_all m v a e q up = q up ∙ ap (across (side_of up) (arm_sum up w l)) e
