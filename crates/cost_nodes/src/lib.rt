@@ -113,6 +113,7 @@ pub fn arm_at(t: &[u32], k: usize, x: u32, v: usize) -> Arm
     ensures { branch result.to result.adds ≡ branch_at (nodes t.now) k (target x) v }
 {
     if top_of(t, x) == k {
+        // What tests a feature is a node: a match of the target again would be no plainer.
         let i = x as usize - 1;
         Arm {
             to: goes_to(t, i, v),

@@ -30,7 +30,7 @@ pub enum Target {
     Node(u32),
 }
 
-// The word of a target.
+// The word of a target. It asks that the word fits, which a `From` cannot.
 pub fn target_word(x: Target) -> u32
     requires { Worded x }
     ensures { target result ≡ target_of x }
