@@ -1,11 +1,14 @@
 -- Numbering the nodes that a branch reaches: a phrase, a node that has a number, the branches of a node in turn, a node that gets one. Assumes nothing.
+use Rattle.std.specs.Prelude.{Option, Some, None}
+use Rattle.std.specs.Option.{is_some}
+use mathlib.Core.Bool.{true, false}
 use mathlib.Core.Path.{◌≡◌, refl, sym, ap, ap₂, subst, ◌∙◌}
 use mathlib.Core.Logic.{⊎_elim}
 use mathlib.Core.List.{List, [], ◌∷◌, ◌++◌}
 use Prim.Native.Nat.{ℕ, suc, ◌+◌, ◌-◌, ◌≤◌, ◌<◌}
 use native.Mathlib.Omega.{arith}
 use borrow.Author.Tests.{lt-ltb, le-ltb}
-use lib.ListN.{length, set, length-set}
+use lib.ListN.{length, get_or, set, length-set}
 use lib.Seq.{get_or-set_same, get_or-set_other}
 use Rattle.theory.specs.Copying.{Copies, Half, Lists, Twin}
 use Rattle.theory.specs.Diagrams as D
@@ -22,34 +25,51 @@ use Rattle.rule_words.specs.Words.{branches}
 use Rattle.table_words.proofs.Reading.{goal_below}
 use Rattle.rule_words.proofs.Reading.{decode_phrase, decode_index, length_nodes, at_nodes, branch_at_lem}
 use Rattle.rule_words.proofs.Regular.{regular}
+use Rattle.rule_numbering.specs.declared.Notes.{Notes}
 use Rattle.rule_numbering.specs.Walkable.{Walkable, Stands}
-use Rattle.rule_numbering.specs.Numbering.{mark, member, renumbered, Has, node_in, numbered, Noted, Numbers, Numbering}
+use Rattle.rule_numbering.specs.Numbering.{marking, mark, member, renumbered, Has, node_in, numbered, Noted, Numbers, Numbering}
 use Rattle.rule_numbering.specs.Running.{Blank}
 use Rattle.promises.specs.Tab.{tab}
 use Rattle.promises.specs.Words.{features, size, count, sizes, feature, body}
 use Rattle.promises.specs.RuleWords.{decode, rule_node_list as nodes}
 
 -- ---- words renumbered
-pub renumbered_phrase : (n : List ℕ) (b : ℕ) → b < 65536 → renumbered n b ≡ b
+pub renumbered_phrase : (n : Notes) (b : ℕ) → b < 65536 → renumbered n b ≡ b
 unfolding renumbered
 renumbered_phrase n b h = rw (lt-ltb b 65536 h)
 
-pub renumbered_node : (n : List ℕ) (b : ℕ) → 65536 ≤ b → renumbered n b ≡ 65535 + mark n (b - 65536)
+pub renumbered_node : (n : Notes) (b : ℕ) → 65536 ≤ b → renumbered n b ≡ 65535 + mark n (b - 65536)
 unfolding renumbered
 renumbered_node n b h = rw (le-ltb b 65536 h)
 
+-- the test whether a node has a number
+pub some_marked : (o : Option ℕ) → true ≡ is_some o → 0 < marking o
+some_marked (Some j) e = omega arith
+some_marked None e = let z : true ≡ false = e in cc
+
+pub none_marked : (o : Option ℕ) → false ≡ is_some o → marking o ≡ 0
+none_marked (Some j) e = let z : false ≡ true = e in cc
+none_marked None e = refl
+
+-- a node that has a number, and one that has none
+pub renumbered_some : (n : Notes) (b : ℕ) {j : ℕ} → 65536 ≤ b → get_or n.numbers (b - 65536) None ≡ Some j → renumbered n b ≡ 65536 + j
+renumbered_some n b h e = omega (arith, renumbered_node n b h, ap marking e)
+
+pub renumbered_none : (n : Notes) (b : ℕ) → 65536 ≤ b → get_or n.numbers (b - 65536) None ≡ None → renumbered n b ≡ 65535
+renumbered_none n b h e = omega (arith, renumbered_node n b h, ap marking e)
+
 -- a node that keeps its number keeps its word
-pub renumbered_kept : (n n' : List ℕ) (b : ℕ) → (65536 ≤ b → mark n' (b - 65536) ≡ mark n (b - 65536)) → renumbered n' b ≡ renumbered n b
+pub renumbered_kept : (n n' : Notes) (b : ℕ) → (65536 ≤ b → mark n' (b - 65536) ≡ mark n (b - 65536)) → renumbered n' b ≡ renumbered n b
 renumbered_kept n n' b k = ⊎_elim
     (λ h. renumbered_phrase n' b h ∙ sym (renumbered_phrase n b h))
     (λ h. renumbered_node n' b h ∙ ap (λ (x : ℕ). 65535 + x) (k h) ∙ sym (renumbered_node n b h))
     (split b 65536)
 
-pub numbered_none : (w n : List ℕ) → numbered w n 0 ≡ []
+pub numbered_none : (w : List ℕ) (n : Notes) → numbered w n 0 ≡ []
 unfolding numbered
 numbered_none w n = tab_none (λ j. node_in w n (member n j))
 
-pub length_numbered : (w n : List ℕ) (c : ℕ) → length (numbered w n c) ≡ c
+pub length_numbered : (w : List ℕ) (n : Notes) (c : ℕ) → length (numbered w n c) ≡ c
 unfolding numbered
 length_numbered w n c = length_tab (λ j. node_in w n (member n j)) c
 
@@ -92,7 +112,7 @@ module _ {w : List ℕ} (s : Walkable w) where
   branch_stands i v h hv =
       under_weaken (nodes w) i (length (nodes w)) (suc (at (nodes w) i).feature) 0 (decode (body w i v)).to (omega (arith, length_nodes w)) (omega arith) (branch_under i v h hv)
 
-  module _ {n : List ℕ} {c : ℕ} (d : Noted w n c) where
+  module _ {n : Notes} {c : ℕ} (d : Noted w n c) where
     pub noted_most : c ≤ count w
     noted_most = omega (arith, d.tallied, marked_le (mark n) (count w))
 
@@ -142,7 +162,7 @@ module _ {w : List ℕ} (s : Walkable w) where
     numbering_none i =
         record { noted = d; listed = rw tab_none lists_none; has = λ u h. absurd (omega arith); kept = λ x hx l. refl; later = λ x hx l. refl }
 
-  module _ {n t t' : List ℕ} {i v c d r : ℕ} (h : i < count w) (hv : v < size w (feature w i)) (m : Numbering w n t i v c d) (e : Numbers w t t' (body w i v) d r) where
+  module _ {n t t' : Notes} {i v c d r : ℕ} (h : i < count w) (hv : v < size w (feature w i)) (m : Numbering w n t i v c d) (e : Numbers w t t' (body w i v) d r) where
     -- a branch word of node i that has a number keeps it
     word_kept : (u : ℕ) → u < v → renumbered t' (body w i u) ≡ renumbered t (body w i u)
     word_kept u hu = renumbered_kept t t' (body w i u) (λ l. e.kept (body w i u - 65536) (omega (arith, branch_below i u h (omega arith))) (m.has u hu l))
@@ -173,36 +193,27 @@ module _ {w : List ℕ} (s : Walkable w) where
 
   -- ---- a node that gets a number
   -- while it has none there is one left
-  pub room_left : {n t : List ℕ} {i v c d : ℕ} → i < count w → mark n i ≡ 0 → Numbering w n t i v c d → d < 4096
+  pub room_left : {n t : Notes} {i v c d : ℕ} → i < count w → mark n i ≡ 0 → Numbering w n t i v c d → d < 4096
   room_left {n} {t} {i} h none m = omega (arith, m.noted.tallied, marked_lt (mark t) (count w) i h (m.later i h (omega arith) ∙ none), s.most)
 
-  module _ {n t : List ℕ} {i c d : ℕ} (h : i < count w) (was : Noted w n c) (none : mark n i ≡ 0) (m : Numbering w n t i (size w (feature w i)) c d) where
+  module _ {n t : Notes} {i c d : ℕ} (h : i < count w) (was : Noted w n c) (none : mark n i ≡ 0) (m : Numbering w n t i (size w (feature w i)) c d) where
     unmarked : mark t i ≡ 0
     unmarked = m.later i h (omega arith) ∙ none
 
-    abbrev now_notes : List ℕ
-    now_notes = set (set t i (d + 1)) (4096 + d) i
+    abbrev now_notes : Notes
+    now_notes = record { numbers = set t.numbers i (Some d); nodes = set t.nodes d i; count = d + 1 }
 
     mark_new : mark now_notes i ≡ suc d
-    mark_new =
-        let q = s.most in
-        get_or-set_other (set t i (d + 1)) (4096 + d) i i 0 (omega arith) ∙ get_or-set_same t i (d + 1) 0 (omega (arith, m.noted.long)) ∙ (let e : d + 1 ≡ suc d = omega arith in e)
+    mark_new = ap marking (get_or-set_same t.numbers i (Some d) None (let q = s.most in omega (arith, m.noted.long))) ∙ (let e : 1 + d ≡ suc d = omega arith in e)
 
     mark_other : (x : ℕ) → x < count w → (x ≡ i → ⊥) → mark now_notes x ≡ mark t x
-    mark_other x hx p =
-        let q = s.most in
-        get_or-set_other (set t i (d + 1)) (4096 + d) x i 0 (omega arith) ∙ get_or-set_other t i x (d + 1) 0 p
+    mark_other x hx p = ap marking (get_or-set_other t.numbers i x (Some d) None p)
 
     member_new : member now_notes d ≡ i
-    member_new =
-        let q = s.most in
-        let l = room_left h none m in
-        get_or-set_same (set t i (d + 1)) (4096 + d) i 0 (simp length-set (omega (arith, m.noted.long)))
+    member_new = let l = room_left h none m in get_or-set_same t.nodes d i 0 (omega (arith, m.noted.wide))
 
     member_old : (j : ℕ) → j < d → member now_notes j ≡ member t j
-    member_old j hj =
-        let q = s.most in
-        get_or-set_other (set t i (d + 1)) (4096 + d) (4096 + j) i 0 (omega arith) ∙ get_or-set_other t i (4096 + j) (d + 1) 0 (omega arith)
+    member_old j hj = get_or-set_other t.nodes d j i 0 (omega arith)
 
     -- what had a number keeps it
     mark_kept : (x : ℕ) → x < count w → 0 < mark t x → mark now_notes x ≡ mark t x
@@ -276,14 +287,15 @@ module _ {w : List ℕ} (s : Walkable w) where
     now_noted : Noted w now_notes (d + 1)
     now_noted =
         record {
-          long = length-set (set t i (d + 1)) (4096 + d) i ∙ length-set t i (d + 1) ∙ m.noted.long;
+          long = length-set t.numbers i (Some d) ∙ m.noted.long;
+          wide = length-set t.nodes d i ∙ m.noted.wide;
           half = subst (λ (M : List Node). Half (sizes w) (nodes w) M (mark now_notes)) (sym numbered_more) now_half;
           tallied = omega (arith, m.noted.tallied, marked_more (mark t) (mark now_notes) (count w) i d h unmarked mark_new mark_other);
           inside = now_inside;
           whole = now_whole;
         }
 
-    pub numbers_new : (b : ℕ) → b ≡ 65536 + i → Numbers w n (set (set t i (d + 1)) (4096 + d) i) b c (d + 1)
+    pub numbers_new : (b : ℕ) → b ≡ 65536 + i → Numbers w n now_notes b c (d + 1)
     numbers_new b e =
         let y : b - 65536 ≡ i = omega arith in
         let z : renumbered now_notes b ≡ 65536 + d = renumbered_node now_notes b (omega arith) ∙ ap (λ (x : ℕ). 65535 + mark now_notes x) y
@@ -297,12 +309,13 @@ module _ {w : List ℕ} (s : Walkable w) where
         }
 
   -- ---- before the first
-  pub noted_none : {n : List ℕ} → Blank n → Noted w n 0
+  pub noted_none : {n : Notes} → Blank n → Noted w n 0
   noted_none {n} b =
       let q = s.most in
-      let y : (x : ℕ) → x < count w → mark n x ≡ 0 = λ x hx. b.zeros.zeros x (omega arith) (omega arith) in
+      let y : (x : ℕ) → x < count w → mark n x ≡ 0 = λ x hx. ap marking (b.none x (omega arith)) in
       record {
         long = b.long;
+        wide = b.wide;
         half = rw numbered_none (half_none (λ x hx. y x (omega (arith, length_nodes w))));
         tallied = sym (marked_none (mark n) (count w) y);
         inside = λ j hj. absurd (omega arith);

@@ -5,7 +5,7 @@ use mathlib.Core.List.{List, [], ◌∷◌, ◌++◌}
 use Prim.Native.Nat.{ℕ, suc, ◌+◌, ◌-◌, ◌≤◌, ◌<◌}
 use native.Mathlib.Nat.{add-zero}
 use native.Mathlib.Omega.{arith}
-use lib.ListN.{length, get_or, replicate, length-replicate, get_or-replicate}
+use lib.ListN.{length, get_or}
 use Rattle.theory.specs.Build.{build, table}
 use Rattle.theory.specs.Diagrams.{blank}
 use Rattle.theory.specs.Rules.{Branch, Built, Node, Rule}
@@ -13,6 +13,7 @@ use Rattle.theory.specs.Tally.{tally}
 use Rattle.theory.proofs.Growing.{each_last}
 use Rattle.theory.proofs.Rests.{nodes_tally}
 use Rattle.table_words.proofs.Tab.{split, tab_none, tab_snoc, tab_ext}
+use Rattle.rule_numbering.specs.declared.Notes.{Notes}
 use Rattle.rule_numbering.specs.Walkable.{Walkable}
 use Rattle.rule_numbering.specs.Numbering.{mark, renumbered, Has, numbered, Numbers}
 use Rattle.rule_numbering.specs.Running.{run_rules, run_roots, Run, Blank, Ran}
@@ -21,16 +22,12 @@ use Rattle.promises.specs.Tab.{tab}
 use Rattle.promises.specs.Words.{sizes}
 use Rattle.promises.specs.RuleWords.{decode, rule_root as root, rule_of}
 
--- fresh notes
-pub blank_fresh : Blank (replicate 8192 0)
-blank_fresh = record { long = length-replicate {A = ℕ} 8192 0; zeros = record { zeros = λ x g h. get_or-replicate 8192 x 0 0 h } }
-
 module _ {w : List ℕ} (s : Walkable w) where
-  pub ran_none : {n : List ℕ} (p : ℕ) → Blank n → Ran w n p 0 0
+  pub ran_none : {n : Notes} (p : ℕ) → Blank n → Ran w n p 0 0
   ran_none {n} p b = record { noted = noted_none s b; holds = rw (tab_none, tab_none, numbered_none); has = λ q h. absurd (omega arith) }
 
   -- ---- one more
-  module _ {t t' : List ℕ} {p m q c r : ℕ} (run : Run w p m) (h : q < m) (d : Ran w t p q c) (e : Numbers w t t' (root w (p + q)) c r) where
+  module _ {t t' : Notes} {p m q c r : ℕ} (run : Run w p m) (h : q < m) (d : Ran w t p q c) (e : Numbers w t t' (root w (p + q)) c r) where
     -- a node that a root before says keeps its number
     kept : (u : ℕ) → u < q → (l : 65536 ≤ root w (p + u)) → mark t' (root w (p + u) - 65536) ≡ mark t (root w (p + u) - 65536)
     kept u hu l = e.kept (root w (p + u) - 65536) (omega (arith, stands_below s (root w (p + u)) (run.stand u (omega arith)))) (d.has u hu l)
@@ -61,14 +58,14 @@ module _ {w : List ℕ} (s : Walkable w) where
         }
 
   -- THEOREM: the nodes that a run reaches are as many as the distinct rests of its rules
-  pub reached_tally : {n : List ℕ} {p m r : ℕ} → Ran w n p m r → r ≡ tally (sizes w) (run_rules w p m)
+  pub reached_tally : {n : Notes} {p m r : ℕ} → Ran w n p m r → r ≡ tally (sizes w) (run_rules w p m)
   reached_tally {n} {p} {m} {r} d =
       sym (length_numbered w n r)
       ∙ ap (λ (x : List Branch × List Node). length x.1) (sym d.holds)
       ∙ nodes_tally (sizes w) (positive s) (run_rules w p m)
 
 -- ---- one place alone
-pub run_one : {w n : List ℕ} {p r : ℕ} → Ran w n p 1 r → build 0 (sizes w) (rule_of w p) [] ≡ (decode (renumbered n (root w p)), numbered w n r)
+pub run_one : {w : List ℕ} {n : Notes} {p r : ℕ} → Ran w n p 1 r → build 0 (sizes w) (rule_of w p) [] ≡ (decode (renumbered n (root w p)), numbered w n r)
 unfolding tab
 run_one {w} {n} {p} {r} d =
     subst (λ (x : ℕ). build 0 (sizes w) (rule_of w x) [] ≡ (decode (renumbered n (root w x)), numbered w n r)) (add-zero p)

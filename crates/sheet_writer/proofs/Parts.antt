@@ -16,6 +16,7 @@ use Rattle.sheet_bytes.specs.Sheet.{branch_bytes, sheet_of}
 use Rattle.sheet_laying.specs.Laid.{Laid, Puts}
 use Rattle.std.specs.Prelude as rattle
 use Rattle.std.specs.Prelude.{Some, None}
+use Rattle.rule_numbering.specs.declared.Notes.{Notes}
 use Rattle.rule_numbering.specs.Numbering.{member, renumbered, node_in, numbered}
 use Rattle.sheet_laying.proofs.Putting.{puts_same}
 use Rattle.sheet_writer.proofs.Joining.{branches_snoc, length_branches, nodes_snoc, length_node}
@@ -23,10 +24,10 @@ use Rattle.promises.specs.Words.{features, size, sizes, feature, body}
 use Rattle.promises.specs.RuleWords.{decode}
 
 -- ---- the first v branches of a node
-unfoldable pub begun : List ℕ → List ℕ → ℕ → ℕ → List ℕ
+unfoldable pub begun : List ℕ → Notes → ℕ → ℕ → List ℕ
 begun w n i v = branches_bytes branch_bytes (branches v (λ u. renumbered n (body w i u)))
 
-module _ (w n : List ℕ) (i : ℕ) where
+module _ (w : List ℕ) (n : Notes) (i : ℕ) where
   pub begun_none : [] ≡ begun w n i 0
   unfolding begun branches_bytes
   begun_none = rw tab_none
@@ -50,7 +51,7 @@ module _ (w n : List ℕ) (i : ℕ) where
   length_in = omega (arith, length_node (node_in w n i), length_tab (λ u. decode (renumbered n (body w i u))) (size w (feature w i)))
 
 -- ---- the nodes by their numbers
-module _ (w n : List ℕ) where
+module _ (w : List ℕ) (n : Notes) where
   pub bytes_none : nodes_bytes branch_bytes (numbered w n 0) ≡ []
   unfolding numbered nodes_bytes
   bytes_none = rw tab_none

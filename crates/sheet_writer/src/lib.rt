@@ -11,7 +11,7 @@ ghost use Rattle.promises.specs.RuleWords.{rule_of};
 ghost use Rattle.promises.specs.RuleSound.{RuleSound as Sound};
 
 use crate::writing::{put_back, put_front, sheet_length};
-use rule_numbering::number_run;
+use rule_numbering::Notes;
 use rule_words::root_word;
 
 // Writes the sheet of the place's rule and answers its length; where the output is shorter, writes nothing.
@@ -19,12 +19,12 @@ pub fn put_sheet(t: &[u32], place: usize, out: &mut [u8]) -> Option<usize>
     requires { (Sound t.now) × (place < 32) }
     ensures { Laid (sheet_of (sizes t.now) (rule_of t.now place)) out.old out.new result }
 {
-    let mut notes = [0u32; 8192];
-    let c = number_run(t, &mut notes, place, 1);
-    let n = sheet_length(t, &notes, c);
+    let mut notes = Notes::new();
+    notes.number_run(t, place, 1);
+    let n = sheet_length(t, &notes);
     if out.len() < n {
         return None;
     }
     let p = put_front(t, out);
-    Some(put_back(t, &notes, c, root_word(t, place), out, p))
+    Some(put_back(t, &notes, root_word(t, place), out, p))
 }

@@ -8,21 +8,21 @@ ghost use Rattle.rule_numbering.specs.Numbering.{renumbered, node_in, numbered, 
 ghost use Rattle.promises.specs.Words.{features, count, sizes};
 ghost use Rattle.promises.specs.RuleWords.{decode};
 
-use rule_numbering::{node_of, renumber, width};
+use rule_numbering::{Notes, width};
 use sheet_laying::{put_branch, put_byte, put_two};
 use table_words::{features_word, record_word, size_word};
 
-// The table, the notes and c are no struct that keeps their facts: Walkable and Noted hold by cases (Under, Has), so that a ghost field has them
+// The table and the notes are no struct that keeps their facts: Walkable and Noted hold by cases (Under, Has), so that a ghost field has them
 // truncated alone, and each proof would open them again, as it now takes them from its `requires`.
 
-// How many bytes the sheet has whose c nodes have numbers.
-pub fn sheet_length(t: &[u32], notes: &[u32; 8192], c: usize) -> usize
-    requires { (Walkable t.now) × (Noted t.now notes.now c) }
-    ensures { result ≡ 12 + features t.now + length (nodes_bytes branch_bytes (numbered t.now notes.now c)) }
+// How many bytes the sheet has whose nodes have these numbers.
+pub fn sheet_length(t: &[u32], notes: &Notes) -> usize
+    requires { (Walkable t.now) × (Noted t.now notes.now notes.now.count) }
+    ensures { result ≡ 12 + features t.now + length (nodes_bytes branch_bytes (numbered t.now notes.now notes.now.count)) }
 {
     let mut n = 12 + features_word(t) as usize;
-    for j in 0..c {
-        n += 1 + 3 * width(t, node_of(notes, j));
+    for j in 0..notes.count() {
+        n += 1 + 3 * width(t, notes.node_of(j));
     }
     n
 }
@@ -51,40 +51,40 @@ pub fn put_front(t: &[u32], out: &mut [u8]) -> usize
 }
 
 // Writes node i at p.
-fn put_node(t: &[u32], notes: &[u32; 8192], c: usize, i: usize, out: &mut [u8], p: usize) -> usize
-    requires { (Walkable t.now) × (Noted t.now notes.now c) × (i < count t.now) × (p + length (node_bytes branch_bytes (node_in t.now notes.now i)) ≤ length out.old) }
+fn put_node(t: &[u32], notes: &Notes, i: usize, out: &mut [u8], p: usize) -> usize
+    requires { (Walkable t.now) × (Noted t.now notes.now notes.now.count) × (i < count t.now) × (p + length (node_bytes branch_bytes (node_in t.now notes.now i)) ≤ length out.old) }
     ensures { Puts (node_bytes branch_bytes (node_in t.now notes.now i)) out.old out.new p result }
 {
     let mut q = put_byte(out, p, record_word(t, i, 0));
     for v in 0..width(t, i) {
-        let x = renumber(notes, record_word(t, i, 1 + v));
+        let x = notes.renumber(record_word(t, i, 1 + v));
         q = put_branch(out, q, x);
     }
     q
 }
 
 // Writes the nodes that have numbers at p, in the order of the numbers.
-fn put_nodes(t: &[u32], notes: &[u32; 8192], c: usize, out: &mut [u8], p: usize) -> usize
-    requires { (Walkable t.now) × (Noted t.now notes.now c) × (p + length (nodes_bytes branch_bytes (numbered t.now notes.now c)) ≤ length out.old) }
-    ensures { Puts (nodes_bytes branch_bytes (numbered t.now notes.now c)) out.old out.new p result }
+fn put_nodes(t: &[u32], notes: &Notes, out: &mut [u8], p: usize) -> usize
+    requires { (Walkable t.now) × (Noted t.now notes.now notes.now.count) × (p + length (nodes_bytes branch_bytes (numbered t.now notes.now notes.now.count)) ≤ length out.old) }
+    ensures { Puts (nodes_bytes branch_bytes (numbered t.now notes.now notes.now.count)) out.old out.new p result }
 {
     let mut q = p;
-    for j in 0..c {
-        q = put_node(t, notes, c, node_of(notes, j), out, q);
+    for j in 0..notes.count() {
+        q = put_node(t, notes, notes.node_of(j), out, q);
     }
     q
 }
 
 // Writes the sections of the nodes and of the root at p.
-pub fn put_back(t: &[u32], notes: &[u32; 8192], c: usize, b: u32, out: &mut [u8], p: usize) -> usize
-    requires { (Walkable t.now) × (Noted t.now notes.now c) × (Stands t.now b)
-        × (p + 7 + length (nodes_bytes branch_bytes (numbered t.now notes.now c)) ≤ length out.old) }
-    ensures { Puts (section (length (numbered t.now notes.now c))
-        (nodes_bytes branch_bytes (numbered t.now notes.now c)) ++ section 1
+pub fn put_back(t: &[u32], notes: &Notes, b: u32, out: &mut [u8], p: usize) -> usize
+    requires { (Walkable t.now) × (Noted t.now notes.now notes.now.count) × (Stands t.now b)
+        × (p + 7 + length (nodes_bytes branch_bytes (numbered t.now notes.now notes.now.count)) ≤ length out.old) }
+    ensures { Puts (section (length (numbered t.now notes.now notes.now.count))
+        (nodes_bytes branch_bytes (numbered t.now notes.now notes.now.count)) ++ section 1
         (branches_bytes branch_bytes (decode (renumbered notes.now b) ∷ []))) out.old out.new p result }
 {
-    let q = put_two(out, p, c as u32);
-    let s = put_nodes(t, notes, c, out, q);
+    let q = put_two(out, p, notes.count() as u32);
+    let s = put_nodes(t, notes, out, q);
     let e = put_two(out, s, 1);
-    put_branch(out, e, renumber(notes, b))
+    put_branch(out, e, notes.renumber(b))
 }

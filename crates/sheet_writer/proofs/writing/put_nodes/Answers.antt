@@ -11,7 +11,7 @@ pub loop-j-init : goal.loop-j-init
 loop-j-init c = record { puts = puts_same (sym (bytes_none c.args.t.now c.args.notes.now)) (puts_none _ _); long = refl }
 
 pub node_of-requires : goal.node_of-requires
-node_of-requires c = let l = c.loop-j in (c.requires.1.long, omega (arith, c.requires.0.most, noted_most c.requires.0 c.requires.1))
+node_of-requires c = let l = c.loop-j in (c.requires.1.wide, omega (arith, c.requires.0.most, noted_most c.requires.0 c.requires.1))
 
 pub put_node-q-requires : goal.put_node-q-requires
 put_node-q-requires c =
@@ -26,7 +26,7 @@ put_node-q-requires c =
         c.requires.2,
         length_in w n c.node_of.result,
         length_more w n l.j,
-        length_fewer w n (l.j + 1) c.args.c (omega arith),
+        length_fewer w n (l.j + 1) c.args.notes.now.count (omega arith),
         ap (λ (x : ℕ). size w (feature w x)) c.node_of.ensures,
       ),
     )

@@ -13,7 +13,7 @@ loop-j-init c =
     record { counted = omega (arith, c.features_word.ensures, ap length (bytes_none c.args.t.now c.args.notes.now)); small = omega (arith, few s, c.features_word.ensures) }
 
 pub node_of-requires : goal.node_of-requires
-node_of-requires c = let l = c.loop-j in (c.requires.1.long, omega (arith, c.requires.0.most, noted_most c.requires.0 c.requires.1))
+node_of-requires c = let l = c.loop-j in (c.requires.1.wide, omega (arith, c.requires.0.most, noted_most c.requires.0 c.requires.1))
 
 pub overflow_add-n-in-loop-j-2 : goal.overflow_add-n-in-loop-j-2
 overflow_add-n-in-loop-j-2 c =
