@@ -10,7 +10,7 @@ ghost use Rattle.promises.specs.Words.{features, size, sizes};
 ghost use Rattle.promises.specs.RuleWords.{rule_of};
 ghost use Rattle.promises.specs.RuleSound.{RuleSound as Sound};
 
-use rule_count::{NodeAnswers, Wanted, answers};
+use rule_count::{NodeAnswers, Wanted};
 use rule_nodes::child_of;
 use rule_words::root_word;
 use settings::Setting;
@@ -78,7 +78,8 @@ pub fn first_with(t: &[u32], place: usize, number: u32, setting: &[u8]) -> Optio
     requires { (Sound t.now) × (place < 32) × (Valid (sizes t.now) setting.now) }
     ensures { Answers (sizes t.now) (rule_of t.now place) number setting.now result }
 {
-    let leads = answers(t, Wanted::Exactly(number));
+    let mut leads = NodeAnswers::new(Wanted::Exactly(number));
+    leads.fill(t);
     let from = Setting::of(setting).values;
     let search = Search {
         t,
