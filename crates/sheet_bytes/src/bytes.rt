@@ -7,5 +7,5 @@ pub fn pair_at(s: &[u8], p: usize) -> usize
     requires { p + 1 < length s.now }
     ensures { (result ≡ pair s.now p) × (result < 65536) }
 {
-    usize::from(s[p]) * 256 + usize::from(s[p + 1])
+    usize::from(u16::from_be_bytes([s[p], s[p + 1]]))
 }

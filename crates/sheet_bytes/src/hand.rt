@@ -2,8 +2,6 @@
 ghost use Rattle.std.specs.Prelude.{◌≡◌, ◌+◌, ◌*◌, ◌<◌, length};
 ghost use Rattle.promises.specs.Sheet.{triple as word};
 
-use crate::bytes::pair_at;
-
 // The bytes of a branch: a flag, and a number of two bytes.
 pub const BRANCH: usize = 3;
 
@@ -20,5 +18,5 @@ pub fn word_at(s: &[u8], p: usize) -> usize
     requires { p + 2 < length s.now }
     ensures { (result ≡ word s.now p) × (result < 16777216) }
 {
-    usize::from(s[p]) * 65536 + pair_at(s, p + 1)
+    u32::from_be_bytes([0, s[p], s[p + 1], s[p + 2]]) as usize
 }
