@@ -48,6 +48,8 @@ fn ended(n: u32, x: u32, y: u32, d: u32) -> Arm
     }
 }
 
+// The functions below take the lent tables and the memory side by side: what holds of a walk's words speaks of these slices, which no struct here may own.
+
 // The choice of two targets from feature k on, where the second has d more on it: one node's result, None where there is no room. Where the rule has ended it
 // is there already.
 #[cycle(branch_result_fill_branches_rest_result)]

@@ -19,6 +19,8 @@ use table_memory::{recall, remember};
 use table_notes::clear;
 use table_words::size_word;
 
+// The functions below take the lent tables and the memory side by side: what holds of a walk's words speaks of these slices, which no struct here may own.
+
 // The rule's branch for two targets from feature k on, where the second has d more on it: one node's result, None where there is no room. Of equal targets
 // the difference decides.
 #[cycle(fill_branches_rest_result)]
