@@ -24,21 +24,6 @@ pub const HALF: u32 = 65536;
 // Where branch words from 1 on say nodes, two lie in a word.
 pub const HALVES: u32 = 1;
 
-// A word as an index.
-pub fn wide(x: u32) -> usize
-    ensures { (result ≡ x) × (result < 4294967296) }
-{
-    x as usize
-}
-
-// A small index as a word.
-pub fn narrow(x: usize) -> u32
-    requires { x < 65536 }
-    ensures { result ≡ x }
-{
-    x as u32
-}
-
 // The half of a word that is for value v.
 pub fn half_of(x: u32, v: usize) -> u32
     ensures { result ≡ half x v }
