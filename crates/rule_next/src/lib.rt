@@ -26,6 +26,7 @@ struct Search<'a> {
 
 impl Search<'_> {
     // The smallest value of feature k, from the given one on, whose branch leads to the number.
+    // A `for`, no `find`: what the two calls ask would stand again in a clause of its closure, which is longer than the loop.
     fn smallest(&self, k: usize, b: u32, from: usize) -> Option<usize>
         requires { (Spot self.now.t.now k b) × (k < features self.now.t.now) × (from ≤ size self.now.t.now k) × (Marks self.now.t.now self.now.number self.now.leads.now) }
         ensures { Smallest self.now.t.now self.now.number k b from result }
