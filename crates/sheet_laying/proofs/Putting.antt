@@ -4,6 +4,7 @@ use mathlib.Core.Logic.{⊎_elim}
 use mathlib.Core.List.{List, [], ◌∷◌, ◌++◌}
 use Prim.Native.Nat.{ℕ, suc, ◌+◌, ◌-◌, ◌/◌, ◌%◌, ◌<◌}
 use native.Mathlib.Nat.{add-zero}
+use native.Mathlib.Numerals.{add-one}
 use native.Mathlib.Omega.{arith}
 use lib.ListN.{length, set, length-append}
 use lib.Seq.{sets, length-sets}
@@ -44,6 +45,14 @@ puts_same {o = o} {o' = o'} {p = p} {r = r} e x = subst (λ (l : List ℕ). Puts
 pub length_two : (x : ℕ) → length (two x) ≡ 2
 unfolding two
 length_two x = refl
+
+pub puts_two : (x : ℕ) {a b : ℕ} (out : List ℕ) (p : ℕ) → a ≡ x / 256 → b ≡ x % 256 → Puts (two x) out (set (set out p a) (p + 1) b) p (p + 2)
+unfolding two
+puts_two x out p e f =
+    record {
+      bytes = (λ i. set (set out p (e i)) (p + 1) (f i)) ∙ ap (λ (q : ℕ). set (set out p (x / 256)) q (x % 256)) (add-one p);
+      ends = omega arith;
+    }
 
 pub branch_bytes_lem : (x : ℕ) → x < 131072 → (x / 65536 ∷ []) ++ two (x % 65536) ≡ branch_bytes (decode x)
 unfolding target_bytes

@@ -19,8 +19,10 @@ pub fn put_two(out: &mut [u8], p: usize, x: u32) -> usize
     requires { (p + 2 ≤ length out.old) × (x < 65536) }
     ensures { Puts (two x) out.old out.new p result }
 {
-    let q = put_byte(out, p, x / 256);
-    put_byte(out, q, x % 256)
+    let [_, _, high, low] = x.to_be_bytes();
+    out[p] = high;
+    out[p + 1] = low;
+    p + 2
 }
 
 // Writes the three bytes of a branch at p, for its word.
