@@ -25,9 +25,6 @@ sets_append (x ∷ a) b l p =
 pub puts_none : (out : List ℕ) (p : ℕ) → Puts [] out out p p
 puts_none out p = record { bytes = refl; ends = sym (add-zero p) }
 
-pub puts_one : (x : ℕ) (out : List ℕ) (p : ℕ) → Puts (x ∷ []) out (set out p x) p (p + 1)
-puts_one x out p = record { bytes = refl; ends = refl }
-
 pub puts_long : {l out out' : List ℕ} {p r : ℕ} → Puts l out out' p r → length out' ≡ length out
 puts_long {l} {out} {p = p} a = ap length a.bytes ∙ length-sets out p l
 

@@ -77,9 +77,6 @@ row_word f m j h = row_at 0 m f j 0 h ∙ ap f (zero-add j)
 pub record Filled (f : ℕ → ℕ) (i : ℕ) (o : List ℕ) : Type 0 where
   pub each : (j : ℕ) → j < i → get_or o j 0 ≡ f j
 
-pub filled_none : (f : ℕ → ℕ) (o : List ℕ) → Filled f 0 o
-filled_none f o = record { each = below_none _ }
-
 pub filled_more : {f : ℕ → ℕ} {i : ℕ} {o : List ℕ} → Filled f i o → i < length o → (x : ℕ) → x ≡ f i → Filled f (i + 1) (set o i x)
 filled_more {f} {i} {o} d l x e =
     record { each = below_more (λ j. get_or (set o i x) j 0 ≡ f j) i (λ j h. get_or-set_other o i j x 0 (λ q. omega (arith, h, q)) ∙ d.each j h) (get_or-set_same o i x 0 l ∙ e) }
