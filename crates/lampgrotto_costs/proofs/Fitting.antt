@@ -1,5 +1,5 @@
 -- What a call that reads a cost answers lies within the range of costs. Assumes nothing.
-use mathlib.Core.Path.{◌≡◌, sym, ap, subst, ◌∙◌}
+use mathlib.Core.Path.{◌≡◌, refl, sym, ap, subst, ◌∙◌}
 use mathlib.Core.List.{List}
 use Prim.Native.Nat.{ℕ, ◌<◌}
 use native.Mathlib.Omega.{arith}
@@ -9,13 +9,12 @@ use mir.Val.{to_z, of_z}
 use Rattle.theory.specs.Costs.{costs, Cost}
 use Rattle.theory.specs.Functions.{Amount}
 use Rattle.theory.specs.Settings.{Valid}
-use Rattle.settings.specs.Refusals.{Ends}
-use Rattle.settings.specs.declared.refusals.Outcome.TheVariants.{Taken}
-use Rattle.theory_costs.proofs.Integers.{fit_decided, fit_zero}
+use Rattle.std.specs.Prelude.{Ok}
+use Rattle.settings.specs.Refusals.{Ends, Taken}
+use Rattle.theory_costs.proofs.Integers.{fit_decided}
 use Rattle.cost_words.proofs.Reading.{at_costs}
 use Rattle.cost_amounts.proofs.Signed.{amount_back}
 use Rattle.table_calls.proofs.Like.{clear, rest}
-use Rattle.table_calls.proofs.Theorems.{ended}
 use Rattle.promises.specs.declared.CostLooked.{CostLooked}
 use Rattle.promises.specs.declared.Found.{Found}
 use Rattle.promises.specs.Integers.{Fit}
@@ -38,25 +37,19 @@ cost_fits p s w z sound place valid e = go (fit_decided cost_most z)
     go (no n) =
         absurd (sound (λ ok. place (λ h. valid (λ v. n (subst (Fit cost_most) (sym (e ∙ ap (λ (c : Cost). (c s).off) (at_costs w p h))) ((ok.ranged.ranged p h).fits s v))))))
 
--- look up answers a cost, refused too
-pub looked_fits : (p : ℕ) (s w : List ℕ) (r : CostLooked) → Meets (look_up costed p s) w w r → Fit cost_most r.cost
-looked_fits p s w r a =
-    ended r.outcome (λ e. done e (subst (Ends (refusals (look_up costed p s) w)) e a.ends)) (λ x e. subst (λ (y : CostLooked). Fit cost_most y.cost) (sym (a.refused x e)) (fit_zero cost_most))
-  where
-    done : r.outcome ≡ Taken → Ends (refusals (look_up costed p s) w) Taken → Fit cost_most r.cost
-    done e l =
-        cost_fits p s w r.cost (clear l) (λ n. clear (rest l) (λ k. n (k.each 0 (omega arith)))) (clear (rest (rest l))) (ap (λ (x : Amount costs). x.off) (a.gives e).0)
+-- a look up that is taken answers a cost
+pub looked_fits : (p : ℕ) (s w : List ℕ) (v : CostLooked) → Meets (look_up costed p s) w w (Ok v) → Fit cost_most v.cost
+looked_fits p s w v a =
+    let l : Ends (refusals (look_up costed p s) w) Taken = a.ends in
+    cost_fits p s w v.cost (clear l) (λ n. clear (rest l) (λ k. n (k.each 0 (omega arith)))) (clear (rest (rest l)))
+    (ap (λ (x : Amount costs). x.off) (a.gives refl).0)
 
--- lowest answers a cost, refused too
-pub found_fits : (p q : ℕ) (v w : List ℕ) (r : Found) → Meets (lowest p q) (v, w) (v, w) r → Fit cost_most r.cost
-found_fits p q v w r f =
-    ended r.outcome (λ e. done e (subst (Ends (refusals (lowest p q) (v, w))) e f.ends))
-    (λ x e. subst (λ (y : Found). Fit cost_most y.cost) (sym (f.refused x e)) (fit_zero cost_most))
-  where
-    done : r.outcome ≡ Taken → Ends (refusals (lowest p q) (v, w)) Taken → Fit cost_most r.cost
-    done e l =
-        let g = f.gives e in
-        cost_fits p g.0 w r.cost (λ n. clear l (λ s. n s.1)) (λ n. clear (rest l) (λ k. n (k.1.each 0 (omega arith)))) (λ n. n g.2.valid) (sym g.2.gives)
+-- lowest that is taken answers a cost
+pub found_fits : (p q : ℕ) (v w : List ℕ) (r : Found) → Meets (lowest p q) (v, w) (v, w) (Ok r) → Fit cost_most r.cost
+found_fits p q v w r a =
+    let l : Ends (refusals (lowest p q) (v, w)) Taken = a.ends in
+    let g = a.gives refl in
+    cost_fits p g.0 w r.cost (λ n. clear l (λ s. n s.1)) (λ n. clear (rest l) (λ k. n (k.1.each 0 (omega arith)))) (λ n. n g.2.valid) (sym g.2.gives)
 
 -- and keeps it in 64 bits
 pub fits_back : {z : ℤ} → Fit cost_most z → Fit cost_most (to_z w64 (of_z w64 z))

@@ -1,2 +1,1 @@
-pub mod Signs
 pub mod Fitting

@@ -5,6 +5,7 @@ ghost use Rattle.promises.specs.ForC.{heard, Hears, tell_ending, tell_found};
 ghost use Rattle.promises.specs.BothDeeds as B;
 
 use crate::signed::put_found;
+use c_results::put;
 use settings::outcome_number;
 
 // The cost of the place becomes that of the first place where the rule is not 0, else that of the second.
@@ -19,7 +20,7 @@ pub fn lampgrotto_choose(
 ) -> u32
     ensures { Hears (Meets (B.choose place rule a b) (rules.now, t.old) (rules.now, t.new)) (tell_ending []) (heard result [] []) }
 {
-    outcome_number(both_calls::choose(t, rules, scratch, place, rule, a, b))
+    outcome_number(&both_calls::choose(t, rules, scratch, place, rule, a, b))
 }
 
 // The rule of the place becomes 1 where the cost of the first place is below that of the second, else 0.
@@ -33,7 +34,7 @@ pub fn lampgrotto_less(
 ) -> u32
     ensures { Hears (Meets (B.less_than place a b) (t.old, costs.now) (t.new, costs.now)) (tell_ending []) (heard result [] []) }
 {
-    outcome_number(both_calls::less(t, costs, scratch, place, a, b))
+    outcome_number(&both_calls::less(t, costs, scratch, place, a, b))
 }
 
 // The lowest cost that the place gives where the rule is not 0, then the first setting that has it: 16 words, its values and 0 past them.
@@ -48,10 +49,10 @@ pub fn lampgrotto_lowest(
     ensures { Hears (Meets (B.lowest place rule) (rules.now, costs.now) (rules.now, costs.now)) (tell_found out.old)
         (heard result out.new []) }
 {
-    let r = both_calls::lowest(costs, rules, scratch, place, rule);
-    let s = r.setting;
-    let values = s.values;
-    put_found(out, r.cost, values);
-    let o = r.outcome;
-    outcome_number(o)
+    let answer = both_calls::lowest(costs, rules, scratch, place, rule);
+    match answer {
+        Ok(found) => put_found(out, found.cost, found.setting.values),
+        Err(_) => put(out, &[0; 17]),
+    }
+    outcome_number(&answer)
 }

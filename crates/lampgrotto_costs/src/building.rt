@@ -10,14 +10,14 @@ use settings::outcome_number;
 pub fn lampgrotto_price(t: &mut [u32], place: usize, feature: usize, prices: &[i64]) -> u32
     ensures { Hears (Meets (C.price place feature prices.now) t.old t.new) (tell_ending []) (heard result [] []) }
 {
-    outcome_number(cost_operations::price(t, place, feature, prices))
+    outcome_number(&cost_operations::price(t, place, feature, prices))
 }
 
 // The cost of the place becomes the sum of those of two places.
 pub fn lampgrotto_add(t: &mut [u32], scratch: &mut [u32], place: usize, a: usize, b: usize) -> u32
     ensures { Hears (Meets (C.add place a b) t.old t.new) (tell_ending []) (heard result [] []) }
 {
-    outcome_number(cost_operations::add(t, scratch, place, a, b))
+    outcome_number(&cost_operations::add(t, scratch, place, a, b))
 }
 
 // The cost of the place becomes that of the first less that of the second.
@@ -30,7 +30,7 @@ pub fn lampgrotto_subtract(
 ) -> u32
     ensures { Hears (Meets (C.subtract place a b) t.old t.new) (tell_ending []) (heard result [] []) }
 {
-    outcome_number(cost_operations::subtract(t, scratch, place, a, b))
+    outcome_number(&cost_operations::subtract(t, scratch, place, a, b))
 }
 
 // The cost of the place becomes the smaller of those of two places.
@@ -43,7 +43,7 @@ pub fn lampgrotto_smaller(
 ) -> u32
     ensures { Hears (Meets (C.smaller place a b) t.old t.new) (tell_ending []) (heard result [] []) }
 {
-    outcome_number(cost_operations::smaller(t, scratch, place, a, b))
+    outcome_number(&cost_operations::smaller(t, scratch, place, a, b))
 }
 
 // The cost of the place becomes the larger of those of two places.
@@ -56,7 +56,7 @@ pub fn lampgrotto_larger(
 ) -> u32
     ensures { Hears (Meets (C.larger place a b) t.old t.new) (tell_ending []) (heard result [] []) }
 {
-    outcome_number(cost_operations::larger(t, scratch, place, a, b))
+    outcome_number(&cost_operations::larger(t, scratch, place, a, b))
 }
 
 // The cost of the place becomes that of another times a factor.
@@ -69,5 +69,5 @@ pub fn lampgrotto_scale(
 ) -> u32
     ensures { Hears (Meets (C.scale place a factor) t.old t.new) (tell_ending []) (heard result [] []) }
 {
-    outcome_number(cost_operations::scale(t, scratch, place, a, factor))
+    outcome_number(&cost_operations::scale(t, scratch, place, a, factor))
 }

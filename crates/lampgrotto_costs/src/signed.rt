@@ -4,20 +4,14 @@ ghost use Rattle.promises.specs.Integers.{Fit};
 ghost use Rattle.promises.specs.Range.{cost_most};
 ghost use Rattle.promises.specs.ForC.{placed, signed};
 
-use c_results::{put_before, put_two};
+use c_results::{put, put_before};
 
-// A word is below this.
-const WORD: i64 = 4294967296;
-
-// The word of a cost.
+// The word of a cost, which 32 bits hold.
 fn signed_word(z: i64) -> u32
     requires { Fit cost_most z }
     ensures { result ≡ signed z }
 {
-    if z < 0 {
-        return (z + WORD) as u32;
-    }
-    z as u32
+    (z as i32).cast_unsigned()
 }
 
 // A cost as one word, then how many features were asked.
@@ -25,7 +19,7 @@ pub fn put_cost(out: &mut [u32], z: i64, asked: u32)
     requires { Fit cost_most z }
     ensures { out.new ≡ placed (signed z ∷ asked ∷ []) out.old }
 {
-    put_two(out, signed_word(z), asked);
+    put(out, &[signed_word(z), asked]);
 }
 
 // A cost as one word, then the values of a setting.
