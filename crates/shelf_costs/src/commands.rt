@@ -1,55 +1,23 @@
-// Which command on a cost table a code is.
+// Which command on a cost table the words are.
 use crate::changes::change;
-use crate::names::{COPEN, CSUM, PRICE, SCALE};
-use crate::questions::{ask, open};
-use crate::workings::work;
-use shelf_lines::{Desk, handle, lent, say};
-use std::io;
+use crate::questions::{look, open, same, tally};
+use shelf_lines::{Fault, Scratch, Table, poke, say, say_sum, say_word};
 
-// A call that writes a place, or one that only reads.
-fn numbered(
-    rt: &impl Print,
-    code: usize,
-    n: &[u64],
-    desk: Desk,
-    table: &mut [u32],
-) -> io::Result<()> {
-    if code <= SCALE {
-        return say(rt, work(code, n, desk.scratch, desk.fill, table));
-    }
-    if code <= PRICE {
-        return say(rt, change(code, n, table));
-    }
-    ask(rt, code, n, table)
-}
-
-// A call on the lent words.
-fn call(
-    rt: &impl Print,
-    code: usize,
-    n: &[u64],
-    desk: Desk,
-    table: &mut [u32],
-) -> io::Result<Desk> {
-    if code == COPEN {
-        return open(rt, n, desk, table);
-    }
-    numbered(rt, code, n, desk, table)?;
-    Ok(desk)
-}
-
-// The command of this code, with the numbers that follow its name.
+// The command that the words are, where it is one on a cost table.
 pub fn cost_command(
     rt: &impl Print,
-    code: usize,
-    n: &[u64],
-    desk: Desk,
-    words: &mut [u32],
-) -> io::Result<Desk> {
-    if code <= CSUM {
-        handle(rt, code, n, words)?;
-        return Ok(desk);
+    words: &[&str],
+    table: &mut Table,
+    scratch: &mut Scratch,
+) -> Result<(), Fault> {
+    match words {
+        ["cword", index] => say_word(rt, index, &table.buffer),
+        ["cpoke", index, word] => poke(rt, index, word, &mut table.buffer),
+        ["csum"] => say_sum(rt, &table.buffer),
+        ["copen", capacity, sizes @ ..] => open(rt, capacity, sizes, table),
+        ["clook", place, setting @ ..] => look(rt, place, setting, table.buffer.lent()),
+        ["csame", a, b] => same(rt, a, b, table.buffer.lent()),
+        ["ctally"] => tally(rt, table.buffer.lent()),
+        _ => say(rt, change(words, table.buffer.lent(), scratch)?),
     }
-    let size = lent(words, desk.costs);
-    call(rt, code, n, desk, &mut words[..size])
 }

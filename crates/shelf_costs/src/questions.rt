@@ -1,52 +1,41 @@
-// The commands that only read the table: clook, csame, ctally; and the opening.
-use crate::amounts::say_amount;
-use crate::names::{CLOOK, CSAME};
-use shelf_lines::{Desk, bytes_of, say, say_flag, say_word, size_at};
-use std::io;
+// The commands with more of an answer than how the call ended, and the opening.
+use settings::outcome_number;
+use shelf_lines::{Fault, Table, say, say_number, value, values};
 
 // `copen CAPACITY S0 S1 ..`
-pub fn open(rt: &impl Print, n: &[u64], desk: Desk, table: &mut [u32]) -> io::Result<Desk> {
-    let mut sizes = [0u8; 64];
-    let count = bytes_of(n, 1, &mut sizes);
-    let outcome = cost_calls::open(table, &sizes[..count], size_at(n, 0));
-    say(rt, outcome)?;
-    Ok(desk.cost_opened(outcome, count))
+pub fn open(
+    rt: &impl Print,
+    capacity: &str,
+    sizes: &[&str],
+    table: &mut Table,
+) -> Result<(), Fault> {
+    let mut room = [0u8; 64];
+    let sizes = values(sizes, &mut room)?;
+    let opened = cost_calls::open(table.buffer.lent(), sizes, value(capacity)?);
+    if opened.is_ok() {
+        table.features = sizes.len();
+    }
+    say(rt, opened)
 }
 
 // `clook P V0 V1 ..`
-fn look(rt: &impl Print, n: &[u64], table: &[u32]) -> io::Result<()> {
-    let mut values = [0u8; 64];
-    let count = bytes_of(n, 1, &mut values);
-    let looked = cost_calls::look_up(table, size_at(n, 0), &values[..count]);
-    let outcome = looked.outcome;
-    say(rt, outcome)?;
-    say_amount(rt, looked.cost)?;
-    say_word(rt, looked.asked)
+pub fn look(rt: &impl Print, place: &str, setting: &[&str], table: &[u32]) -> Result<(), Fault> {
+    let mut room = [0u8; 64];
+    let setting = values(setting, &mut room)?;
+    let looked = cost_calls::look_up(table, value(place)?, setting);
+    let ending = outcome_number(&looked);
+    let looked = looked.unwrap_or_default();
+    print!(rt; "{ending} {} {}", looked.cost, looked.asked)?;
+    Ok(())
 }
 
 // `csame P Q`
-fn same(rt: &impl Print, a: usize, b: usize, table: &[u32]) -> io::Result<()> {
-    let compared = cost_calls::same(table, a, b);
-    let outcome = compared.outcome;
-    say(rt, outcome)?;
-    say_flag(rt, compared.same)
+pub fn same(rt: &impl Print, a: &str, b: &str, table: &[u32]) -> Result<(), Fault> {
+    let same = cost_calls::same(table, value(a)?, value(b)?);
+    say_number(rt, same.map(|same| u8::from(same)))
 }
 
 // `ctally`
-fn tally(rt: &impl Print, table: &[u32]) -> io::Result<()> {
-    let tallied = cost_calls::tally(table);
-    let outcome = tallied.outcome;
-    say(rt, outcome)?;
-    say_word(rt, tallied.count)
-}
-
-// The one of this code.
-pub fn ask(rt: &impl Print, code: usize, n: &[u64], table: &[u32]) -> io::Result<()> {
-    if code == CLOOK {
-        return look(rt, n, table);
-    }
-    if code == CSAME {
-        return same(rt, size_at(n, 0), size_at(n, 1), table);
-    }
-    tally(rt, table)
+pub fn tally(rt: &impl Print, table: &[u32]) -> Result<(), Fault> {
+    say_number(rt, cost_calls::tally(table))
 }

@@ -1,28 +1,54 @@
-// The commands that write a place and are lent no scratch: constant, copy, restrict.
-use crate::names::{CONSTANT, COPY};
+// The commands that write a place, and are answered by nothing but how the call ended.
 use settings::Outcome;
-use shelf_lines::{as_word, size_at};
+use shelf_lines::{Fault, Scratch, value, values};
 
-// `restrict P FROM FEATURE VALUE`
-fn restrict(n: &[u64], table: &mut [u32]) -> Outcome {
-    rule_operations::restrict(
-        table,
-        size_at(n, 0),
-        size_at(n, 1),
-        size_at(n, 2),
-        size_at(n, 3),
-    )
+// `case P SELECTOR B0 B1 ..`
+fn case(
+    place: &str,
+    selector: &str,
+    branches: &[&str],
+    table: &mut [u32],
+    scratch: &mut [u32],
+) -> Result<Outcome, Fault> {
+    let mut room = [0u32; 64];
+    let branches = values(branches, &mut room)?;
+    let place = value(place)?;
+    let selector = value(selector)?;
+    Ok(rule_operations::case(table, scratch, place, selector, branches))
 }
 
-// `constant P NUMBER`, `copy P FROM`, or the last.
-pub fn change(code: usize, n: &[u64], table: &mut [u32]) -> Outcome {
-    let place = size_at(n, 0);
-    let second = size_at(n, 1);
-    if code == CONSTANT {
-        return rule_calls::constant(table, place, as_word(second));
+// How the call ended that the words are, where it is one of these.
+pub fn change(words: &[&str], table: &mut [u32], scratch: &mut Scratch) -> Result<Outcome, Fault> {
+    match words {
+        ["constant", place, number] => {
+            Ok(rule_calls::constant(table, value(place)?, value(number)?))
+        }
+        ["copy", place, from] => Ok(rule_calls::copy(table, value(place)?, value(from)?)),
+        ["restrict", place, from, feature, to] => Ok(rule_operations::restrict(
+            table,
+            value(place)?,
+            value(from)?,
+            value(feature)?,
+            value(to)?,
+        )),
+        ["case", place, selector, branches @ ..] => {
+            case(place, selector, branches, table, scratch.filled())
+        }
+        ["apply", place, operator, a, b] => Ok(rule_operations::apply(
+            table,
+            scratch.filled(),
+            value(place)?,
+            value(operator)?,
+            value(a)?,
+            value(b)?,
+        )),
+        ["forget", place, from, feature] => Ok(rule_operations::forget(
+            table,
+            scratch.filled(),
+            value(place)?,
+            value(from)?,
+            value(feature)?,
+        )),
+        _ => Err(Fault::Unknown),
     }
-    if code == COPY {
-        return rule_calls::copy(table, place, second);
-    }
-    restrict(n, table)
 }

@@ -1,63 +1,44 @@
-// Which command on a rule table a code is.
+// Which command on a rule table the words are.
 use crate::changes::change;
-use crate::listings::list;
-use crate::names::{FORGET, NEXT, RESTRICT, SUM, WRITE};
-use crate::questions::ask;
-use crate::sheeting::sheet;
-use crate::workings::work;
-use shelf_lines::{Desk, handle, lent, say};
-use std::io;
+use crate::questions::{count, literal, look, next, open, same, tally};
+use crate::sheeting::{look_in_sheet, read, write};
+use shelf_lines::{Fault, Scratch, Table, poke, say, say_sum, say_word};
 
-// A call that writes a place, or answers a number.
-fn numbered(
-    rt: &impl Print,
-    code: usize,
-    n: &[u64],
-    desk: Desk,
-    table: &mut [u32],
-) -> io::Result<()> {
-    if code <= FORGET {
-        return say(rt, work(code, n, desk.scratch, desk.fill, table));
-    }
-    if code <= RESTRICT {
-        return say(rt, change(code, n, table));
-    }
-    ask(rt, code, n, table)
-}
-
-// A call on the lent words.
+// A call.
 fn call(
     rt: &impl Print,
-    code: usize,
-    text: &[u8],
-    n: &[u64],
-    desk: Desk,
-    table: &mut [u32],
-) -> io::Result<Desk> {
-    if code <= WRITE {
-        sheet(rt, code, text, n, table)?;
-        return Ok(desk);
+    words: &[&str],
+    table: &mut Table,
+    scratch: &mut Scratch,
+) -> Result<(), Fault> {
+    let features = table.features;
+    let lent = table.buffer.lent();
+    match words {
+        ["literal", place, feature, bits] => literal(rt, place, feature, bits, lent),
+        ["look", place, setting @ ..] => look(rt, place, setting, lent),
+        ["same", a, b] => same(rt, a, b, lent),
+        ["count", place, number] => count(rt, place, number, lent),
+        ["next", place, number, from @ ..] => next(rt, place, number, from, features, lent),
+        ["tally"] => tally(rt, lent),
+        ["write", place, length] => write(rt, place, length, lent),
+        ["read", place, sheet] => read(rt, place, sheet, lent),
+        ["slook", sheet, setting @ ..] => look_in_sheet(rt, sheet, setting),
+        _ => say(rt, change(words, lent, scratch)?),
     }
-    if code <= NEXT {
-        return list(rt, code, n, desk, table);
-    }
-    numbered(rt, code, n, desk, table)?;
-    Ok(desk)
 }
 
-// The command of this code, with the text or the numbers that follow its name.
+// The command that the words are, where it is one on a rule table or a sheet.
 pub fn rule_command(
     rt: &impl Print,
-    code: usize,
-    text: &[u8],
-    n: &[u64],
-    desk: Desk,
-    words: &mut [u32],
-) -> io::Result<Desk> {
-    if code <= SUM {
-        handle(rt, code, n, words)?;
-        return Ok(desk);
+    words: &[&str],
+    table: &mut Table,
+    scratch: &mut Scratch,
+) -> Result<(), Fault> {
+    match words {
+        ["word", index] => say_word(rt, index, &table.buffer),
+        ["poke", index, word] => poke(rt, index, word, &mut table.buffer),
+        ["sum"] => say_sum(rt, &table.buffer),
+        ["open", capacity, sizes @ ..] => open(rt, capacity, sizes, table),
+        _ => call(rt, words, table, scratch),
     }
-    let size = lent(words, desk.rules);
-    call(rt, code, text, n, desk, &mut words[..size])
 }
