@@ -94,7 +94,8 @@ module _ {w : List ℕ} (s : Sound w) where
       forget = λ h. absurd (omega (arith, no_feature));
     })
 
-    pub apply_agrees : (o : Operator) (n : ℕ) → number_of o ≡ n → n ≤ 5 → a < 32 → b < 32 → Agree (sizes w) (joint w (number_of o) (forgotten_by o) 2 0 l) (applied n (on (state_of ruled w) a) (on (state_of ruled w) b))
+    pub apply_agrees : (o : Operator) (n : ℕ) → number_of o ≡ n → n ≤ 5 → a < 32 → b < 32
+        → Agree (sizes w) (joint w (number_of o) (forgotten_by o) 2 0 l) (applied n (on (state_of ruled w) a) (on (state_of ruled w) b))
     apply_agrees o n e h ha hb x v =
         joint_apply w (number_of o) (forgotten_by o) l (omega arith) (omega (arith, no_feature, none_forgotten o (omega arith))) x v
         ∙ ap (λ (m : ℕ). says (pair_of m (said w x (listed l 0)) (said w x (listed l 1)))) e

@@ -8,9 +8,11 @@ use Rattle.rule_operations.proofs.joining.put_joint.Goals as goal
 pub settle-requires : goal.settle-requires
 settle-requires c =
     let a = c.args in
-    settle_asks (joint a.t.now (number_of a.operator) (forgotten_by a.operator) (length a.ops.now) 0 a.ops.now) c.join-r.result c.requires.0 c.join-r.ensures c.requires.1 c.count_word-used.ensures
+    settle_asks (joint a.t.now (number_of a.operator) (forgotten_by a.operator) (length a.ops.now) 0 a.ops.now) c.join-r.result
+    c.requires.0 c.join-r.ensures c.requires.1 c.count_word-used.ensures
 
 pub returns : goal.returns
 returns c =
     let a = c.args in
-    settles (joint a.t.now (number_of a.operator) (forgotten_by a.operator) (length a.ops.now) 0 a.ops.now) c.join-r.result c.requires.0 c.join-r.ensures c.requires.1 c.count_word-used.ensures c.settle.ensures
+    settles (joint a.t.now (number_of a.operator) (forgotten_by a.operator) (length a.ops.now) 0 a.ops.now) c.join-r.result
+    c.requires.0 c.join-r.ensures c.requires.1 c.count_word-used.ensures c.settle.ensures
