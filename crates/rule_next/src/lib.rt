@@ -17,6 +17,7 @@ use settings::Setting;
 use table_words::{features_word, size_word};
 
 // The search for a number in a table: which of its nodes lead to the number.
+// That the answers tell it (Marks) stands in each method's clause: it holds by cases, and a ghost field has such a fact truncated alone.
 #[derive(Clone, Copy)]
 struct Search<'a> {
     t: &'a [u32],
