@@ -1,5 +1,6 @@
 // Which command a line is, and the lines of standard input in turn.
-ghost use Rattle.std.specs.Prelude.{IfOk, ◌≤◌, length};
+ghost use Rattle.std.specs.Prelude.{IfOk};
+ghost use Rattle.std.specs.Counts.{IsPrefixLen};
 
 use shelf_costs::{both_command, cost_command};
 use shelf_lines::{Desk, Fault, own_command, parts};
@@ -60,7 +61,7 @@ fn answer_all(rt: &impl Print, input: &[u8]) -> io::Result<()> {
 
 // Reads until the bytes are full or the input ends, and returns how many it put at their start.
 fn read_full<R: Read>(reader: &mut R, bytes: &mut [u8]) -> io::Result<usize>
-    ensures { IfOk result (λ n. n ≤ length bytes.new) }
+    ensures { IfOk result (λ n. IsPrefixLen n bytes.new) }
 {
     let mut done: usize = 0;
     while done < bytes.len() {
