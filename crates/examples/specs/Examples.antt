@@ -8,7 +8,7 @@ use Rattle.theory.specs.Rules.{rules, Rule, says}
 use Rattle.theory.specs.Costs.{costs, Cost}
 use Rattle.settings.specs.Refusals.{number_of, Cases, Ends}
 use Rattle.settings.specs.declared.refusals.Refusal.{Refusal}
-use Rattle.settings.specs.declared.refusals.Outcome.TheVariants.{Refused}
+use Rattle.settings.specs.Refusals.{Refused}
 use Rattle.promises.specs.Operators.{literal_of, set_size}
 use Rattle.promises.specs.CostOperations.{is_below, priced, sum}
 use Rattle.promises.specs.Lowest.{Lowest}
