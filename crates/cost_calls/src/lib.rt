@@ -1,4 +1,5 @@
 // The cost table: opening, constant, copy, look up, same, tally; and the door of every call on a cost table.
+// Most calls are two to four lines that name the words of their table; one function over both tables would be longer.
 #![tactic(auto)]
 
 mod at_the_door; // at_the_door.rt: the table and the places tested

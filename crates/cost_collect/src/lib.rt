@@ -1,4 +1,5 @@
 // The end of every call that writes a cost table: a cost into its place, then the collector.
+// It stands beside rule_collect: a rule's branch is a word, a cost's a target and an added integer, so what they do with one differs.
 #![tactic(auto)]
 
 ghost use Rattle.std.specs.Prelude.{◌<◌};

@@ -1,4 +1,5 @@
 // The nodes of a cost table: the unique search, the making of a node, the branches of places, and steps down a diagram.
+// It stands beside rule_nodes: a rule's branch is a word, a cost's a target and an added integer, so what they do with one differs.
 #![tactic(auto)]
 
 ghost use Rattle.std.specs.Prelude.{◌≡◌, ℕ, ◌+◌, ◌≤◌, ◌<◌, ◌-ℤ◌, length};

@@ -26,7 +26,7 @@ pub fn lowest(t: &[u32], x: u32, y: u32) -> usize
     top_of(t, x).min(top_of(t, y))
 }
 
-// The branch of a target for value v of feature k.
+// The branch of a target for value v of feature k. Here and below a call alone: its contract is of the words without the notes, which the proofs of the walks cite.
 pub fn arm_in(t: &[u32], k: usize, x: u32, v: usize) -> Arm
     requires { (Place (plain t.now) k x) × (k < features (plain t.now)) × (v < size (plain t.now) k) }
     ensures { branch result.to result.adds ≡ branch_at (nodes (plain t.now)) k (target x) v }

@@ -1,4 +1,5 @@
 // The operations of the cost table: price list, add, subtract, smaller, larger, scale.
+// Add, subtract, smaller and larger are a line each: C calls each by its name.
 #![tactic(auto)]
 
 mod call_add; // call_add.rt: the sum of two places' costs

@@ -1,4 +1,5 @@
 // The end of every call that builds: the result is put into its place, or what was built is taken back.
+// It stands beside rule_settling: a rule's branch is a word, a cost's a target and an added integer, so what they do with one differs.
 #![tactic(auto)]
 
 ghost use Rattle.cost_settling.specs.Settling.{Asks, Settled};

@@ -1,4 +1,5 @@
 // The soundness test of a cost table. It reads any slice, and writes nothing.
+// It stands beside rule_sound: a rule's branch is a word, a cost's a target and an added integer, so what they do with one differs.
 #![tactic(auto)]
 
 mod range; // range.rt: the pairs kept for the nodes, and the costs in their range

@@ -28,7 +28,7 @@ pub fn child_in(t: &[u32], k: usize, b: u32, v: usize) -> u32
     child_of(t, k, b, v)
 }
 
-// The branch that has these branches at feature k; what is remembered stays.
+// The branch that has these branches at feature k; what is remembered stays. A call alone, as those above: the proofs of the walks cite its contract of the words without the notes.
 pub fn make_in(t: &mut [u32], k: usize, list: [u32; 12]) -> Option<u32>
     requires { (Roomy t.old) × (Holds (plain t.old)) × (k < features (plain t.old)) × (Listed (plain t.old) k list) }
     ensures { (Makes (plain t.old) (plain t.new) k list result) × (Aside t.old t.new) }

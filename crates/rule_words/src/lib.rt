@@ -17,7 +17,7 @@ pub enum Branch {
     Node(u32),
 }
 
-// The word of a branch.
+// The word of a branch. No `From`: it asks that the branch has a word.
 pub fn branch_word(b: Branch) -> u32
     requires { Worded b }
     ensures { decode result ≡ branch_of b }

@@ -1,4 +1,5 @@
 // The nodes stand as the walk from the roots finishes them: the walk keeps only how many nodes are done.
+// It stands beside the walk of table_checks, which reads words and asks other facts of them.
 // It takes the bytes by reference: by value each call of itself would copy their four words to the stack, and the walk has 48 bytes of code more.
 ghost use Rattle.std.specs.Prelude.{◌<◌};
 ghost use Rattle.settings.specs.Tells.{Tells};

@@ -59,7 +59,7 @@ fn answer_all(rt: &impl Print, input: &[u8]) -> io::Result<()> {
     Ok(())
 }
 
-// Reads until the bytes are full or the input ends, and returns how many it put at their start.
+// Reads until the bytes are full or the input ends, and returns how many it put at their start. The loop waits on the reader: no chain of the library does.
 fn read_full<R: Read>(reader: &mut R, bytes: &mut [u8]) -> io::Result<usize>
     ensures { IfOk result (λ n. IsPrefixLen n bytes.new) }
 {

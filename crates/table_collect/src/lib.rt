@@ -64,7 +64,7 @@ fn copy_branch(t: &mut [u32], first: u32, low: u32, b: u32) -> u32
     }
 }
 
-// 1 + the highest node that is a root of the first p places, 0 where none is: so many nodes building their functions in turn gives.
+// 1 + the highest node that is a root of the first p places, 0 where none is: so many nodes building their functions in turn gives. 0 is a number of nodes like another.
 fn kept_by(t: &[u32], first: u32, n: usize, p: usize) -> u32
     requires { Lawful first n p t.now }
     ensures { result ≡ highest first t.now p }

@@ -8,7 +8,7 @@ ghost use Rattle.promises.specs.Words.{hash_at, last_of};
 
 use table_words::{CHAINS, RECORDS, capacity_word, count_word, hash_at, head_word, record_word};
 
-// 1 + the last node below a on the chain whose head is word h, 0 where there is none, as a link says it: chains go down.
+// 1 + the last node below a on the chain whose head is word h, 0 where there is none, as a link says it, to be laid down as it is: chains go down.
 fn last_below(t: &[u32], h: usize, a: usize) -> u32
     requires { Chain t.now h a }
     ensures { result ≡ last_of (hash_at t.now) (h - 4096) a }
