@@ -14,7 +14,7 @@ ghost use Rattle.promises.specs.CostWords.{cost_branch as branch, cost_node_list
 use cost_words::FIRST;
 use table_collect::tidy;
 
-// Place p gets the target x and the base a, and what no place reaches any more is gone.
+// Place p gets the target x and the base a, and what no place reaches any more is gone. Two words and no `Arm`: two of three callers have them so.
 pub fn finish(t: &mut [u32], p: usize, x: u32, a: u32)
     requires { (Untidy p t.old) × (p < 16) × (Ok (nodes t.old) 0 (branch x a)) × (Within cost_most (sizes t.old) (meaning (nodes t.old) (branch x a))) }
     ensures { Becomes p (meaning (nodes t.old) (branch x a)) t.old t.new }

@@ -37,7 +37,7 @@ pub fn sizes_ok(t: &[u32]) -> bool
     t[3..end].iter().all(|s| 2 <= *s && *s <= 8)
 }
 
-// Whether the header's numbers are those of a table of this kind.
+// Whether the header's numbers are those of a table of this kind, which is its word 0.
 pub fn front_ok(t: &[u32], kind: u32) -> bool
     ensures { Tells result (Front kind t.now) }
 {

@@ -1,5 +1,5 @@
 // The collector for every kind: only the nodes that the roots reach stay, numbered as building the functions of the places in turn numbers them.
-// `first` tells the kind: branch words below it end, the others say nodes.
+// `first` tells the kind: branch words below it end, the others say nodes. It is a number that words are compared with and counted from, and the laws hold of any.
 #![tactic(auto)]
 
 ghost use Rattle.std.specs.Prelude.{◌≡◌, ◌+◌, ◌*◌, ◌≤◌, ◌<◌, length};
