@@ -3,14 +3,7 @@ use Rattle.std.proofs.Common.{arith}
 use Rattle.table_collect.proofs.Telling.{placed_lawful, placed_becomes}
 use Rattle.cost_words.proofs.Regular.{regular}
 use Rattle.cost_collect.proofs.Placing.{laying, both_placed}
-use lib.ListN.{length-set}
 use Rattle.cost_collect.proofs.finish.Goals as goal
-
-pub bounds-t-p : goal.bounds-t-p
-bounds-t-p c = omega (arith, c.requires.0.untidy.room)
-
-pub bounds-t-p-2 : goal.bounds-t-p-2
-bounds-t-p-2 c = simp length-set (omega (arith, c.requires.0.untidy.room))
 
 pub tidy-requires : goal.tidy-requires
 tidy-requires c =
