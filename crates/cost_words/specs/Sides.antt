@@ -23,9 +23,10 @@ pub record Near (w : List ℕ) (x : ℕ) : Type 0 where
   pub room : 8192 + 16 * x ≤ length w
   pub most : x ≤ 4096
 
--- e and f are the further of a and c, b and d
+-- e and f are the further of a and c, b and d; no 0 comes in
 pub record Wider (a b c d e f : ℕ) : Type 0 where
   pub wider : (up : Bool) → int (end_of up e f) ≡ side_of up (int (end_of up a b)) (int (end_of up c d))
+  pub some : 0 < a → 0 < c → 0 < e
 
 -- ---- the pair of a node with a given body
 -- the sum along branch v
