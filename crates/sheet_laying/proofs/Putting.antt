@@ -13,6 +13,7 @@ use Rattle.rule_words.proofs.Reading.{decode_phrase, decode_node}
 use Rattle.sheet_bytes.specs.Sections.{two}
 use Rattle.sheet_bytes.specs.Sheet.{target_bytes, branch_bytes}
 use Rattle.sheet_laying.specs.Laid.{Puts}
+use Rattle.sheet_laying.specs.declared.bytes.Cursor.{Cursor}
 use Rattle.promises.specs.RuleWords.{decode}
 
 -- ---- one after the other
@@ -22,34 +23,31 @@ sets_append (x ∷ a) b l p =
     let e : p + suc (length a) ≡ suc p + length a = omega arith in
     ap (λ (q : ℕ). sets (sets (set l p x) (suc p) a) q b) e ∙ sets_append a b (set l p x) (suc p)
 
-pub puts_none : (out : List ℕ) (p : ℕ) → Puts [] out out p p
-puts_none out p = record { bytes = refl; ends = sym (add-zero p) }
+pub puts_none : (c : Cursor) → Puts [] c c
+puts_none c = record { same = refl; bytes = refl; ends = sym (add-zero c.at) }
 
-pub puts_long : {l out out' : List ℕ} {p r : ℕ} → Puts l out out' p r → length out' ≡ length out
-puts_long {l} {out} {p = p} a = ap length a.bytes ∙ length-sets out p l
+pub puts_long : {l : List ℕ} {c d : Cursor} → Puts l c d → length d.out.now ≡ length c.out.now
+puts_long {l} {c} p = ap length p.bytes ∙ length-sets c.out.now c.at l
 
-pub puts_after : {a b o o' o'' : List ℕ} {p q r : ℕ} → Puts a o o' p q → Puts b o' o'' q r → Puts (a ++ b) o o'' p r
-puts_after {a} {b} {o} {o'} {o''} {p} {q} {r} x y =
+pub puts_after : {a b : List ℕ} {c d e : Cursor} → Puts a c d → Puts b d e → Puts (a ++ b) c e
+puts_after {a} {b} {c} {d} {e} x y =
     record {
-      bytes = y.bytes ∙ (λ i. sets (x.bytes i) (x.ends i) b) ∙ sets_append a b o p;
+      same = y.same ∙ x.same;
+      bytes = y.bytes ∙ (λ i. sets (x.bytes i) (x.ends i) b) ∙ sets_append a b c.out.now c.at;
       ends = omega (arith, x.ends, y.ends, length-append a b);
     }
 
-pub puts_same : {a b o o' : List ℕ} {p r : ℕ} → a ≡ b → Puts a o o' p r → Puts b o o' p r
-puts_same {o = o} {o' = o'} {p = p} {r = r} e x = subst (λ (l : List ℕ). Puts l o o' p r) e x
+pub puts_same : {a b : List ℕ} {c d : Cursor} → a ≡ b → Puts a c d → Puts b c d
+puts_same {c = c} {d = d} e x = subst (λ (l : List ℕ). Puts l c d) e x
 
 -- ---- a number, and a branch
 pub length_two : (x : ℕ) → length (two x) ≡ 2
 unfolding two
 length_two x = refl
 
-pub puts_two : (x : ℕ) {a b : ℕ} (out : List ℕ) (p : ℕ) → a ≡ x / 256 → b ≡ x % 256 → Puts (two x) out (set (set out p a) (p + 1) b) p (p + 2)
+pub sets_two : (x : ℕ) {a b : ℕ} (out : List ℕ) (p : ℕ) → a ≡ x / 256 → b ≡ x % 256 → set (set out p a) (p + 1) b ≡ sets out p (two x)
 unfolding two
-puts_two x out p e f =
-    record {
-      bytes = (λ i. set (set out p (e i)) (p + 1) (f i)) ∙ ap (λ (q : ℕ). set (set out p (x / 256)) q (x % 256)) (add-one p);
-      ends = omega arith;
-    }
+sets_two x out p e f = (λ i. set (set out p (e i)) (p + 1) (f i)) ∙ ap (λ (q : ℕ). set (set out p (x / 256)) q (x % 256)) (add-one p)
 
 pub branch_bytes_lem : (x : ℕ) → x < 131072 → (x / 65536 ∷ []) ++ two (x % 65536) ≡ branch_bytes (decode x)
 unfolding target_bytes

@@ -1,6 +1,6 @@
 // Bytes of a sheet laid into an output: a number, a branch.
 #![tactic(auto)]
 
-mod bytes; // bytes.rt: numbers and branches in bytes
+mod bytes; // bytes.rt: a cursor that writes numbers and branches
 
-pub use bytes::{put_branch, put_byte, put_two};
+pub use bytes::Cursor;

@@ -5,7 +5,7 @@ use mathlib.Core.List.{List, [], ◌∷◌, ◌++◌, append_assoc, append-nil}
 use Prim.Native.Nat.{ℕ, zero, suc, ◌+◌, ◌*◌, ◌≤◌, ◌<◌}
 use native.Mathlib.Omega.{arith}
 use lib.ListN.{length, drop, length-append}
-use lib.Seq.{sets-eq}
+use lib.Seq.{sets, sets-eq}
 use Rattle.theory.specs.Rules.{Branch, Built, Node, Rule}
 use Rattle.theory.specs.Build.{build}
 use Rattle.table_words.proofs.Tab.{split, tab_none, length_tab}
@@ -14,6 +14,7 @@ use Rattle.rule_words.specs.Words.{branches}
 use Rattle.sheet_bytes.specs.Sections.{two, section, branches_bytes, node_bytes, nodes_bytes, sheet_byte_list}
 use Rattle.sheet_bytes.specs.Sheet.{branch_bytes, sheet_of}
 use Rattle.sheet_laying.specs.Laid.{Laid, Puts}
+use Rattle.sheet_laying.specs.declared.bytes.Cursor.{Cursor}
 use Rattle.std.specs.Prelude as rattle
 use Rattle.std.specs.Prelude.{Some, None}
 use Rattle.rule_numbering.specs.declared.Notes.{Notes}
@@ -136,17 +137,18 @@ module _ (w : List ℕ) (g : Rule) (N : List Node) (b : Branch) (e : build 0 (si
   pub laid_short : {out : List ℕ} → length out < 12 + features w + length (nodes_bytes branch_bytes N) → Laid (sheet_of (sizes w) g) out out None
   laid_short {out} h = record { short = λ l. (refl, refl); fits = λ l. absurd (omega (arith, sheet_long)) }
 
-  pub laid_whole : {out out' : List ℕ} {r : ℕ} → 12 + features w + length (nodes_bytes branch_bytes N) ≤ length out → Puts (front (sizes w) ++ back N b) out out' 0 r →
-      Laid (sheet_of (sizes w) g) out out' (Some r)
-  laid_whole {out} {out'} {r} h p =
+  -- and out' is what the output is once the cursor d is gone
+  pub laid_whole : {c d : Cursor} {out' : List ℕ} → c.at ≡ 0 → 12 + features w + length (nodes_bytes branch_bytes N) ≤ length c.out.now →
+      Puts (front (sizes w) ++ back N b) c d → out' ≡ d.out.now → Laid (sheet_of (sizes w) g) c.out.now out' (Some d.at)
+  laid_whole {c} {d} z h p o =
       let q = puts_same (sym sheet_is) p in
-      let l : 0 + length (sheet_of (sizes w) g) ≤ length out = omega (arith, sheet_long) in
+      let l : 0 + length (sheet_of (sizes w) g) ≤ length c.out.now = omega (arith, sheet_long) in
       record {
         short = λ x. absurd (omega (arith, sheet_long));
         fits = λ x. (
-          (let e : r ≡ length (sheet_of (sizes w) g) = omega (arith, q.ends) in ap (λ (n : ℕ). let o : rattle.Option ℕ = Some n in o) e),
-          q.bytes ∙ sets-eq (sheet_of (sizes w) g) out 0 l
-              ∙ ap (λ (k : ℕ). sheet_of (sizes w) g ++ drop k out) (let z : 0 + length (sheet_of (sizes w) g) ≡ length (sheet_of (sizes w) g) = omega arith in z),
+          (let e : d.at ≡ length (sheet_of (sizes w) g) = omega (arith, q.ends) in ap (λ (n : ℕ). let o : rattle.Option ℕ = Some n in o) e),
+          o ∙ q.bytes ∙ ap (λ (n : ℕ). sets c.out.now n (sheet_of (sizes w) g)) z ∙ sets-eq (sheet_of (sizes w) g) c.out.now 0 l
+              ∙ ap (λ (k : ℕ). sheet_of (sizes w) g ++ drop k c.out.now) (let y : 0 + length (sheet_of (sizes w) g) ≡ length (sheet_of (sizes w) g) = omega arith in y),
         );
       }
 

@@ -13,6 +13,7 @@ ghost use Rattle.promises.specs.RuleSound.{RuleSound as Sound};
 use crate::writing::{put_back, put_front, sheet_length};
 use rule_numbering::Notes;
 use rule_words::root_word;
+use sheet_laying::Cursor;
 
 // Writes the sheet of the place's rule and answers its length; where the output is shorter, writes nothing.
 pub fn put_sheet(t: &[u32], place: usize, out: &mut [u8]) -> Option<usize>
@@ -25,6 +26,8 @@ pub fn put_sheet(t: &[u32], place: usize, out: &mut [u8]) -> Option<usize>
     if out.len() < n {
         return None;
     }
-    let p = put_front(t, out);
-    Some(put_back(t, &notes, root_word(t, place), out, p))
+    let mut cursor = Cursor { out, at: 0 };
+    put_front(t, &mut cursor);
+    put_back(t, &notes, root_word(t, place), &mut cursor);
+    Some(cursor.at)
 }

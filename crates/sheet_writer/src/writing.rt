@@ -9,7 +9,7 @@ ghost use Rattle.promises.specs.Words.{features, count, sizes};
 ghost use Rattle.promises.specs.RuleWords.{decode};
 
 use rule_numbering::{Notes, width};
-use sheet_laying::{put_branch, put_byte, put_two};
+use sheet_laying::Cursor;
 use table_words::{features_word, record_word, size_word};
 
 // The table and the notes are no struct that keeps their facts: Walkable and Noted hold by cases (Under, Has), so that a ghost field has them
@@ -27,64 +27,60 @@ pub fn sheet_length(t: &[u32], notes: &Notes) -> usize
     n
 }
 
-// Writes the sizes at p.
-fn put_sizes(t: &[u32], out: &mut [u8], p: usize) -> usize
-    requires { (Walkable t.now) × (p + features t.now ≤ length out.old) }
-    ensures { Puts (sizes t.now) out.old out.new p result }
+// Writes the sizes.
+fn put_sizes(t: &[u32], cursor: &mut Cursor)
+    requires { (Walkable t.now) × (cursor.old.at + features t.now ≤ length cursor.old.out.now) }
+    ensures { Puts (sizes t.now) cursor.old cursor.new }
 {
-    let mut q = p;
     for k in 0..features_word(t) as usize {
-        q = put_byte(out, q, size_word(t, k));
+        cursor.put_byte(size_word(t, k));
     }
-    q
 }
 
 // Writes the sections of the edition and of the sizes.
-pub fn put_front(t: &[u32], out: &mut [u8]) -> usize
-    requires { (Walkable t.now) × (5 + features t.now ≤ length out.old) }
-    ensures { Puts (section 1 (1 ∷ []) ++ section (length (sizes t.now)) (sizes t.now)) out.old out.new 0 result }
+pub fn put_front(t: &[u32], cursor: &mut Cursor)
+    requires { (Walkable t.now) × (cursor.old.at + 5 + features t.now ≤ length cursor.old.out.now) }
+    ensures { Puts (section 1 (1 ∷ []) ++ section (length (sizes t.now)) (sizes t.now)) cursor.old cursor.new }
 {
-    let p = put_two(out, 0, 1);
-    let q = put_byte(out, p, 1);
-    let s = put_two(out, q, features_word(t));
-    put_sizes(t, out, s)
+    cursor.put_two(1);
+    cursor.put_byte(1);
+    cursor.put_two(features_word(t));
+    put_sizes(t, cursor);
 }
 
-// Writes node i at p.
-fn put_node(t: &[u32], notes: &Notes, i: usize, out: &mut [u8], p: usize) -> usize
-    requires { (Walkable t.now) × (Noted t.now notes.now notes.now.count) × (i < count t.now) × (p + length (node_bytes branch_bytes (node_in t.now notes.now i)) ≤ length out.old) }
-    ensures { Puts (node_bytes branch_bytes (node_in t.now notes.now i)) out.old out.new p result }
+// Writes node i.
+fn put_node(t: &[u32], notes: &Notes, i: usize, cursor: &mut Cursor)
+    requires { (Walkable t.now) × (Noted t.now notes.now notes.now.count) × (i < count t.now)
+        × (cursor.old.at + length (node_bytes branch_bytes (node_in t.now notes.now i)) ≤ length cursor.old.out.now) }
+    ensures { Puts (node_bytes branch_bytes (node_in t.now notes.now i)) cursor.old cursor.new }
 {
-    let mut q = put_byte(out, p, record_word(t, i, 0));
+    cursor.put_byte(record_word(t, i, 0));
     for v in 0..width(t, i) {
-        let x = notes.renumber(record_word(t, i, 1 + v));
-        q = put_branch(out, q, x);
+        cursor.put_branch(notes.renumber(record_word(t, i, 1 + v)));
     }
-    q
 }
 
-// Writes the nodes that have numbers at p, in the order of the numbers.
-fn put_nodes(t: &[u32], notes: &Notes, out: &mut [u8], p: usize) -> usize
-    requires { (Walkable t.now) × (Noted t.now notes.now notes.now.count) × (p + length (nodes_bytes branch_bytes (numbered t.now notes.now notes.now.count)) ≤ length out.old) }
-    ensures { Puts (nodes_bytes branch_bytes (numbered t.now notes.now notes.now.count)) out.old out.new p result }
+// Writes the nodes that have numbers, in the order of the numbers.
+fn put_nodes(t: &[u32], notes: &Notes, cursor: &mut Cursor)
+    requires { (Walkable t.now) × (Noted t.now notes.now notes.now.count)
+        × (cursor.old.at + length (nodes_bytes branch_bytes (numbered t.now notes.now notes.now.count)) ≤ length cursor.old.out.now) }
+    ensures { Puts (nodes_bytes branch_bytes (numbered t.now notes.now notes.now.count)) cursor.old cursor.new }
 {
-    let mut q = p;
     for j in 0..notes.count() {
-        q = put_node(t, notes, notes.node_of(j), out, q);
+        put_node(t, notes, notes.node_of(j), cursor);
     }
-    q
 }
 
-// Writes the sections of the nodes and of the root at p.
-pub fn put_back(t: &[u32], notes: &Notes, b: u32, out: &mut [u8], p: usize) -> usize
+// Writes the sections of the nodes and of the root.
+pub fn put_back(t: &[u32], notes: &Notes, b: u32, cursor: &mut Cursor)
     requires { (Walkable t.now) × (Noted t.now notes.now notes.now.count) × (Stands t.now b)
-        × (p + 7 + length (nodes_bytes branch_bytes (numbered t.now notes.now notes.now.count)) ≤ length out.old) }
+        × (cursor.old.at + 7 + length (nodes_bytes branch_bytes (numbered t.now notes.now notes.now.count)) ≤ length cursor.old.out.now) }
     ensures { Puts (section (length (numbered t.now notes.now notes.now.count))
         (nodes_bytes branch_bytes (numbered t.now notes.now notes.now.count)) ++ section 1
-        (branches_bytes branch_bytes (decode (renumbered notes.now b) ∷ []))) out.old out.new p result }
+        (branches_bytes branch_bytes (decode (renumbered notes.now b) ∷ []))) cursor.old cursor.new }
 {
-    let q = put_two(out, p, notes.count() as u32);
-    let s = put_nodes(t, notes, out, q);
-    let e = put_two(out, s, 1);
-    put_branch(out, e, notes.renumber(b))
+    cursor.put_two(notes.count() as u32);
+    put_nodes(t, notes, cursor);
+    cursor.put_two(1);
+    cursor.put_branch(notes.renumber(b));
 }

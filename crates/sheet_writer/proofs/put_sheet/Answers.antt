@@ -1,5 +1,5 @@
 -- `sheet_writer::put_sheet` meets its contract: what is numbered from nothing is what building the rule gives (run_one); its sections are put, or nothing is. Assumes nothing.
-use Rattle.std.proofs.Common.{arith}
+use Rattle.std.proofs.Common.{rules, refl, sym, arith}
 use Rattle.rule_numbering.proofs.Running.{run_one}
 use Rattle.sheet_laying.proofs.Putting.{puts_after, puts_long}
 use Rattle.sheet_writer.proofs.Parts.{length_front, laid_short, laid_whole}
@@ -15,12 +15,12 @@ sheet_length-n-requires c = (sound_walkable c.requires.0, c.number_run.ensures.n
 pub returns-then-out-n : goal.returns-then-out-n
 returns-then-out-n c = laid_short _ _ _ _ (run_one c.number_run.ensures) (omega (arith, c.sheet_length-n.ensures))
 
-pub put_front-p-requires : goal.put_front-p-requires
-put_front-p-requires c = (sound_walkable c.requires.0, omega (arith, c.sheet_length-n.ensures))
+pub put_front-requires : goal.put_front-requires
+put_front-requires c = (sound_walkable c.requires.0, omega (arith, c.sheet_length-n.ensures))
 
 pub put_back-requires : goal.put_back-requires
 put_back-requires c =
-    let p = c.put_front-p.ensures in (
+    let p = c.put_front.ensures in (
       sound_walkable c.requires.0,
       c.number_run.ensures.noted,
       rw c.root_word.ensures (sound_stands c.requires.0 c.args.place c.requires.1),
@@ -29,5 +29,5 @@ put_back-requires c =
 
 pub returns : goal.returns
 returns c =
-    laid_whole _ _ _ _ (run_one c.number_run.ensures) (omega (arith, c.sheet_length-n.ensures))
-    (puts_after c.put_front-p.ensures (rw c.root_word.ensures at c.put_back.ensures))
+    let p = puts_after c.put_front.ensures (rw c.root_word.ensures at c.put_back.ensures) in
+    laid_whole _ _ _ _ (run_one c.number_run.ensures) refl (omega (arith, c.sheet_length-n.ensures)) p (search (rules, sym p.same))
