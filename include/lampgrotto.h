@@ -119,7 +119,7 @@ uint32_t lampgrotto_count(const uint32_t *t, size_t t_len, size_t place, uint32_
 
 /* out[0] to out[15]: the first setting at or after the given one to which the place gives the number, a word for each feature, and
    0 past them.
-   Refuses: BAD_PLACE; BAD_ARGUMENT, a number past 65,535 or no setting of the table's features; NONE. It takes 26 KB of stack. */
+   Refuses: BAD_PLACE; BAD_ARGUMENT, a number past 65,535 or no setting of the table's features; NONE. It takes 22 KB of stack. */
 uint32_t lampgrotto_next(const uint32_t *t, size_t t_len, size_t place, uint32_t number, const uint8_t *setting, size_t setting_len,
                          uint32_t *out, size_t out_len);
 
@@ -127,7 +127,7 @@ uint32_t lampgrotto_next(const uint32_t *t, size_t t_len, size_t place, uint32_t
 uint32_t lampgrotto_tally(const uint32_t *t, size_t t_len, uint32_t *out, size_t out_len);
 
 /* Writes the sheet of the place's rule to the front of the bytes; those after it stay. out[0]: how many bytes it has, at most 102,428.
-   Refuses: BAD_PLACE; NO_SPACE, fewer bytes than that, and then none is written. It takes 51 KB of stack. */
+   Refuses: BAD_PLACE; NO_SPACE, fewer bytes than that, and then none is written. It takes 42 KB of stack. */
 uint32_t lampgrotto_write(const uint32_t *t, size_t t_len, size_t place, uint8_t *sheet, size_t sheet_len, uint32_t *out,
                           size_t out_len);
 
