@@ -1,7 +1,7 @@
 -- A RESULT ALWAYS EXISTS: on any functions every call has one, so the run on functions goes on with any calls. Assumes nothing.
 use mathlib.Core.Path.{◌≡◌, refl, sym, ap, subst, ◌∙◌}
 use mathlib.Core.Bool.{Bool, true, false}
-use Rattle.std.specs.Prelude.{Option as Maybe, Some, None, Result, Ok, Err}
+use Rattle.std.specs.Prelude.{Result, Ok, Err}
 use mathlib.Core.Logic.{◌⊎◌, inl, inr, ⊎_elim}
 use mathlib.Core.Option.{Option, some, none}
 use mathlib.Core.List.{List, ◌++◌}
@@ -10,7 +10,7 @@ use native.Mathlib.Decide.{ℕ_discrete, dec_lt, dec_le}
 use lib.IntN.{ℤ, pos, ◌+ℤ◌, ◌-ℤ◌}
 use lib.ListN.{length, get_or, drop}
 use Rattle.theory.specs.Kind.{Kind}
-use Rattle.theory.specs.Settings.{Valid}
+use Rattle.theory.specs.Settings.{Valid, zeros}
 use Rattle.theory.specs.Functions.{Amount, zero_fun}
 use Rattle.theory.specs.Deciding.{list_discrete}
 use Rattle.theory.specs.Comparing.{agree_decided}
@@ -32,6 +32,8 @@ use Rattle.settings.specs.declared.refusals.Refusal.{Refusal}
 use Rattle.settings.specs.Refusals.{Outcome}
 use Rattle.settings.specs.Refusals.{Taken, Refused}
 use Rattle.settings.specs.declared.steps.Setting.{Setting}
+use Rattle.settings.specs.declared.steps.Stepped.{Stepped}
+use Rattle.settings.specs.declared.steps.Stepped.TheVariants.{Next, Last}
 use Rattle.settings.proofs.Endings.{not_taken}
 use Rattle.promises.specs.declared.Found.{Found}
 use Rattle.promises.specs.CostOperations.{smaller_of, larger_of}
@@ -255,9 +257,9 @@ byte_has : (c : Y.Call) → Always (Y.deed c)
 byte_has (Y.step_call S s) =
     record { sure_of = λ z. (not_decided (inside_decided S s), λ n. tt); given = λ z e. let a = last_or (next_of S (values_of s)) in (Ok a.0, refl, a.1); refuses = λ y. refl }
   where
-    last_or : (t : Option (List ℕ)) → (a : Maybe Setting) × Gives S t a
-    last_or (some t) = (Some (setting_of t), refl)
-    last_or none = (None, refl)
+    last_or : (t : Option (List ℕ)) → (a : Stepped) × Gives S t a
+    last_or (some t) = (Next (setting_of t), refl)
+    last_or none = (Last (setting_of (zeros S)), refl)
 byte_has (Y.look_up_call s t) =
     record {
       sure_of = λ z. (newer_decided s, λ n. (not_decided (good_decided s), λ k. (not_decided (valid_decided (sheet_sizes s) t), λ i. tt)));

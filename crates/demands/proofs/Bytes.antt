@@ -1,7 +1,7 @@
 -- The laws of the calls on bytes alone, and that the stepper meets its deed. Assumes nothing.
 use mathlib.Core.Path.{◌≡◌, refl, sym, ◌∙◌}
 use mathlib.Core.Option.{Option, some, none}
-use Rattle.std.specs.Prelude.{Option as Maybe, Result, Ok, Err}
+use Rattle.std.specs.Prelude.{Result, Ok, Err}
 use Rattle.settings.specs.declared.refusals.Refusal.{Refusal}
 use mathlib.Core.List.{List}
 use Prim.Native.Nat.{ℕ}
@@ -9,6 +9,7 @@ use native.Mathlib.Omega.{arith}
 use Rattle.theory.proofs.Asked.{asked_one}
 use Rattle.settings.specs.Step.{values_of, next_of, Gives, Steps}
 use Rattle.settings.specs.declared.steps.Setting.{Setting}
+use Rattle.settings.specs.declared.steps.Stepped.{Stepped}
 use Rattle.settings.proofs.Endings.{pass}
 use Rattle.promises.specs.Sheet.{sheet_sizes, sheet_rule}
 use Rattle.promises.specs.Deed.{Meets}
@@ -23,7 +24,7 @@ use Rattle.demands.proofs.Effects.{on_none}
 use Rattle.demands.proofs.Lawful.{Lawful, answer_one}
 
 -- what a taken step gives is one thing
-gives_one : (S : List ℕ) (w : Option (List ℕ)) (r q : Maybe Setting) → Gives S w r → Gives S w q → r ≡ q
+gives_one : (S : List ℕ) (w : Option (List ℕ)) (r q : Stepped) → Gives S w r → Gives S w q → r ≡ q
 gives_one S (some t) r q a b = a ∙ sym b
 gives_one S none r q a b = a ∙ sym b
 
@@ -39,7 +40,7 @@ step_lawful S s =
     }
 
 -- THEOREM: the stepper's promise is that of its deed
-pub step_meets : (S : List ℕ) (s : Setting) (r : Result (Maybe Setting) Refusal) → Steps S s r → Meets (step_on S s) tt tt r
+pub step_meets : (S : List ℕ) (s : Setting) (r : Result Stepped Refusal) → Steps S s r → Meets (step_on S s) tt tt r
 step_meets S s (Ok t) a = takes refl (pass (λ n. n tt) a.ends) tt a.gives
 step_meets S s (Err x) a = refuses refl refl (pass (λ n. n tt) a.ends)
 

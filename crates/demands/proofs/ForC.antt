@@ -4,6 +4,7 @@ use mathlib.Core.List.{List}
 use Prim.Native.Nat.{ℕ}
 use Rattle.settings.specs.Step.{Steps}
 use Rattle.settings.specs.declared.steps.Setting.{Setting}
+use Rattle.settings.specs.declared.steps.Stepped.{Stepped}
 use Rattle.std.specs.Prelude.{Option, Result}
 use Rattle.settings.specs.declared.refusals.Refusal.{Refusal}
 use Rattle.promises.specs.Deed.{Meets}
@@ -29,7 +30,7 @@ hears_one : {P : Part} → Kept P → (c : P.Call) (tell : (P.deed c).Result →
 hears_one K c tell w a b h k x y = let d = decided K c w a b x.answer y.answer x.keeps y.keeps in (told x ∙ ap tell d.0 ∙ sym (told y), d.1)
 
 -- the stepper for C keeps the promise of its deed
-pub steps_for_c : {S : List ℕ} {s : Setting} {tell : Result (Option Setting) Refusal → Heard} {h : Heard} → Hears (Steps S s) tell h → Hears (Meets (step_on S s) tt tt) tell h
+pub steps_for_c : {S : List ℕ} {s : Setting} {tell : Result Stepped Refusal → Heard} {h : Heard} → Hears (Steps S s) tell h → Hears (Meets (step_on S s) tt tt) tell h
 steps_for_c {S} {s} x = record { answer = x.answer; keeps = step_meets S s x.answer x.keeps; number = x.number; out = x.out; bytes = x.bytes }
 
 -- THEOREM, of every call for C

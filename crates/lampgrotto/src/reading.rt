@@ -8,7 +8,7 @@ ghost use Rattle.promises.specs.RuleDeeds as R;
 ghost use Rattle.promises.specs.RuleDeeds.{ruled};
 
 use c_results::{put, put_before, put_number, put_values};
-use settings::{Setting, outcome_number};
+use settings::{Setting, Stepped, outcome_number};
 
 // The number that the rule of the place gives the setting, then how many features were asked.
 pub fn lampgrotto_rule_look_up(t: &[u32], place: usize, setting: &[u8], out: &mut [u32]) -> u32
@@ -59,14 +59,14 @@ pub fn lampgrotto_tally(t: &[u32], out: &mut [u32]) -> u32
     outcome_number(&answer)
 }
 
-// The next setting in order: whether the given one was the last, then 16 words, the next one's values and 0 past them.
+// The next setting in order: whether the given one was the last, then 16 words, the next one's values and 0 past them; after the last all 0.
 pub fn lampgrotto_step(features: &[u8], setting: &[u8], out: &mut [u32]) -> u32
     ensures { Hears (Steps features.now (setting_of setting.now)) (tell_stepped out.old) (heard result out.new []) }
 {
     let answer = Setting::of(setting).next(features);
     match answer {
-        Ok(Some(next)) => put_before(out, 0, next.values),
-        Ok(None) => put_before(out, 1, [0; 16]),
+        Ok(Stepped::Next(setting)) => put_before(out, 0, setting.values),
+        Ok(Stepped::Last(setting)) => put_before(out, 1, setting.values),
         Err(_) => put(out, &[0; 17]),
     }
     outcome_number(&answer)

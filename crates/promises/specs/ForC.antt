@@ -1,8 +1,10 @@
 -- WHAT C HEARS of a call: the number that it returns, results laid into words that C lends, and the bytes that it may write. Assumes nothing.
-use Rattle.std.specs.Prelude.{◌≡◌, Bool, true, false, List, [], ◌∷◌, ℕ, suc, ◌+◌, ◌-◌, ◌/◌, ◌%◌, ℤ, pos, negsuc, replicate, Option as Maybe, Some, None, Result, Ok, Err}
+use Rattle.std.specs.Prelude.{◌≡◌, Bool, true, false, List, [], ◌∷◌, ℕ, suc, ◌+◌, ◌-◌, ◌/◌, ◌%◌, ℤ, pos, negsuc, replicate, Result, Ok, Err}
 use Rattle.settings.specs.Refusals.{number_of, Outcome, ending_of, outcome_number}
 use Rattle.settings.specs.declared.refusals.Refusal.{Refusal}
 use Rattle.settings.specs.declared.steps.Setting.{Setting}
+use Rattle.settings.specs.declared.steps.Stepped.{Stepped}
+use Rattle.settings.specs.declared.steps.Stepped.TheVariants.{Next, Last}
 use Rattle.promises.specs.declared.Looked.{Looked}
 use Rattle.promises.specs.declared.CostLooked.{CostLooked}
 use Rattle.promises.specs.declared.Found.{Found}
@@ -88,12 +90,12 @@ tell_met = tell (λ s. s.values) 16
 abbrev pub tell_found : List ℕ → Result Found Refusal → Heard
 tell_found = tell (λ v. signed v.cost ∷ v.setting.values) 17
 
--- whether it was the last, then the setting; after the last, 0 for each place
-abbrev pub step_words : Maybe Setting → List ℕ
-step_words (Some s) = 0 ∷ s.values
-step_words None = 1 ∷ replicate 16 0
+-- whether it was the last, then the setting
+abbrev pub step_words : Stepped → List ℕ
+step_words (Next s) = 0 ∷ s.values
+step_words (Last s) = 1 ∷ s.values
 
-abbrev pub tell_stepped : List ℕ → Result (Maybe Setting) Refusal → Heard
+abbrev pub tell_stepped : List ℕ → Result Stepped Refusal → Heard
 tell_stepped = tell step_words 17
 
 -- how many bytes the sheet has, and the lent bytes afterwards

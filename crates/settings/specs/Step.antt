@@ -1,11 +1,13 @@
 -- Settings by value, the next setting in dictionary order, and the stepper's promise. Assumes nothing.
-use Rattle.std.specs.Prelude.{◌≡◌, Bool, true, false, List, [], ◌∷◌, ◌++◌, ℕ, ◌+◌, ◌-◌, ltb, length, take, replicate, Option as Maybe, Some, None, Result, IfOk}
+use Rattle.std.specs.Prelude.{◌≡◌, Bool, true, false, List, [], ◌∷◌, ◌++◌, ℕ, ◌+◌, ◌-◌, ltb, length, take, replicate, Result, IfOk}
 use Rattle.std.proofs.Math.Option.{Option, some, none}
-use Rattle.theory.specs.Settings.{FeatureList, Valid}
+use Rattle.theory.specs.Settings.{FeatureList, Valid, zeros}
 use Rattle.settings.specs.Refusals.{Ends, ending_of, ◌when◌else◌, taken}
 use Rattle.settings.specs.declared.refusals.Refusal.{Refusal}
 use Rattle.settings.specs.declared.refusals.Refusal.TheVariants.{BadArgument}
 use Rattle.settings.specs.declared.steps.Setting.{Setting}
+use Rattle.settings.specs.declared.steps.Stepped.{Stepped}
+use Rattle.settings.specs.declared.steps.Stepped.TheVariants.{Next, Last}
 
 -- the values of a setting, feature 0 first
 abbrev pub values_of : Setting → List ℕ
@@ -41,12 +43,12 @@ next_of (n ∷ ns) (v ∷ s) = grow n v (length s) (next_of ns s)
 next_of [] s = none
 next_of (n ∷ ns) [] = none
 
--- what a taken step gives: the next setting, or that there is none
-abbrev pub Gives : List ℕ → Option (List ℕ) → Maybe Setting → Type 0
-Gives S (some t) r = r ≡ Some (setting_of t)
-Gives S none r = r ≡ None
+-- what a taken step gives: the next setting; or, where there is none, that it was the last, and all zeros
+abbrev pub Gives : List ℕ → Option (List ℕ) → Stepped → Type 0
+Gives S (some t) r = r ≡ Next (setting_of t)
+Gives S none r = r ≡ Last (setting_of (zeros S))
 
 -- the stepper's promise, over the feature list S, at the setting s
-pub record Steps (S : List ℕ) (s : Setting) (r : Result (Maybe Setting) Refusal) : Type 0 where
+pub record Steps (S : List ℕ) (s : Setting) (r : Result Stepped Refusal) : Type 0 where
   pub ends : Ends (BadArgument when (Inside S s → ⊥) else taken) (ending_of r)
   pub gives : IfOk r (Gives S (next_of S (values_of s)))

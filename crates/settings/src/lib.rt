@@ -7,4 +7,4 @@ mod steps; // steps.rt: a setting by value, and the stepper
 
 pub use ranges::{features_ok, setting_ok};
 pub use refusals::{Outcome, Refusal, outcome_number, refusal_number};
-pub use steps::Setting;
+pub use steps::{Setting, Stepped};

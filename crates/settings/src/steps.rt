@@ -15,6 +15,13 @@ pub struct Setting {
     pub values: [u8; 16],
 }
 
+// What a step gives: the next setting; or that there is none, and the all-zero setting.
+#[derive(Clone, Copy, PartialEq, Eq, Debug)]
+pub enum Stepped {
+    Next(Setting),
+    Last(Setting),
+}
+
 // The last value that can grow grows, and those after it go to 0; none where no value can.
 fn turn(features: &[u8], from: [u8; 16]) -> Option<[u8; 16]>
     requires { length features.now ≤ 16 }
@@ -65,8 +72,8 @@ impl Setting {
         setting_ok(features, &self.values[..count])
     }
 
-    // The next setting in order, or none where this was the last.
-    pub fn next(self, features: &[u8]) -> Result<Option<Setting>, Refusal>
+    // The next setting in order; where this was the last, the all-zero one.
+    pub fn next(self, features: &[u8]) -> Result<Stepped, Refusal>
         ensures { Steps features.now self result }
     {
         if !self.inside(features) {
@@ -75,8 +82,8 @@ impl Setting {
         let count = self.count;
         let clean = Setting::of(&self.values[..count]);
         let Some(values) = turn(features, clean.values) else {
-            return Ok(None);
+            return Ok(Stepped::Last(Setting::zero(count)));
         };
-        Ok(Some(Setting { count, values }))
+        Ok(Stepped::Next(Setting { count, values }))
     }
 }

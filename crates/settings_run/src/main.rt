@@ -2,12 +2,15 @@
 // sizes 3, 5, 2, 8, and the numbers of refused steps.
 #![tactic(auto)]
 
-use settings::{Setting, outcome_number};
+use settings::{Setting, Stepped, outcome_number};
 use std::{io, iter};
 
 // The setting after this one; none where it is the last, or the step is refused.
 fn after(setting: Setting, features: &[u8]) -> Option<Setting> {
-    setting.next(features).ok().flatten()
+    match setting.next(features) {
+        Ok(Stepped::Next(next)) => Some(next),
+        _ => None,
+    }
 }
 
 // The first two values of a setting, on a line.
@@ -21,11 +24,14 @@ fn say_pairs(rt: &impl Print, features: &[u8]) -> io::Result<()> {
     let mut setting = Setting::zero(2);
     for _ in 0..100 {
         say_pair(rt, setting)?;
-        let Some(next) = after(setting, features) else {
-            rt.print("last, then ")?;
-            return say_pair(rt, Setting::zero(2));
-        };
-        setting = next;
+        match setting.next(features) {
+            Ok(Stepped::Next(next)) => setting = next,
+            Ok(Stepped::Last(first)) => {
+                rt.print("last, then ")?;
+                return say_pair(rt, first);
+            }
+            Err(_) => break,
+        }
     }
     Ok(())
 }

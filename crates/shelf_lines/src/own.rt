@@ -4,7 +4,7 @@ use crate::faults::Fault;
 use crate::numbers::{at_most, word};
 use crate::saying::Values;
 use crate::words::{parts, values};
-use settings::{Setting, refusal_number};
+use settings::{Setting, Stepped, refusal_number};
 
 // `step S0,S1,.. V0 V1 ..`
 fn step(rt: &impl Print, sizes: &str, setting: &[&str]) -> Result<(), Fault> {
@@ -16,11 +16,8 @@ fn step(rt: &impl Print, sizes: &str, setting: &[&str]) -> Result<(), Fault> {
     let from = Setting::of(values(setting, &mut setting_room)?);
     let count = from.count;
     match from.next(sizes) {
-        Ok(Some(setting)) => print!(rt; "0 0{}", Values { setting, count })?,
-        Ok(None) => {
-            let setting = Setting::zero(count);
-            print!(rt; "0 1{}", Values { setting, count })?
-        }
+        Ok(Stepped::Next(setting)) => print!(rt; "0 0{}", Values { setting, count })?,
+        Ok(Stepped::Last(setting)) => print!(rt; "0 1{}", Values { setting, count })?,
         Err(refusal) => print!(rt; "{} 0", refusal_number(refusal))?,
     }
     Ok(())
