@@ -206,7 +206,7 @@ module _ (w : List ℕ) (k : ℕ) (b r : List Arm) (l : List ℕ) (ok : Holds w)
       pair : (a.low ≡ pair_word (sizes w) (nodes w ++ (node_of cost_table w k l ∷ [])) (length (nodes w)) 0) × (a.high ≡ pair_word (sizes w) (nodes w ++ (node_of cost_table w k l ∷ [])) (length (nodes w)) 1)
       pair =
           new_pair (sizes w) (lawful.positive w ok.laid) (nodes w) (node_of cost_table w k l) (M.new_wf regular w k l ok hk fits (level_bs w k l ok hk levelled) ab)
-          (λ up. kept up w) ar.paired a.low a.high (e false ∙ own_is false) (e true ∙ own_is true)
+          (λ up. kept up w) ar.paired a.low a.high (e.1 false ∙ own_is false) (e.1 true ∙ own_is true)
 
       go : (j : ℕ) → j < 2 → pair_of a.low a.high j ≡ pair_word (sizes w) (nodes w ++ (node_of cost_table w k l ∷ [])) (count w) j
       go zero h = pair.0 ∙ ap (λ (i : ℕ). pair_word (sizes w) (nodes w ++ (node_of cost_table w k l ∷ [])) i 0) (length_nodes cost_table w)

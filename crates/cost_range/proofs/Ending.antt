@@ -120,4 +120,4 @@ module _ (ns : List ℕ) (ps : Pos ns) (c : ℤ) (g f : Cost) (z : (g (zeros ns)
 
     -- .. or has a word
     pub end_stands : (r : ℕ) → Stands (int b +ℤ int l) (Some r) → int r ≡ extreme (side_of up) ns f
-    end_stands r q = q ∙ end_sum
+    end_stands r q = q.1 ∙ end_sum

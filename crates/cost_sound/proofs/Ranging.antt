@@ -102,7 +102,7 @@ module _ {w : List ℕ} (s : Shaped w) where
       unfolding own
       own_is up =
           let n : length (at (nodes w) i).branches ≡ m = (wf.fits i (omega (arith, length_nodes w))).full ∙ ap (λ (j : ℕ). get_or (sizes w) j 0) feature_is ∙ at_sizes w K known ∙ sym em in
-          q up
+          q.1 up
           ∙ across_ext (side_of up) (arm_sum up w l) (λ v. along (kept up w) (get_or (at (nodes w) i).branches v blank)) m (λ v hv. ap (along (kept up w)) (arm_is v hv))
           ∙ ap (across (side_of up) (λ v. along (kept up w) (get_or (at (nodes w) i).branches v blank))) (sym n)
 

@@ -3,7 +3,7 @@ use Rattle.std.specs.Prelude.{Some, None}
 use mathlib.Core.Path.{◌≡◌, sym, ap, ◌∙◌}
 use mathlib.Core.Logic.{⊎_elim}
 use mathlib.Core.Bool.{Bool, true, false}
-use Prim.Native.Nat.{ℕ, ◌+◌, ◌≤◌, min, max}
+use Prim.Native.Nat.{ℕ, ◌+◌, ◌≤◌, ◌<◌, min, max}
 use native.Mathlib.Omega.{arith}
 use lib.IntN.{ℤ, ◌+ℤ◌, ◌-ℤ◌}
 use lib.Signed.{◌≤ℤ◌}
@@ -19,8 +19,8 @@ use Rattle.promises.specs.CostSound.{side_of}
 pub sum_lost : (a b : ℕ) → (2294967296 ≤ a + b → a + b ≤ 6294967296 → ⊥) → Stands (int a +ℤ int b) None
 sum_lost a b n f = let t = f.top in let u = f.bottom in n (omega (arith, words_sum a b)) (omega (arith, words_sum a b))
 
-pub sum_stands : (a b r : ℕ) → r + 2147483648 ≡ a + b → Stands (int a +ℤ int b) (Some r)
-sum_stands a b r e = int_sum a b r e
+pub sum_stands : (a b r : ℕ) → 0 < r → r + 2147483648 ≡ a + b → Stands (int a +ℤ int b) (Some r)
+sum_stands a b r h e = (h, int_sum a b r e)
 
 -- ---- differences
 pub minus_lost : (a b : ℕ) → (b ≤ a + 2000000000 → a ≤ b + 2000000000 → ⊥) → Stands (int a -ℤ int b) None
@@ -29,8 +29,8 @@ minus_lost a b n f =
     let u = f.bottom in
     n (omega (arith, int_ℕ a, int_ℕ b, minus_ℕ (int a) (int b))) (omega (arith, int_ℕ a, int_ℕ b, minus_ℕ (int a) (int b)))
 
-pub minus_stands : (a b r : ℕ) → r + b ≡ a + 2147483648 → Stands (int a -ℤ int b) (Some r)
-minus_stands a b r e = int_minus a b r e
+pub minus_stands : (a b r : ℕ) → 0 < r → r + b ≡ a + 2147483648 → Stands (int a -ℤ int b) (Some r)
+minus_stands a b r h e = (h, int_minus a b r e)
 
 -- ---- the further of two
 pub further_max : (up : Bool) (a b : ℕ) → up ≡ true → int (max a b) ≡ side_of up (int a) (int b)

@@ -39,12 +39,12 @@ pub record Bodied (w l : List ℕ) (m : ℕ) : Type 0 where
   pub most : m ≤ 8
   pub near : (v : ℕ) → v < m → Near w (goes (listed l) v)
 
--- the span stands for the sums along branch v; None says that one lies outside ±2,000,000,000
+-- the span, whose lowest is no 0, stands for the sums along branch v; None says that one lies outside ±2,000,000,000
 abbrev pub ArmSums : List ℕ → List ℕ → ℕ → Option Span → Type 0
-ArmSums w l v (Some a) = (up : Bool) → int (end_of up a.low a.high) ≡ arm_sum up w l v
+ArmSums w l v (Some a) = (0 < a.low) × ((up : Bool) → int (end_of up a.low a.high) ≡ arm_sum up w l v)
 ArmSums w l v None = ((up : Bool) → Fit add_most (arm_sum up w l v)) → ⊥
 
--- the span stands for the lowest and the highest of the sums along m branches; None says that one lies outside ±2,000,000,000
+-- the span, whose lowest is no 0, stands for the lowest and the highest of the sums along m branches; None says that one lies outside ±2,000,000,000
 abbrev pub Sides : List ℕ → List ℕ → ℕ → Option Span → Type 0
-Sides w l m (Some a) = (up : Bool) → int (end_of up a.low a.high) ≡ across (side_of up) (arm_sum up w l) m
+Sides w l m (Some a) = (0 < a.low) × ((up : Bool) → int (end_of up a.low a.high) ≡ across (side_of up) (arm_sum up w l) m)
 Sides w l m None = ((up : Bool) (v : ℕ) → v < m → Fit add_most (arm_sum up w l v)) → ⊥

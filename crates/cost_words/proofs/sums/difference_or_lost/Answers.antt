@@ -10,4 +10,4 @@ pub returns-then-d-gt4000000000 : goal.returns-then-d-gt4000000000
 returns-then-d-gt4000000000 c = let a = c.args in minus_lost a.a a.b (λ p q. omega (arith, c.in_ok-d.ensures))
 
 pub returns : goal.returns
-returns c = let a = c.args in minus_stands a.a a.b _ (omega (arith, c.in_ok-d.ensures))
+returns c = let a = c.args in minus_stands a.a a.b _ (omega arith) (omega (arith, c.in_ok-d.ensures))

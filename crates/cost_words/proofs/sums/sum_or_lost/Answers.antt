@@ -7,4 +7,4 @@ pub returns-then-s-lt2294967296 : goal.returns-then-s-lt2294967296
 returns-then-s-lt2294967296 c = let a = c.args in sum_lost a.a a.b (λ p q. omega arith)
 
 pub returns : goal.returns
-returns c = let a = c.args in sum_stands a.a a.b _ (omega arith)
+returns c = let a = c.args in sum_stands a.a a.b _ (omega arith) (omega arith)
