@@ -1,7 +1,7 @@
 // The engine of less: a walk over two costs of a cost table builds the rule "first below second" in a rule table, with remembered results in lent scratch words.
 #![tactic(auto)]
 
-ghost use Rattle.std.specs.Prelude.{◌<◌};
+ghost use Rattle.std.specs.Prelude.{◌≡◌, ◌<◌, replicate};
 ghost use Rattle.theory.specs.Diagrams.{meaning};
 ghost use Rattle.rule_lending.specs.Building.{Result, Fills};
 ghost use Rattle.table_memory.specs.Memory.{Remembers};
@@ -46,13 +46,14 @@ fn rest_result(
     if let Some((z, _)) = recall(s, Operation::Less as u32, &key) {
         return Some(z);
     }
-    let list = fill_branches(c, t, s, k, x, y, d)?;
+    let mut list = [0u32; 12];
+    fill_branches(c, t, s, k, x, y, d, &mut list)?;
     let z = make(t, k, list)?;
     remember(s, Operation::Less as u32, &key, z, 0);
     Some(z)
 }
 
-// Its branches: the results for the values of feature k in turn, each with its own difference; None where there was no room for them.
+// Lays its branches into a list of 0: the results for the values of feature k in turn, each with its own difference; None where there was no room for them.
 #[cycle(fill_branches_rest_result)]
 fn fill_branches(
     c: &[u32],
@@ -62,18 +63,18 @@ fn fill_branches(
     x: u32,
     y: u32,
     d: u32,
-) -> Option<[u32; 12]>
-    requires { (Operands c.now k x y d) × (Beside c.now t.old) × (Remembers 4 (Recalled c.now t.old) s.old) × (k < features c.now) }
-    ensures { (Fills t.old t.new k (less_from c.now k x y d) result) × (Still c.now t.new s.new result) }
+    list: &mut [u32; 12],
+) -> Option<()>
+    requires { (Operands c.now k x y d) × (Beside c.now t.old) × (Remembers 4 (Recalled c.now t.old) s.old) × (k < features c.now) × (list.old ≡ replicate 12 0) }
+    ensures { (Fills t.old t.new k (less_from c.now k x y d) result list.new) × (Still c.now t.new s.new result) }
 {
-    let mut list = [0; 12];
     for v in 0..size_word(c, k) as usize {
         let a = arm_at(c, k, x, v);
         let b = arm_at(c, k, y, v);
         let g = difference_word(sum_word(d, b.adds), a.adds);
         list[v] = rest_result(c, t, s, k + 1, a.to, b.to, g)?;
     }
-    Some(list)
+    Some(())
 }
 
 // The rule "first below second" of two branches of the cost table, built after the rule table's nodes; None where there is no room. Scratch is emptied first;

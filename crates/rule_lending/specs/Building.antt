@@ -13,7 +13,7 @@ Result w w' k g a = Built w w' k g a
 abbrev pub Makes : List ℕ → List ℕ → ℕ → List ℕ → Option ℕ → Type 0
 Makes w w' k l a = Made w w' k l a
 
--- all branches of g at feature k, or None where there was no room for them
-abbrev pub Fills : List ℕ → List ℕ → ℕ → Rule → Option (List ℕ) → Type 0
-Fills w t k g (Some l) = Filling w t k g (size w k) l
-Fills w t k g None = Stopped w t k g
+-- all branches of g at feature k are filled, or None where there was no room for them
+abbrev pub Fills : List ℕ → List ℕ → ℕ → Rule → Option (Unit {0}) → List ℕ → Type 0
+Fills w t k g (Some u) l = Filling w t k g (size w k) l
+Fills w t k g None l = Stopped w t k g

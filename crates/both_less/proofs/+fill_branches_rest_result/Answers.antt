@@ -1,6 +1,6 @@
 -- `both_less::rest_result` and `fill_branches` meet their contracts: the remaining features fall; the first v branches are filled, and the memory is right for the rule table so far. Assumes nothing.
 use Rattle.std.specs.Prelude.{None, Some}
-use Rattle.std.proofs.Common.{◌≡◌, refl, ◌<◌, arith, pos}
+use Rattle.std.proofs.Common.{List, ◌≡◌, refl, ap, ℕ, ◌<◌, arith, pos, length, get_or, ◌∙◌}
 use Rattle.std.specs.Int.Signed.{lt_z}
 use lib.ListN.{get_or-replicate}
 use Rattle.cost_nodes.specs.Nodes.{top}
@@ -16,7 +16,8 @@ use Rattle.both_less.proofs.+fill_branches_rest_result.Goals as goal
 pub fill_branches-loop-v-init : goal.fill_branches-loop-v-init
 fill_branches-loop-v-init t c =
     let n = as_long _ _ c.requires.1.same in
-    (fill_start c.requires.1.ready (omega (arith, n, c.requires.3)) _ refl (λ u h. get_or-replicate 12 u 0 0 h), c.requires.2)
+    let e = c.requires.4 in
+    (fill_start c.requires.1.ready (omega (arith, n, c.requires.3)) _ (ap length e) (λ u h. ap (λ (l : List ℕ). get_or l u 0) e ∙ get_or-replicate 12 u 0 0 h), c.requires.2)
 
 pub fill_branches-sum_word-requires : goal.fill_branches-sum_word-requires
 fill_branches-sum_word-requires t c =
@@ -111,34 +112,34 @@ rest_result-returns-in-Some t c =
 pub rest_result-fill_branches-requires : goal.rest_result-fill_branches-requires
 rest_result-fill_branches-requires t c =
     let hk = still_left _ _ _ _ _ c.requires.0 c.if-x-y.false in
-    (omega arith, (c.requires.0, c.requires.1, c.requires.2, hk))
+    (omega arith, (c.requires.0, c.requires.1, c.requires.2, hk, refl))
 
-pub rest_result-returns-in_err-list : goal.rest_result-returns-in_err-list
-rest_result-returns-in_err-list t c =
+pub rest_result-returns-in_err-fill_branches : goal.rest_result-returns-in_err-fill_branches
+rest_result-returns-in_err-fill_branches t c =
     let hk = still_left _ _ _ _ _ c.requires.0 c.if-x-y.false in
     let n = as_long _ _ c.requires.1.same in
-    rw c.from_residual.ensures (stop_result c.requires.1.ready (omega arith) c.in_err-list.ensures.0, tt)
+    rw c.from_residual.ensures (stop_result c.requires.1.ready (omega arith) (rw c.in_err-fill_branches.was at c.fill_branches.ensures.0), tt)
 
 pub rest_result-make-requires : goal.rest_result-make-requires
 rest_result-make-requires t c =
     let hk = still_left _ _ _ _ _ c.requires.0 c.if-x-y.false in
     let n = as_long _ _ c.requires.1.same in
-    fill_listed c.requires.1.ready (omega arith) c.in_ok-list.ensures.0
+    fill_listed c.requires.1.ready (omega arith) (rw c.in_ok-fill_branches.was at c.fill_branches.ensures.0)
 
 pub rest_result-returns-in_err-z : goal.rest_result-returns-in_err-z
 rest_result-returns-in_err-z t c =
     let hk = still_left _ _ _ _ _ c.requires.0 c.if-x-y.false in
     let n = as_long _ _ c.requires.1.same in
-    rw c.from_residual-in_err-z.ensures (fill_make c.requires.1.ready (omega arith) None c.in_ok-list.ensures.0 c.in_err-z.ensures, tt)
+    rw c.from_residual-in_err-z.ensures (fill_make c.requires.1.ready (omega arith) None (rw c.in_ok-fill_branches.was at c.fill_branches.ensures.0) c.in_err-z.ensures, tt)
 
 pub rest_result-returns : goal.rest_result-returns
 rest_result-returns t c =
     let hk = still_left _ _ _ _ _ c.requires.0 c.if-x-y.false in
     let n = as_long _ _ c.requires.1.same in
-    let fl = c.in_ok-list.ensures.0 in
+    let fl = rw c.in_ok-fill_branches.was at c.fill_branches.ensures.0 in
     let re = fill_make c.requires.1.ready (omega arith) (Some c.in_ok-z.z) fl c.in_ok-z.ensures in (
       re,
       remembers_result _ _ c.args.k _ refl refl _ _ _ _ c.requires.1.ready re
-          (remembers_made _ _ _ c.args.k c.in_ok-list.list (Some c.in_ok-z.z) c.in_ok-z.z _ (filling_ready fl) c.in_ok-z.ensures refl c.in_ok-list.ensures.1)
+          (remembers_made _ _ _ c.args.k c.fill_branches.new.list (Some c.in_ok-z.z) c.in_ok-z.z _ (filling_ready fl) c.in_ok-z.ensures refl (rw c.in_ok-fill_branches.was at c.fill_branches.ensures.1))
           c.remember.ensures,
     )
