@@ -4,12 +4,15 @@
 ghost use Rattle.std.specs.Prelude.{◌≡◌, [], ◌∷◌, ◌<◌};
 ghost use Rattle.promises.specs.ForC.{placed, halves};
 
-// Result words.
+// Result words, each where there is room for it. Word by word: a copy of a length known only at run time would call memcpy.
 pub fn put(out: &mut [u32], results: &[u32])
     ensures { out.new ≡ placed results.now out.old }
 {
-    let count = out.len().min(results.len());
-    out[..count].copy_from_slice(&results[..count]);
+    for (i, x) in results.iter().enumerate() {
+        if i < out.len() {
+            out[i] = *x;
+        }
+    }
 }
 
 // A length as one word.

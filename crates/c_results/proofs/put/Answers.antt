@@ -1,9 +1,9 @@
--- `put` meets its contract: what is copied over the front is the results laid there. Assumes nothing.
-use Rattle.std.proofs.Common.{◌∙◌, ◌++◌, ℕ, List, ap, drop}
-use Rattle.c_results.proofs.Placing.{placed_parts}
+-- `put` meets its contract: one word more is laid, or there is no room for it. Assumes nothing.
+use Rattle.std.proofs.Common.{arith}
+use Rattle.std.proofs.lemmas.Grind.{common_steps}
+use Rattle.c_results.proofs.Placing.{placed_more, placed_full}
+use Rattle.c_results.proofs.put.Goals.{then-i-out, else-i-out}
 use Rattle.c_results.proofs.put.Goals as goal
 
-pub returns : goal.returns
-returns c =
-    ap (λ (l : List ℕ). l ++ drop c.min-count.result c.args.out.now) c.copy_from_slice.ensures.after
-    ∙ placed_parts c.args.results.now c.args.out.now c.min-count.result c.min-count.ensures
+pub loop-i-preserved : goal.loop-i-preserved
+loop-i-preserved c = elim c.if-i-out.branch [ then-i-out w ↦ grind (arith, common_steps, placed_more) | else-i-out w ↦ grind (arith, common_steps, placed_full) ]
