@@ -1,7 +1,7 @@
 // Look up of many: several settings, one after the other in bytes, with one check of the sheet for all, for Rattle and for C.
-ghost use Rattle.std.specs.Prelude.{◌≡◌, [], length, IfOk};
+ghost use Rattle.std.specs.Prelude.{◌≡◌, [], length};
 ghost use Rattle.settings.specs.Tells.{Tells};
-ghost use Rattle.settings.specs.Refusals.{Ends, ending_of, taken};
+ghost use Rattle.settings.specs.Refusals.{Ends, taken};
 ghost use Rattle.promises.specs.Sheet.{sheet_sizes, row, GoodSheet};
 ghost use Rattle.promises.specs.Deed.{Meets};
 ghost use Rattle.promises.specs.SheetDeeds.{sheet_cases, SettingRows, number_in, look_up_all_in};
@@ -31,9 +31,8 @@ fn placed<'a>(bytes: &'a [u8], places: &'a mut [u32; 4096]) -> Sheet<'a>
 
 // The check of a sheet, by the look up of no values, as no sheet has a setting of none: so the machine code of the check stands once, in that
 // look up. Where both look ups call `sheet_check::check`, each has over 400 bytes of code more, and the phone's look up misses its bar of 1,590.
-fn check_sheet<'a>(bytes: &'a [u8], places: &'a mut [u32; 4096]) -> Result<Sheet<'a>, Refusal>
-    ensures ends { Ends (sheet_cases bytes.now taken) (ending_of result) }
-    ensures same { IfOk result (λ sheet. sheet.laid.bytes.now ≡ bytes.entry.now) }
+fn check_sheet(bytes: &[u8]) -> Result<(), Refusal>
+    ensures { Ends (sheet_cases bytes.now taken) result }
 {
     let answer = lampgrotto_look_up(bytes, &[]);
     if answer == NEWER {
@@ -41,7 +40,7 @@ fn check_sheet<'a>(bytes: &'a [u8], places: &'a mut [u32; 4096]) -> Result<Sheet
     } else if answer == BAD_SHEET {
         Err(Refusal::BadSheet)
     } else {
-        Ok(placed(bytes, places))
+        Ok(())
     }
 }
 
@@ -82,8 +81,9 @@ fn fill(sheet: Sheet, settings: &[u8], numbers: &mut [u32])
 pub fn look_up_all(sheet: &[u8], settings: &[u8], numbers: &mut [u32]) -> Result<(), Refusal>
     ensures { Meets (look_up_all_in sheet.now settings.now numbers.old) tt tt (result, numbers.new) }
 {
+    check_sheet(sheet)?;
     let mut places = [0u32; 4096];
-    let sheet = check_sheet(sheet, &mut places)?;
+    let sheet = placed(sheet, &mut places);
     if !rows_ok(sheet.laid.head(), settings, numbers.len()) {
         return Err(Refusal::BadArgument);
     }
