@@ -11,27 +11,30 @@ fn choose(
     b: &str,
     desk: &mut Desk,
 ) -> Result<(), Fault> {
+    let (place, rule) = (value(place)?, value(rule)?);
+    let (a, b) = (value(a)?, value(b)?);
     let chosen = both_calls::choose(
         desk.costs.buffer.lent(),
         desk.rules.buffer.lent(),
         desk.scratch.filled(),
-        value(place)?,
-        value(rule)?,
-        value(a)?,
-        value(b)?,
+        place,
+        rule,
+        a,
+        b,
     );
     say(rt, chosen)
 }
 
 // `less RULE A B`
 fn less(rt: &impl Print, rule: &str, a: &str, b: &str, desk: &mut Desk) -> Result<(), Fault> {
+    let (rule, a, b) = (value(rule)?, value(a)?, value(b)?);
     let compared = both_calls::less(
         desk.rules.buffer.lent(),
         desk.costs.buffer.lent(),
         desk.scratch.filled(),
-        value(rule)?,
-        value(a)?,
-        value(b)?,
+        rule,
+        a,
+        b,
     );
     say(rt, compared)
 }
@@ -39,12 +42,13 @@ fn less(rt: &impl Print, rule: &str, a: &str, b: &str, desk: &mut Desk) -> Resul
 // `lowest A RULE`: the setting has as many values as the cost table's list.
 fn lowest(rt: &impl Print, place: &str, rule: &str, desk: &mut Desk) -> Result<(), Fault> {
     let count = desk.costs.features;
+    let (place, rule) = (value(place)?, value(rule)?);
     let found = both_calls::lowest(
         desk.costs.buffer.lent(),
         desk.rules.buffer.lent(),
         desk.scratch.filled(),
-        value(place)?,
-        value(rule)?,
+        place,
+        rule,
     );
     let ending = outcome_number(&found);
     let found = found.unwrap_or_default();

@@ -1,11 +1,11 @@
 // What is lent to the calls.
-ghost use Rattle.std.specs.Prelude.{EachIndex, slice_index, ◌≡◌};
+ghost use Rattle.std.specs.Prelude.{EachIndex, length, min, slice_index, take, ◌≡◌};
 
 // How many words a buffer has.
 pub const WORDS: usize = 16384;
 
 // Words, of which the first are lent: so many, or all where there are no more.
-#[derive(Drop)]
+#[derive(Clone, Copy)]
 pub struct Buffer {
     pub words: [u32; WORDS],
     pub lent: usize,
@@ -21,21 +21,24 @@ impl Buffer {
     }
 
     // The lent words.
-    pub fn lent(&mut self) -> &mut [u32] {
+    pub fn lent(&mut self) -> &mut [u32]
+        ensures as_many_as_lent { length result.now ≡ min self.old.lent WORDS }
+        ensures first_words { result.now ≡ take self.old.lent self.old.words }
+    {
         let count = self.lent.min(WORDS);
         &mut self.words[..count]
     }
 }
 
 // The buffer of a table, and how many features the list has that it was last opened with.
-#[derive(Drop)]
+#[derive(Clone, Copy)]
 pub struct Table {
     pub buffer: Buffer,
     pub features: usize,
 }
 
 // Scratch, and the word that each word of it holds before a call.
-#[derive(Drop)]
+#[derive(Clone, Copy)]
 pub struct Scratch {
     pub buffer: Buffer,
     pub fill: u32,
@@ -44,7 +47,8 @@ pub struct Scratch {
 impl Scratch {
     // The words that a call is lent.
     pub fn filled(&mut self) -> &mut [u32]
-        ensures { EachIndex result.now (λ k. slice_index result.now k ≡ self.old.fill) }
+        ensures as_many_as_lent { length result.now ≡ min self.old.buffer.lent WORDS }
+        ensures each_the_fill { EachIndex result.now (λ k. slice_index result.now k ≡ self.old.fill) }
     {
         let fill = self.fill;
         let words = self.buffer.lent();
@@ -54,7 +58,7 @@ impl Scratch {
 }
 
 // Two tables and scratch.
-#[derive(Drop)]
+#[derive(Clone, Copy)]
 pub struct Desk {
     pub rules: Table,
     pub costs: Table,

@@ -4,6 +4,9 @@ ghost use Rattle.std.specs.Prelude.{IfOk, length, ◌*◌, ◌<◌, ◌≤◌};
 use crate::faults::Fault;
 use std::fmt;
 
+// How many bytes are written at a time: a write for each of them would take three times as long.
+const PIECE: usize = 64;
+
 // The value of a digit.
 fn digit(glyph: u8) -> Result<u8, Fault>
     ensures { IfOk result (λ d. d < 16) }
@@ -17,7 +20,8 @@ fn digit(glyph: u8) -> Result<u8, Fault>
 
 // The bytes that a text says, put at the start of the room, which has to hold them all.
 pub fn bytes_in<'a>(text: &str, room: &'a mut [u8]) -> Result<&'a [u8], Fault>
-    ensures { IfOk result (λ b. 2 * length b.now ≤ length text.now) }
+    ensures two_digits_each { IfOk result (λ b. 2 * length b.now ≤ length text.now) }
+    ensures within_room { IfOk result (λ b. length b.now ≤ length room.old) }
 {
     if text == "-" {
         return Ok(&[]);
@@ -33,6 +37,23 @@ pub fn bytes_in<'a>(text: &str, room: &'a mut [u8]) -> Result<&'a [u8], Fault>
     Ok(bytes)
 }
 
+// The digit of a value below 16.
+fn glyph(value: u8) -> u8
+    requires { value < 16 }
+{
+    b"0123456789abcdef"[usize::from(value)]
+}
+
+// The digits of bytes, put at the start of the room, which has to hold them all.
+fn digits_of<'a>(bytes: &[u8], room: &'a mut [u8]) -> Result<&'a str, fmt::Error> {
+    let digits = room.get_mut(..2 * bytes.len()).ok_or(fmt::Error)?;
+    for (pair, byte) in digits.chunks_exact_mut(2).zip(bytes) {
+        pair[0] = glyph(byte / 16);
+        pair[1] = glyph(byte % 16);
+    }
+    str::from_utf8(digits).map_err(|_| fmt::Error)
+}
+
 // Bytes that are written as hex digits.
 #[derive(Clone, Copy)]
 pub struct Hex<'a>(pub &'a [u8]);
@@ -40,10 +61,11 @@ pub struct Hex<'a>(pub &'a [u8]);
 impl fmt::Display for Hex<'_> {
     fn fmt<W: fmt::Write>(&self, f: &mut fmt::Formatter<W>) -> fmt::Result {
         if self.0.is_empty() {
-            return write!(f, "-");
+            return f.write_str("-");
         }
-        for byte in self.0 {
-            write!(f, "{byte:02x}")?;
+        let mut room = [0u8; 2 * PIECE];
+        for piece in self.0.chunks(PIECE) {
+            f.write_str(digits_of(piece, &mut room)?)?;
         }
         Ok(())
     }

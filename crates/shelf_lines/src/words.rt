@@ -1,5 +1,6 @@
 // The words of a line, and lists of numbers.
-ghost use Rattle.std.specs.Prelude.{IfOk, length, ◌≡◌, ◌≤◌};
+ghost use Rattle.std.specs.Prelude.{IfOk, length, map, ◌==◌, ◌≡◌, ◌<◌, ◌≤◌};
+ghost use Rattle.std.specs.List.{slice_split};
 
 use crate::faults::Fault;
 use crate::numbers::{Parameter, value};
@@ -10,19 +11,24 @@ pub fn parts<'a, 'b>(
     mark: char,
     room: &'b mut [&'a str],
 ) -> Result<&'b [&'a str], Fault>
-    ensures { IfOk result (λ l. length l.now ≤ length room.old) }
+    ensures within_room { IfOk result (λ l. length l.now ≤ length room.old) }
+    ensures between_marks { mark < 128 → IfOk result (λ l. map (λ part. part.now) l.now ≡ slice_split (λ b. b == mark) text.now) }
 {
-    let count = text.split(mark).count();
-    let parts = room.get_mut(..count).ok_or(Fault::Unknown)?;
-    for (place, part) in parts.iter_mut().zip(text.split(mark)) {
-        *place = part;
+    let mut count = 0;
+    for part in text.split(mark) {
+        if count == room.len() {
+            return Err(Fault::Unknown);
+        }
+        room[count] = part;
+        count += 1;
     }
-    Ok(parts)
+    Ok(&mut room[..count])
 }
 
 // What parameters are passed for the numbers that the texts are, put at the start of the room, which has to hold them all.
 pub fn values<'a, T: Parameter>(texts: &[&str], room: &'a mut [T]) -> Result<&'a [T], Fault>
-    ensures { IfOk result (λ l. length l.now ≡ length texts.now) }
+    ensures one_each { IfOk result (λ l. length l.now ≡ length texts.now) }
+    ensures within_room { IfOk result (λ l. length l.now ≤ length room.old) }
 {
     let values = room.get_mut(..texts.len()).ok_or(Fault::Unknown)?;
     for (place, text) in values.iter_mut().zip(texts) {

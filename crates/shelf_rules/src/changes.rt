@@ -8,13 +8,13 @@ fn case(
     selector: &str,
     branches: &[&str],
     table: &mut [u32],
-    scratch: &mut [u32],
+    scratch: &mut Scratch,
 ) -> Result<Outcome, Fault> {
     let mut room = [0u32; 64];
     let branches = values(branches, &mut room)?;
     let place = value(place)?;
     let selector = value(selector)?;
-    Ok(rule_operations::case(table, scratch, place, selector, branches))
+    Ok(rule_operations::case(table, scratch.filled(), place, selector, branches))
 }
 
 // How the call ended that the words are, where it is one of these.
@@ -32,23 +32,17 @@ pub fn change(words: &[&str], table: &mut [u32], scratch: &mut Scratch) -> Resul
             value(to)?,
         )),
         ["case", place, selector, branches @ ..] => {
-            case(place, selector, branches, table, scratch.filled())
+            case(place, selector, branches, table, scratch)
         }
-        ["apply", place, operator, a, b] => Ok(rule_operations::apply(
-            table,
-            scratch.filled(),
-            value(place)?,
-            value(operator)?,
-            value(a)?,
-            value(b)?,
-        )),
-        ["forget", place, from, feature] => Ok(rule_operations::forget(
-            table,
-            scratch.filled(),
-            value(place)?,
-            value(from)?,
-            value(feature)?,
-        )),
+        ["apply", place, operator, a, b] => {
+            let (place, operator) = (value(place)?, value(operator)?);
+            let (a, b) = (value(a)?, value(b)?);
+            Ok(rule_operations::apply(table, scratch.filled(), place, operator, a, b))
+        }
+        ["forget", place, from, feature] => {
+            let (place, from, feature) = (value(place)?, value(from)?, value(feature)?);
+            Ok(rule_operations::forget(table, scratch.filled(), place, from, feature))
+        }
         _ => Err(Fault::Unknown),
     }
 }
