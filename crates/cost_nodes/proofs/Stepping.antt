@@ -92,6 +92,9 @@ place_next w k x v y a p h e =
       up_to = omega arith;
     }
 
+pub place_skip : (w : List ℕ) (k x : ℕ) → Place w k x → k < top w x → k < features w → Place w (k + 1) x
+place_skip w k x p h l = record { holds = p.holds; good = top_good w (k + 1) x (good_small w k x p.good) (omega arith); up_to = omega arith }
+
 -- a place of w, seen in a table that holds more
 pub place_ext : (w t : List ℕ) (k x : ℕ) → Place w k x → Kept w t → Holds t → Ext (nodes w) (nodes t) → Place t k x
 place_ext w t k x p kp h e =

@@ -76,6 +76,9 @@ good_next w k b v c p e = rw e (next_ok (sizes w) (nodes w) p.holds.wf k (decode
 pub place_next : (w : List ℕ) (k b v c : ℕ) → Place w k b → k < features w → decode c ≡ next (nodes w) k (decode b) v → Place w (k + 1) c
 place_next w k b v c p h e = record { holds = p.holds; good = rw add-one (good_next w k b v c p e); up_to = omega arith }
 
+pub place_skip : (w : List ℕ) (k b : ℕ) → Place w k b → k < top w b → k < features w → Place w (k + 1) b
+place_skip w k b p h l = record { holds = p.holds; good = top_good w (k + 1) b (good_small w k b p.good) (omega arith); up_to = omega arith }
+
 -- a place of w, seen in a table that holds more
 pub place_ext : (w t : List ℕ) (k b : ℕ) → Place w k b → Kept w t → Holds t → Ext (nodes w) (nodes t) → Place t k b
 place_ext w t k b p kp h e =

@@ -29,6 +29,9 @@ module _ {K : Kind} {H : Hand K} (F : Fair H) (s : List ℕ) where
   steps : (p v : ℕ) → H.spot s p v < H.spot s p (suc v)
   steps p v = omega (arith, F.more s p v, F.ahead s (H.spot s p v))
 
+  pub spot_le : (p u v : ℕ) → u ≤ v → H.spot s p u ≤ H.spot s p v
+  spot_le p u v h = omega (arith, rising (H.spot s p) (steps p) u v h)
+
   -- each has a byte or more
   pub spot_far : (p v : ℕ) → p + v ≤ H.spot s p v
   spot_far p v = omega (arith, rising (H.spot s p) (steps p) 0 v (omega arith), F.none s p)
