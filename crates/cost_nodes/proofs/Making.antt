@@ -30,7 +30,7 @@ use Rattle.table_words.proofs.Tab.{split, length_tab, get_or_tab}
 use Rattle.table_records.specs.Changes.{pair_of, Pushed, RecordIs, Finds as FindsRecord}
 use Rattle.table_records.specs.Nodes.{Listed, node_of, Behind, Absent}
 use Rattle.table_records.proofs.Making as M
-use Rattle.cost_words.specs.Sides.{arm_sum, Bodied, Sides}
+use Rattle.cost_words.specs.Sides.{end_of, arm_sum, Bodied, Sides}
 use Rattle.cost_words.specs.Table.{cost_table}
 use Rattle.cost_words.specs.Words.{packed, pair_word, target_of, tos, adding}
 use Rattle.cost_words.specs.declared.Arm.{Arm}
@@ -200,25 +200,27 @@ module _ (w : List ℕ) (k : ℕ) (b r : List Arm) (l : List ℕ) (ok : Holds w)
       ∙ ap (across (side_of up) (λ v. along (kept up w) (get_or (branches cost_table m (listed l)) v blank))) (sym (length_tab (cost_table.arm (listed l)) m))
 
   -- so they are its spare words
-  behind : (a : Span) → Absent cost_table w k l → Sides w l m (Some a) → Behind cost_table w k l a.low a.high
+  behind : (a : Span) → Absent cost_table w k l → ((up : Bool) → int (end_of up a.low a.high) ≡ across (side_of up) (arm_sum up w l) m) → Behind cost_table w k l a.low a.high
   behind a ab e = go
     where
       pair : (a.low ≡ pair_word (sizes w) (nodes w ++ (node_of cost_table w k l ∷ [])) (length (nodes w)) 0) × (a.high ≡ pair_word (sizes w) (nodes w ++ (node_of cost_table w k l ∷ [])) (length (nodes w)) 1)
       pair =
           new_pair (sizes w) (lawful.positive w ok.laid) (nodes w) (node_of cost_table w k l) (M.new_wf regular w k l ok hk fits (level_bs w k l ok hk levelled) ab)
-          (λ up. kept up w) ar.paired a.low a.high (e.1 false ∙ own_is false) (e.1 true ∙ own_is true)
+          (λ up. kept up w) ar.paired a.low a.high (e false ∙ own_is false) (e true ∙ own_is true)
 
       go : (j : ℕ) → j < 2 → pair_of a.low a.high j ≡ pair_word (sizes w) (nodes w ++ (node_of cost_table w k l ∷ [])) (count w) j
       go zero h = pair.0 ∙ ap (λ (i : ℕ). pair_word (sizes w) (nodes w ++ (node_of cost_table w k l ∷ [])) i 0) (length_nodes cost_table w)
       go (suc zero) h = pair.1 ∙ ap (λ (i : ℕ). pair_word (sizes w) (nodes w ++ (node_of cost_table w k l ∷ [])) i 1) (length_nodes cost_table w)
       go (suc (suc j)) h = absurd (omega arith)
 
-  pub made_new : (w' : List ℕ) (y i n : ℕ) (a : Span) → Absent cost_table w k l → count w < capacity w → target y ≡ node i → i ≡ count w → n ≡ m → Sides w l n (Some a) → Pushed w w' k l a.low a.high
+  pub made_new : (w' : List ℕ) (y i n : ℕ) (a : Span) → Absent cost_table w k l → count w < capacity w → target y ≡ node i → i ≡ count w → n ≡ m
+      → ((up : Bool) → int (end_of up a.low a.high) ≡ across (side_of up) (arm_sum up w l) n) → Pushed w w' k l a.low a.high
       → Makes w w' k b (Some (record { to = y; adds = adding b 0 }))
   made_new w' y i n a ab less e ei en s p =
       answered w' y
       (subst (λ (b : Branch costs). H.Gives layout w w' (make k (branches cost_table m (listed l)) (nodes w)) (some b)) (bare_branch y (node (count w)) (e ∙ ap node ei))
-      (M.made_new regular w k l ok hk fits (level_bs w k l ok hk levelled) w' ab less (behind a ab (subst (λ (q : ℕ). Sides w l q (Some a)) en s)) p))
+      (M.made_new regular w k l ok hk fits (level_bs w k l ok hk levelled) w' ab less
+      (behind a ab (subst (λ (q : ℕ). (up : Bool) → int (end_of up a.low a.high) ≡ across (side_of up) (arm_sum up w l) q) en s)) p))
 
   pub made_none : Absent cost_table w k l → (count w < capacity w → ⊥) → Makes w w k b None
   made_none ab full = lifted w none (M.made_none regular w k l ok hk fits (level_bs w k l ok hk levelled) ab full)

@@ -119,5 +119,5 @@ module _ (ns : List ℕ) (ps : Pos ns) (c : ℤ) (g f : Cost) (z : (g (zeros ns)
     end_lost q = λ p w. q (subst (Fit add_most) (sym end_sum) (extreme_fits (way up) ns ps f w))
 
     -- .. or has a word
-    pub end_stands : (r : ℕ) → Stands (int b +ℤ int l) (Some r) → int r ≡ extreme (side_of up) ns f
-    end_stands r q = q.1 ∙ end_sum
+    pub end_stands : (r : ℕ) → int r ≡ int b +ℤ int l → int r ≡ extreme (side_of up) ns f
+    end_stands r q = q ∙ end_sum

@@ -141,18 +141,18 @@ module _ (w : List ℕ) (k x a y b : ℕ) (p : Pair w k x y) (minus : Bool) wher
   rest_lost q = E.rest_lost ns (pos_from w k p.holds) C below whole below_none raised q
 
   -- the sum of both, on each side
-  module _ (c : ℕ) (e : Span) (sc : Stands C (Some c)) (q : Spans ns below e.low e.high) where
+  module _ (c : ℕ) (e : Span) (sc : int c ≡ C) (q : Spans ns below e.low e.high) where
     pub low_lost : Stands (int c +ℤ int e.low) None → Reaches ns whole None
-    low_lost s = E.end_lost ns (pos_from w k p.holds) C below whole below_none raised false c e.low sc.1 q.lowest s
+    low_lost s = E.end_lost ns (pos_from w k p.holds) C below whole below_none raised false c e.low sc q.lowest s
 
     pub high_lost : Stands (int c +ℤ int e.high) None → Reaches ns whole None
-    high_lost s = E.end_lost ns (pos_from w k p.holds) C below whole below_none raised true c e.high sc.1 q.highest s
+    high_lost s = E.end_lost ns (pos_from w k p.holds) C below whole below_none raised true c e.high sc q.highest s
 
-    pub both_stand : (u v : ℕ) → Stands (int c +ℤ int e.low) (Some u) → Stands (int c +ℤ int e.high) (Some v) → Reaches ns whole (Some (record { low = u; high = v }))
+    pub both_stand : (u v : ℕ) → int u ≡ int c +ℤ int e.low → int v ≡ int c +ℤ int e.high → Reaches ns whole (Some (record { low = u; high = v }))
     both_stand u v su sv =
         record {
-          lowest = E.end_stands ns (pos_from w k p.holds) C below whole below_none raised false c e.low sc.1 q.lowest u su;
-          highest = E.end_stands ns (pos_from w k p.holds) C below whole below_none raised true c e.high sc.1 q.highest v sv;
+          lowest = E.end_stands ns (pos_from w k p.holds) C below whole below_none raised false c e.low sc q.lowest u su;
+          highest = E.end_stands ns (pos_from w k p.holds) C below whole below_none raised true c e.high sc q.highest v sv;
         }
 
 -- ---- the memory: an entry says the ends of one pair

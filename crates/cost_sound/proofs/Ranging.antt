@@ -1,5 +1,5 @@
 -- The test of the pairs and of the range, step by step: a node's own, the nodes in turn, the places. Assumes nothing.
-use Rattle.std.specs.Prelude.{Some, None}
+use Rattle.std.specs.Prelude.{None}
 use mathlib.Core.Path.{◌≡◌, sym, ap, subst, ◌∙◌}
 use mathlib.Core.Bool.{Bool, true, false}
 use mathlib.Core.Logic.{◌↔◌}
@@ -96,13 +96,13 @@ module _ {w : List ℕ} (s : Shaped w) where
     pub own_lost : Sides w l m None → Sound w → ⊥
     own_lost q z = q (arm_fits z)
 
-    module _ (a : Span) (q : Sides w l m (Some a)) where
+    module _ (a : Span) (q : (up : Bool) → int (end_of up a.low a.high) ≡ across (side_of up) (arm_sum up w l) m) where
       -- the furthest sum is the node's own
       own_is : (up : Bool) → int (end_of up a.low a.high) ≡ own (side_of up) (kept up w) (at (nodes w) i)
       unfolding own
       own_is up =
           let n : length (at (nodes w) i).branches ≡ m = (wf.fits i (omega (arith, length_nodes w))).full ∙ ap (λ (j : ℕ). get_or (sizes w) j 0) feature_is ∙ at_sizes w K known ∙ sym em in
-          q.1 up
+          q up
           ∙ across_ext (side_of up) (arm_sum up w l) (λ v. along (kept up w) (get_or (at (nodes w) i).branches v blank)) m (λ v hv. ap (along (kept up w)) (arm_is v hv))
           ∙ ap (across (side_of up) (λ v. along (kept up w) (get_or (at (nodes w) i).branches v blank))) (sym n)
 

@@ -44,16 +44,23 @@ module _ (w l : List ℕ) where
     pub high_lost : Stands (int (added (listed l) v) +ℤ int b) None → ArmSums w l v None
     high_lost s f = s (subst (Fit add_most) (sym (arm_is true)) (f true))
 
-  -- ---- branches in turn
-  pub side_one : (a : Span) → ArmSums w l 0 (Some a) → Sides w l 1 (Some a)
-  side_one a s = (s.0, λ up. s.1 up ∙ sym (across_one (side_of up) (arm_sum up w l)))
+  -- ---- branches in turn: the furthest of the first ones, of any words, ..
+  pub side_one : (a : Span) → ((up : Bool) → int (end_of up a.low a.high) ≡ arm_sum up w l 0) → (up : Bool) → int (end_of up a.low a.high) ≡ across (side_of up) (arm_sum up w l) 1
+  side_one a s up = s up ∙ sym (across_one (side_of up) (arm_sum up w l))
 
-  pub side_more : (v : ℕ) (a b c : Span) → 0 < v → Sides w l v (Some a) → ArmSums w l v (Some b) → Wider a.low a.high b.low b.high c.low c.high → Sides w l (v + 1) (Some c)
-  side_more zero a b c z q s y = absurd (omega arith)
-  side_more (suc v) a b c z q s y = (
-    y.some q.0 s.0,
-    λ up. y.wider up ∙ (λ j. side_of up (q.1 up j) (s.1 up j)) ∙ sym (ap (across (side_of up) (arm_sum up w l)) (add-one (suc v)) ∙ across_more (side_of up) (arm_sum up w l) v),
-  )
+  pub side_more : (v : ℕ) (a b c : Span) → 0 < v → ((up : Bool) → int (end_of up a.low a.high) ≡ across (side_of up) (arm_sum up w l) v)
+      → ((up : Bool) → int (end_of up b.low b.high) ≡ arm_sum up w l v) → Wider a.low a.high b.low b.high c.low c.high
+      → (up : Bool) → int (end_of up c.low c.high) ≡ across (side_of up) (arm_sum up w l) (v + 1)
+  side_more zero a b c z q s y up = absurd (omega arith)
+  side_more (suc v) a b c z q s y up =
+      y.wider up ∙ (λ j. side_of up (q up j) (s up j)) ∙ sym (ap (across (side_of up) (arm_sum up w l)) (add-one (suc v)) ∙ across_more (side_of up) (arm_sum up w l) v)
+
+  -- .. and of words that are there
+  pub sides_one : (a : Span) → ArmSums w l 0 (Some a) → Sides w l 1 (Some a)
+  sides_one a s = (s.0, side_one a s.1)
+
+  pub sides_more : (v : ℕ) (a b c : Span) → 0 < v → Sides w l v (Some a) → ArmSums w l v (Some b) → Wider a.low a.high b.low b.high c.low c.high → Sides w l (v + 1) (Some c)
+  sides_more v a b c z q s y = (y.some q.0 s.0, side_more v a b c z q.1 s.1 y)
 
   -- one is lost, ..
   pub side_lost : (m v : ℕ) → v < m → ArmSums w l v None → Sides w l m None

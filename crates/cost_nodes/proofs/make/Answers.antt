@@ -45,7 +45,7 @@ returns-then-count_word-capacity_word c =
     let ab = c.in_default.ensures in
     made_new w k b r l c.requires.0 c.requires.1 c.requires.2 lo c.packed_body-list.ensures _ _ c.push-i.result _ _ ab
     (omega (arith, c.if-count_word-capacity_word.true, c.capacity_word.ensures, c.count_word.ensures)) c.target_word-to.ensures
-    (c.push-i.ensures.0) (omega arith) c.in_ok-pair.ensures c.push-i.ensures.1
+    (c.push-i.ensures.0) (omega arith) c.in_ok-pair.ensures.1 c.push-i.ensures.1
 
 pub returns-in_err-pair : goal.returns-in_err-pair
 returns-in_err-pair c =

@@ -26,20 +26,20 @@ branch_ends-returns-in_err-low t c =
     let z = c.rest_ends in
     let q = ends_are z.result c.in_ok-rest.was z.ensures.0 in
     rw c.from_residual-in_err-low.ensures
-    (low_lost _ _ _ c.args.a.adds _ c.args.b.adds c.requires.0 c.args.minus _ c.in_ok-rest.rest c.in_ok-base.ensures q c.in_err-low.ensures, z.ensures.1, z.ensures.2)
+    (low_lost _ _ _ c.args.a.adds _ c.args.b.adds c.requires.0 c.args.minus _ c.in_ok-rest.rest c.in_ok-base.ensures.1 q c.in_err-low.ensures, z.ensures.1, z.ensures.2)
 
 pub branch_ends-returns-in_err-high : goal.branch_ends-returns-in_err-high
 branch_ends-returns-in_err-high t c =
     let z = c.rest_ends in
     let q = ends_are z.result c.in_ok-rest.was z.ensures.0 in
     rw c.from_residual-in_err-high.ensures
-    (high_lost _ _ _ c.args.a.adds _ c.args.b.adds c.requires.0 c.args.minus _ c.in_ok-rest.rest c.in_ok-base.ensures q c.in_err-high.ensures, z.ensures.1, z.ensures.2)
+    (high_lost _ _ _ c.args.a.adds _ c.args.b.adds c.requires.0 c.args.minus _ c.in_ok-rest.rest c.in_ok-base.ensures.1 q c.in_err-high.ensures, z.ensures.1, z.ensures.2)
 
 pub branch_ends-returns : goal.branch_ends-returns
 branch_ends-returns t c =
     let z = c.rest_ends in
     let q = ends_are z.result c.in_ok-rest.was z.ensures.0 in
-    (both_stand _ _ _ c.args.a.adds _ c.args.b.adds c.requires.0 c.args.minus _ c.in_ok-rest.rest c.in_ok-base.ensures q _ _ c.in_ok-low.ensures c.in_ok-high.ensures, z.ensures.1, z.ensures.2)
+    (both_stand _ _ _ c.args.a.adds _ c.args.b.adds c.requires.0 c.args.minus _ c.in_ok-rest.rest c.in_ok-base.ensures.1 q _ _ c.in_ok-low.ensures.1 c.in_ok-high.ensures.1, z.ensures.1, z.ensures.2)
 
 pub fold_branches-loop-v-init : goal.fold_branches-loop-v-init
 fold_branches-loop-v-init t c = (

@@ -18,8 +18,8 @@ returns-then-pair-record_word c =
     let a = c.args in
     let e : c.size_word-m.result ≡ size a.t.now (feature a.t.now a.i) = c.size_word-m.ensures ∙ ap (size a.t.now) c.record_word.ensures in
     passes_equal _ _ _ _
-    (λ d. own_right p.0 a.i _ _ p.1 e c.body_of.ensures _ c.in-Some.ensures (omega (arith, c.record_word-2.ensures)) (omega (arith, d)))
-    (λ n. own_wrong p.0 a.i _ _ p.1 e c.body_of.ensures _ c.in-Some.ensures (λ g h. n (omega (arith, h))))
+    (λ d. own_right p.0 a.i _ _ p.1 e c.body_of.ensures _ c.in-Some.ensures.1 (omega (arith, c.record_word-2.ensures)) (omega (arith, d)))
+    (λ n. own_wrong p.0 a.i _ _ p.1 e c.body_of.ensures _ c.in-Some.ensures.1 (λ g h. n (omega (arith, h))))
 
 pub returns-else-pair-record_word : goal.returns-else-pair-record_word
 returns-else-pair-record_word c =
@@ -28,4 +28,4 @@ returns-else-pair-record_word c =
     let e : c.size_word-m.result ≡ size a.t.now (feature a.t.now a.i) = c.size_word-m.ensures ∙ ap (size a.t.now) c.record_word.ensures in
     passes_equal _ _ _ _
     (λ d. absurd (c.if-pair-record_word.false d))
-    (λ n. own_wrong p.0 a.i _ _ p.1 e c.body_of.ensures _ c.in-Some.ensures (λ g h. n (omega (arith, g))))
+    (λ n. own_wrong p.0 a.i _ _ p.1 e c.body_of.ensures _ c.in-Some.ensures.1 (λ g h. n (omega (arith, g))))
